@@ -1,3 +1,6 @@
 pub mod Near
 pub mod NearLaws
 pub mod Listed
+pub mod Lending
+pub mod Ratio
+pub mod RatioLaws

@@ -38,6 +38,9 @@ impl<T> Model for Items<T> {
 }
 
 impl<T> Items<T> {
+    ghost use Rattle.std.specs.Borrow.{sem};
+    ghost use Rattle.mp_nums.specs.Lending.{LendsItems};
+
     /// The empty list. It takes no memory.
     pub fn new(alloc: Global) -> Self
         ensures { result.items ≡ [] }
@@ -51,6 +54,14 @@ impl<T> Items<T> {
         ensures { result.now ≡ self.now.items }
     {
         self.stored.as_slice()
+    }
+
+    /// The items, to be changed in place.
+    pub fn as_mut_slice(&mut self) -> &mut [T]
+        ensures* writes_back { sem 𝓛 (LendsItems T.row self.entry result) }
+        ensures value { result.now ≡ self.old.items }
+    {
+        self.stored.as_mut_slice()
     }
 
     /// Makes room for `k` more items.

@@ -21,8 +21,8 @@ pub fn nearer(a: Slot, b: Slot) -> Slot
     ensures { result ≡ nearer_of a b }
 {
     match (a, b) {
-        (Some(first), Some(second)) => { if second < first { b } else { a } }
+        (Some(first), Some(second)) if second < first => b,
         (None, _) => b,
-        (_, None) => a,
+        _ => a,
     }
 }

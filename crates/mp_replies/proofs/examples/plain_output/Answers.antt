@@ -1,0 +1,12 @@
+use Rattle.std.proofs.Common.{refl}
+use Rattle.std.specs.Fmt.{digits}
+use Rattle.mp_defs.specs.Distance.{distance}
+use Rattle.mp_defs.specs.Least.{near}
+use Rattle.mp_replies.specs.Command.{command_of}
+use Rattle.mp_replies.specs.Step.{cause, after, answer}
+use Rattle.mp_replies.specs.Output.{reply, output}
+use Rattle.mp_replies.proofs.examples.plain_output.Goals as goal
+
+pub returns : goal.returns
+unfolding digits near distance command_of cause after answer reply output
+returns c = λ files. refl

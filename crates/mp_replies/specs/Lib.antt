@@ -1,0 +1,11 @@
+pub mod Bytes
+pub mod Lines
+pub mod SampleText
+pub mod Words
+pub mod State
+pub mod Command
+pub mod Step
+pub mod Report
+pub mod Output
+pub mod Laws
+pub mod Examples

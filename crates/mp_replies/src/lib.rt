@@ -1,0 +1,15 @@
+//! What a session answers: the lines of an input, the state between them, and the report of each line.
+//!
+//! The definitions stand in `specs/`. Each function here does nothing, and its contract is a law about them.
+#![tactic(auto)]
+
+mod causes;
+mod examples;
+mod laws;
+
+pub use causes::Cause;
+pub use examples::{
+    bad_item_is_named, full_series_is_refused, lines_end_or_not, plain_output,
+    refused_piece_output, short_output, spelled_numbers,
+};
+pub use laws::{long_lines_are_cut, refused_lines_change_nothing};
