@@ -1,0 +1,11 @@
+//! Series of samples: which windows a series has, which of them may be compared, and a list that counts how often
+//! its samples are read.
+#![tactic(auto)]
+
+mod counted_list;
+mod limits;
+mod zone;
+
+pub use counted_list::{PushRefusal, Samples};
+pub use limits::{MAX_SAMPLES, MAX_WINDOW, MIN_WINDOW};
+pub use zone::{allowed, excl, windows};
