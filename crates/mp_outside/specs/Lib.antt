@@ -1,0 +1,4 @@
+pub mod Counts
+pub mod Filed
+pub mod States
+pub mod Stored

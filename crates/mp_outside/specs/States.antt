@@ -1,0 +1,43 @@
+-- What is seen of a source and of a sink.
+use Rattle.std.specs.Prelude.{ℕ, ◌+◌, ◌-◌, ◌^◌, min, nat_le, Bool, false, if◌then◌else◌, List, [], ◌∷◌, ◌++◌, length, drop, Option, None, Some}
+
+-- the bytes left, how many of them one read gives at most, and how many bytes were given
+pub record SourceState : Type 0 where
+  pub left : List ℕ
+  pub step : ℕ
+  pub given : ℕ
+
+-- the source after n of its bytes were given
+abbrev pub given_away : ℕ → SourceState → SourceState
+given_away n source = record source { left = drop n source.left; given = min (source.given + n) (2 ^ 128 - 1) }
+
+-- the bytes written, while they are told, the room for them, how many there were, and whether they are flushed
+pub record SinkState : Type 0 where
+  pub written : Option (List ℕ)
+  pub room : ℕ
+  pub count : ℕ
+  pub flushed : Bool
+
+-- what is told with these bytes behind
+abbrev pub told_with : List ℕ → ℕ → Option (List ℕ) → Option (List ℕ)
+told_with bytes room None = None
+told_with bytes room (Some before) = if nat_le (length before + length bytes) room then Some (before ++ bytes) else None
+
+-- the sink after these bytes were written
+abbrev pub after_writing : List ℕ → SinkState → SinkState
+after_writing [] sink = sink
+after_writing (byte ∷ bytes) sink = record sink {
+  written = told_with (byte ∷ bytes) sink.room sink.written;
+  count = min (sink.count + length (byte ∷ bytes)) (2 ^ 128 - 1);
+  flushed = false;
+}
+
+-- how many bytes standard input gave, and how often it failed
+pub record StdSourceState : Type 0 where
+  pub given : ℕ
+  pub faults : ℕ
+
+-- whether standard output is flushed, and how often it failed
+pub record StdSinkState : Type 0 where
+  pub flushed : Bool
+  pub faults : ℕ

@@ -1,0 +1,33 @@
+ghost use Rattle.std.specs.Prelude.{◌≡◌};
+ghost use Rattle.mp_outside.specs.declared.failures.ShelfAnswer.TheVariants.{Memory};
+
+use std::alloc::AllocError;
+use thiserror::Error;
+
+/// A read, a write or a flush that failed.
+#[derive(Clone, Copy, Debug, PartialEq, Eq, Error)]
+#[error("input or output failed")]
+pub struct Failed;
+
+/// Why a shelf gives no file.
+#[derive(Clone, Copy, Debug, PartialEq, Eq, Error)]
+pub enum ShelfAnswer {
+    /// No file has the name.
+    #[error("no such file")]
+    Absent,
+    /// The file is longer than the limit.
+    #[error("the file is too large")]
+    TooLarge,
+    #[error("the file could not be read")]
+    Failed,
+    #[error("out of memory")]
+    Memory,
+}
+
+impl From<AllocError> for ShelfAnswer {
+    ghost from_gives = { λ _ answer. answer ≡ Memory };
+
+    fn from(_error: AllocError) -> ShelfAnswer {
+        ShelfAnswer::Memory
+    }
+}

@@ -1,0 +1,25 @@
+//! What a session reads, writes, fetches and passes: the traits, the system's streams and stand-ins in memory.
+#![tactic(auto)]
+
+mod calm_shelves;
+mod calm_sinks;
+mod calm_sources;
+mod failures;
+mod gates;
+mod real_streams;
+mod shelves;
+mod sinks;
+mod sources;
+
+pub use calm_shelves::CalmShelf;
+pub use calm_sinks::CalmSink;
+pub use calm_sources::CalmSource;
+pub use failures::{Failed, ShelfAnswer};
+pub use gates::{Gate, OpenGate};
+pub use real_streams::{StdSink, StdSource};
+pub use shelves::Shelf;
+pub use sinks::Sink;
+pub use sources::Source;
+
+#[cfg(test)]
+mod tests;
