@@ -1,6 +1,6 @@
 //! A list of samples that counts how often they are read.
 
-ghost use Rattle.std.specs.Prelude.{◌≡◌, ◌+◌, ◌<◌, ◌≤◌, ◌↔◌, [], ◌∷◌, ◌++◌, length, IsOk, IsErrOf, OnOk, OnErr};
+ghost use Rattle.std.specs.Prelude.{◌≡◌, ◌+◌, ◌<◌, ◌≤◌, ◌↔◌, [], ◌∷◌, ◌++◌, length, IsOk, IsErrOf, IfOk, OnOk, OnErr};
 
 use crate::limits::MAX_SAMPLES;
 use mp_nums::{Items, Memory, Sample};
@@ -26,6 +26,13 @@ impl From<Memory> for PushRefusal {
     fn from(_memory: Memory) -> PushRefusal {
         PushRefusal::Memory
     }
+}
+
+/// A list of the same samples.
+fn copied(alloc: Global, series: &[Sample]) -> Result<Items<Sample>, Memory>
+    ensures { IfOk result (λ copy. copy.items ≡ series.now) }
+{
+    Ok(Items::from(Vec::from_slice(alloc, series)?))
 }
 
 /// The samples of a series, seen as their list, how often they were read, and how many more can be taken without
@@ -61,6 +68,21 @@ impl Samples {
             stored: Items::new(alloc),
             reads: 0,
         }
+    }
+
+    /// A copy of the series, of which nothing was read.
+    pub fn of(alloc: Global, series: &[Sample]) -> Result<Samples, PushRefusal>
+        ensures items { IfOk result (λ samples. samples.items ≡ series.now) }
+        ensures reads { IfOk result (λ samples. samples.reads ≡ 0) }
+        ensures full { IsErrOf result PushRefusal.Full ↔ (MAX_SAMPLES < length series.now) }
+    {
+        if MAX_SAMPLES < series.len() as u64 {
+            return Err(PushRefusal::Full);
+        }
+        Ok(Samples {
+            stored: copied(alloc, series)?,
+            reads: 0,
+        })
     }
 
     /// Makes room for `k` more samples.

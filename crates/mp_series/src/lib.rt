@@ -2,10 +2,12 @@
 //! its samples are read.
 #![tactic(auto)]
 
+mod bundles;
 mod counted_list;
 mod limits;
 mod zone;
 
+pub use bundles::Bundle;
 pub use counted_list::{PushRefusal, Samples};
 pub use limits::{MAX_SAMPLES, MAX_WINDOW, MIN_WINDOW};
 pub use zone::{allowed, excl, windows};
