@@ -1,0 +1,11 @@
+//! The matrix profile by comparing every pair of windows: the definitions as plain programs, which faster ones are
+//! tested against.
+#![tactic(auto)]
+
+mod distances;
+mod profiles;
+#[cfg(test)]
+mod tests;
+
+pub use distances::distance;
+pub use profiles::{Columns, profile};
