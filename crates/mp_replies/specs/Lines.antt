@@ -30,6 +30,9 @@ abbrev pub pieces : List ℕ → List (List ℕ)
 pieces [] = [] ∷ []
 pieces (b ∷ bs) = if is_blank b then [] ∷ pieces bs else onto_first b (pieces bs)
 
--- the fields of a line: the pieces that aren't empty
+-- the fields of a text: the pieces that aren't empty
+abbrev pub fields_in : List ℕ → List (List ℕ)
+fields_in text = filter (λ piece. not (is_empty piece)) (pieces text)
+
 abbrev pub fields : List ℕ → List (List ℕ)
-fields line = filter (λ piece. not (is_empty piece)) (pieces (without_cr line))
+fields line = fields_in (without_cr line)

@@ -35,9 +35,13 @@ index_text (Some near) = decimal near.index
 abbrev pub row_text : ℕ → Option Near → Option Near → Option Near → List ℕ
 row_text start all left right = decimal start ++ codes " " ++ slot_text all ++ codes " " ++ index_text left ++ codes " " ++ index_text right ++ codes "\n"
 
--- a line for each window, the first of which starts at first
+-- the line of the window at place k, where the first window starts at first
+abbrev pub row_at : ℕ → List (Option Near) → List (Option Near) → List (Option Near) → ℕ → List ℕ
+row_at first all left right k = row_text (first + k) (slice_index_or all k None) (slice_index_or left k None) (slice_index_or right k None)
+
+-- a line for each window
 abbrev pub rows_text : ℕ → List (Option Near) → List (Option Near) → List (Option Near) → List ℕ
-rows_text first all left right = flat_map (λ k. row_text (first + k) (slice_index_or all k None) (slice_index_or left k None) (slice_index_or right k None)) (range_with_len 0 (length all))
+rows_text first all left right = flat_map (row_at first all left right) (range_with_len 0 (length all))
 
 abbrev pub profile_text : ℕ → ℕ → List (Option Near) → List (Option Near) → List (Option Near) → List ℕ
 profile_text line first all left right = codes "profile " ++ decimal line ++ codes " " ++ decimal (length all) ++ codes "\n" ++ rows_text first all left right
