@@ -1,0 +1,33 @@
+-- How an answer of the program stands for that of the definitions.
+use Rattle.std.specs.Prelude.{◌≡◌, Bool, true, false, length}
+use Rattle.mp_replies.specs.Step as replies
+use Rattle.mp_session.specs.declared.answers.Answer.{Answer}
+use Rattle.mp_session.specs.declared.answers.Answer.TheVariants.{Silent, Refused, Accepted, Columns}
+use Rattle.mp_session.specs.declared.answers.ReplyKind.{ReplyKind}
+use Rattle.mp_session.specs.declared.answers.ReplyKind.TheVariants as kinds
+
+abbrev pub answered : Answer → replies.Answer
+answered Silent = replies.Silent
+answered (Refused cause) = replies.Refused cause
+answered (Accepted samples) = replies.Accepted samples
+answered (Columns columns) = replies.Columns 0 columns.all.items columns.left.items columns.right.items
+
+-- what becomes of a line, by its answer
+abbrev pub kind_of : replies.Answer → ReplyKind
+kind_of replies.Silent = kinds.Quiet
+kind_of (replies.Refused cause) = kinds.Refused
+kind_of (replies.Accepted samples) = kinds.Accepted
+kind_of (replies.Columns first all left right) = kinds.Accepted
+
+abbrev pub is_accepted : replies.Answer → Bool
+is_accepted replies.Silent = false
+is_accepted (replies.Refused cause) = false
+is_accepted (replies.Accepted samples) = true
+is_accepted (replies.Columns first all left right) = true
+
+-- the columns are as long
+abbrev pub IsReportable : Answer → Type 0
+IsReportable Silent = Unit {0}
+IsReportable (Refused cause) = Unit {0}
+IsReportable (Accepted samples) = Unit {0}
+IsReportable (Columns columns) = (length columns.left.items ≡ length columns.all.items) × (length columns.right.items ≡ length columns.all.items)
