@@ -1,9 +1,9 @@
 -- Whole runs: what is written for an input.
-use Rattle.std.specs.Prelude.{ℕ, ◌+◌, List, [], ◌∷◌, ◌++◌, codes, Option, Some, None}
+use Rattle.std.specs.Prelude.{ℕ, ◌+◌, Bool, false, ◌||◌, is_some, List, [], ◌∷◌, ◌++◌, codes, Option, Some, None}
 use Rattle.mp_replies.specs.Words.{Setup, job}
 use Rattle.mp_replies.specs.Lines.{lines}
 use Rattle.mp_replies.specs.State.{Files, State, opening}
-use Rattle.mp_replies.specs.Step.{after, answer}
+use Rattle.mp_replies.specs.Step.{cause, after, answer}
 use Rattle.mp_replies.specs.Report.{text_of}
 
 -- the report of a line
@@ -19,6 +19,11 @@ reports state files (line ∷ rest) = reply state line files ++ reports (after s
 abbrev pub state_after : State → Files → List (List ℕ) → State
 state_after state files [] = state
 state_after state files (line ∷ rest) = state_after (after state line files) files rest
+
+-- whether one of the lines is refused
+abbrev pub some_refused : State → Files → List (List ℕ) → Bool
+some_refused state files [] = false
+some_refused state files (line ∷ rest) = is_some (cause state line files) || some_refused (after state line files) files rest
 
 -- what is written for words outside the grammar
 abbrev pub usage : List ℕ

@@ -2,5 +2,9 @@ pub mod FeedRuns
 pub mod FeedSteps
 pub mod FieldLemmas
 pub mod NumberLemmas
+pub mod ReadLemmas
 pub mod ReportLemmas
+pub mod RunLemmas
+pub mod ServeLemmas
 pub mod SessionLemmas
+pub mod UnderWay

@@ -19,6 +19,12 @@ kind_of (replies.Refused cause) = kinds.Refused
 kind_of (replies.Accepted samples) = kinds.Accepted
 kind_of (replies.Columns first all left right) = kinds.Accepted
 
+abbrev pub is_refused : ReplyKind → Bool
+is_refused kinds.Quiet = false
+is_refused kinds.Accepted = false
+is_refused kinds.Refused = true
+is_refused kinds.Ended = false
+
 abbrev pub is_accepted : replies.Answer → Bool
 is_accepted replies.Silent = false
 is_accepted (replies.Refused cause) = false

@@ -4,5 +4,7 @@ pub mod Feeding
 pub mod Limits
 pub mod Pieces
 pub mod Jobs
+pub mod Serving
 pub mod Sessions
+pub mod Statuses
 pub mod Steps

@@ -2,7 +2,7 @@
 
 ghost use Rattle.std.specs.Prelude.{◌≡◌, IfOk};
 ghost use Rattle.mp_replies.specs.Report.{text_of};
-ghost use Rattle.mp_session.specs.Answers.{answered, is_accepted as is_accepted_answer, kind_of, IsReportable};
+ghost use Rattle.mp_session.specs.Answers.{answered, is_accepted as is_accepted_answer, is_refused as is_refused_kind, kind_of, IsReportable};
 
 use crate::reports::{ok_text, profile_text, refused_text};
 use mp_nums::{Memory, Text};
@@ -19,6 +19,17 @@ pub enum ReplyKind {
     Refused,
     /// An accepted line that ends the run.
     Ended,
+}
+
+impl ReplyKind {
+    pub fn is_refused(self) -> bool
+        ensures { result ≡ is_refused_kind self }
+    {
+        match self {
+            ReplyKind::Refused => true,
+            ReplyKind::Quiet | ReplyKind::Accepted | ReplyKind::Ended => false,
+        }
+    }
 }
 
 /// The answer to a line, as data.

@@ -3,6 +3,7 @@
 
 mod answers;
 mod commands;
+mod course;
 mod feeds;
 mod field;
 mod laws;
@@ -12,6 +13,7 @@ mod sessions;
 mod settings;
 pub mod top;
 mod words;
+mod writes;
 
 pub use answers::ReplyKind;
 pub use feeds::{Fed, Feed};

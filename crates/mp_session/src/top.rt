@@ -1,16 +1,25 @@
 //! Serving an input, from its first byte to its last.
 
-ghost use Rattle.std.specs.Prelude.{◌≡◌, ◌+◌, ◌-◌, ◌^◌, ◌<◌, ◌≤◌, length, vec_len, IfOk, OnOk, OnErr, IsTrue, false, true};
-ghost use Rattle.mp_session.specs.Pieces.{IsPieceOf};
-ghost use Rattle.mp_session.specs.declared.top.TheConstants.{PIECE};
+ghost use Rattle.std.specs.Prelude.{◌≡◌, ◌≢◌, ◌⊎◌, ◌↔◌, ℕ, ◌+◌, ◌-◌, ◌^◌, ◌<◌, ◌≤◌, min, List, [], ◌++◌, length, vec_len, map, string_bytes, Option, Some, None, IfOk, OnOk, OnErr, IsErrOf, IsTrue, false, true};
+ghost use Rattle.mp_outside.specs.Counts.{Rose};
+ghost use Rattle.mp_replies.specs.Lines.{lines};
+ghost use Rattle.mp_replies.specs.Output.{output, usage, some_refused};
+ghost use Rattle.mp_replies.specs.State.{Files, opening};
+ghost use Rattle.mp_replies.specs.Words.{Setup, job};
+ghost use Rattle.mp_session.specs.Feeding.{nothing, lines_left};
+ghost use Rattle.mp_session.specs.Jobs.{setup_by};
+ghost use Rattle.mp_session.specs.Pieces.{IsPieceOf, IsReadOf, taken_by};
+ghost use Rattle.mp_session.specs.Serving.{TellsPrefix, HasReports, HasFront};
+ghost use Rattle.mp_session.specs.Statuses.{is_whole, ran, status_by};
+ghost use Rattle.mp_session.specs.declared.top.TheConstants.{INPUT_LIMIT, PIECE};
 
-use crate::answers::ReplyKind;
-use crate::feeds::Feed;
-use crate::sessions::{Session, Stop};
+use crate::course::{Course, Halt};
 use crate::settings::Settings;
 use crate::words::read_words;
+use crate::writes::report;
+use mp_nums::Memory;
 use mp_outside::{Failed, Gate, Shelf, Sink, Source};
-use std::alloc::Global;
+use std::alloc::{AllocError, Global};
 use std::thread::Threads;
 
 /// The most bytes of an input.
@@ -42,17 +51,8 @@ pub enum Status {
     Memory = 6,
 }
 
-/// What is kept of a run between reads.
-#[derive(Drop)]
-struct Course {
-    session: Session,
-    feed: Feed,
-    /// Whether some line was refused.
-    refused: bool,
-}
-
 /// Runs the session that the words ask for on the whole input, and writes the report of each line as soon as the line
-/// was run.
+/// was run. Words outside the grammar have the usage written.
 pub fn serve<R: Threads, H: Shelf, S: Source, K: Sink, G: Gate>(
     rt: &R,
     alloc: Global,
@@ -61,41 +61,83 @@ pub fn serve<R: Threads, H: Shelf, S: Source, K: Sink, G: Gate>(
     input: &mut S,
     out: &mut K,
     gate: &G,
-) -> Status {
-    serve_within(rt, alloc, words, shelf, input, out, gate, INPUT_LIMIT)
-}
-
-/// `serve` with a limit on the input of its own.
-fn serve_within<R: Threads, H: Shelf, S: Source, K: Sink, G: Gate>(
-    rt: &R,
-    alloc: Global,
-    words: &[String],
-    shelf: &mut H,
-    input: &mut S,
-    out: &mut K,
-    gate: &G,
-    limit: u64,
 ) -> Status
-    requires { limit < 2 ^ 64 - 1 }
+    requires given { S.given input.old ≤ 2 ^ 127 }
+
+    // The whole output, or a front of it where the run ended early.
+    ensures output { (files : Files) (bytes before : List ℕ) → S.left input.old ≡ Some bytes → K.written out.old ≡ Some before
+        → length before + length (output (map string_bytes words.now) files bytes) ≤ K.room out.old
+        → IsTrue (is_whole result) → K.written out.new ≡ Some (before ++ output (map string_bytes words.now) files bytes) }
+    ensures front { (files : Files) (bytes before : List ℕ) → S.left input.old ≡ Some bytes → K.written out.old ≡ Some before
+        → length before + length (output (map string_bytes words.now) files bytes) ≤ K.room out.old
+        → TellsPrefix (K.written out.new) before (output (map string_bytes words.now) files bytes) }
+
+    // To the end of the input: whether some line was refused, that nothing is left, and that it was no longer than the
+    // limit.
+    ensures refused { (setup : Setup) (files : Files) (bytes : List ℕ) → job (map string_bytes words.now) ≡ Some setup → S.left input.old ≡ Some bytes
+        → IsTrue (is_whole result) → result ≡ ran (some_refused (opening setup) files (lines bytes)) }
+    ensures read { (bytes : List ℕ) → S.left input.old ≡ Some bytes → IsTrue (is_whole result) → S.left input.new ≡ Some [] }
+    ensures within { (bytes : List ℕ) → S.left input.old ≡ Some bytes → IsTrue (is_whole result) → length bytes ≤ INPUT_LIMIT }
+
+    // Words outside the grammar.
+    ensures words { result ≡ Status.Words → job (map string_bytes words.now) ≡ None }
+    ensures outside { job (map string_bytes words.now) ≡ None → (result ≡ Status.Words) ⊎ (result ≡ Status.WriteFault) }
+    ensures usage { (before : List ℕ) → K.written out.old ≡ Some before → length before + length usage ≤ K.room out.old
+        → result ≡ Status.Words → K.written out.new ≡ Some (before ++ usage) }
+    ensures usage_front { (before : List ℕ) → K.written out.old ≡ Some before → length before + length usage ≤ K.room out.old
+        → job (map string_bytes words.now) ≡ None → TellsPrefix (K.written out.new) before usage }
+    ensures unread { job (map string_bytes words.now) ≡ None
+        → (S.left input.new ≡ S.left input.old) × (S.given input.new ≡ S.given input.old) × (S.faults input.new ≡ S.faults input.old) }
+
+    // A sink that was flushed is flushed, also one that tells nothing.
+    ensures flushed { K.flushed out.old ≡ true → IsTrue (is_whole result) → K.flushed out.new ≡ true }
+    ensures usage_flushed { result ≡ Status.Words → K.flushed out.new ≡ true }
+
+    // Why a run ended early.
+    ensures read_fault { result ≡ Status.ReadFault → Rose (S.faults input.old) (S.faults input.new) }
+    ensures write_fault { result ≡ Status.WriteFault → Rose (K.faults out.old) (K.faults out.new) }
+    ensures input_limit { result ≡ Status.InputLimit → S.given input.old + INPUT_LIMIT < S.given input.new }
+    ensures past_limit { (bytes : List ℕ) → S.left input.old ≡ Some bytes → result ≡ Status.InputLimit → INPUT_LIMIT < length bytes }
+    ensures shelf { H.faults shelf.new ≡ H.faults shelf.old }
+    ensures complete { (setup : Setup) → job (map string_bytes words.now) ≡ Some setup
+        → ¬ Rose (S.faults input.old) (S.faults input.new) → ¬ Rose (K.faults out.old) (K.faults out.new) → S.given input.new ≤ S.given input.old + INPUT_LIMIT
+        → IsTrue (is_whole result) ⊎ (result ≡ Status.Memory) }
 {
-    match read_words(words) {
-        None => refuse_words(out),
-        Some(settings) => match run_session(rt, alloc, settings, shelf, input, out, gate, limit) {
-            Ok(false) => Status::Done,
-            Ok(true) => Status::Refused,
-            Err(status) => status,
-        },
-    }
+    let Some(settings) = read_words(words) else {
+        return refuse_words(out);
+    };
+    status_of(run_session(rt, alloc, settings, shelf, input, out, gate, INPUT_LIMIT))
 }
 
-fn refuse_words<K: Sink>(out: &mut K) -> Status {
+fn refuse_words<K: Sink>(out: &mut K) -> Status
+    ensures status { (result ≡ Status.Words) ⊎ (result ≡ Status.WriteFault) }
+    ensures usage { (before : List ℕ) → K.written out.old ≡ Some before → length before + length usage ≤ K.room out.old
+        → result ≡ Status.Words → K.written out.new ≡ Some (before ++ usage) }
+    ensures front { (before : List ℕ) → K.written out.old ≡ Some before → length before + length usage ≤ K.room out.old
+        → TellsPrefix (K.written out.new) before usage }
+    ensures flushed { result ≡ Status.Words → K.flushed out.new ≡ true }
+    ensures write_fault { result ≡ Status.WriteFault → Rose (K.faults out.old) (K.faults out.new) }
+{
     match report(out, USAGE) {
         Ok(()) => Status::Words,
         Err(Failed) => Status::WriteFault,
     }
 }
 
-/// Reads the input to its end, and answers whether some line was refused.
+fn status_of(outcome: Result<bool, Halt>) -> Status
+    ensures { result ≡ status_by outcome }
+{
+    match outcome {
+        Ok(false) => Status::Done,
+        Ok(true) => Status::Refused,
+        Err(Halt::ReadFault) => Status::ReadFault,
+        Err(Halt::WriteFault) => Status::WriteFault,
+        Err(Halt::InputLimit) => Status::InputLimit,
+        Err(Halt::Memory) => Status::Memory,
+    }
+}
+
+/// Reads the input to its end, runs its lines, and answers whether some line was refused.
 fn run_session<R: Threads, H: Shelf, S: Source, K: Sink, G: Gate>(
     rt: &R,
     alloc: Global,
@@ -105,25 +147,46 @@ fn run_session<R: Threads, H: Shelf, S: Source, K: Sink, G: Gate>(
     out: &mut K,
     gate: &G,
     limit: u64,
-) -> Result<bool, Status>
-    requires { limit < 2 ^ 64 - 1 }
+) -> Result<bool, Halt>
+    requires limit { limit < 2 ^ 64 - 1 }
+    requires given { S.given input.old ≤ 2 ^ 127 }
+
+    // Where the input is told, its lines are run and no others.
+    ensures refused { (files : Files) (bytes : List ℕ) → S.left input.old ≡ Some bytes
+        → IfOk result (λ refused. refused ≡ some_refused (opening (setup_by settings)) files (lines_left nothing bytes)) }
+    ensures told { (bytes : List ℕ) → S.left input.old ≡ Some bytes
+        → OnOk result (HasReports (setup_by settings) (lines_left nothing bytes) (K.written out.old) (K.room out.old) (K.written out.new)) }
+    ensures front { (bytes : List ℕ) → S.left input.old ≡ Some bytes
+        → OnErr result (HasFront (setup_by settings) (lines_left nothing bytes) (K.written out.old) (K.room out.old) (K.written out.new)) }
+    ensures read { (bytes : List ℕ) → S.left input.old ≡ Some bytes → OnOk result (S.left input.new ≡ Some []) }
+    ensures within { (bytes : List ℕ) → S.left input.old ≡ Some bytes → OnOk result (length bytes ≤ limit) }
+    ensures past { (bytes : List ℕ) → S.left input.old ≡ Some bytes → IsErrOf result Halt.InputLimit → limit < length bytes }
+
+    ensures flushed { K.flushed out.old ≡ true → OnOk result (K.flushed out.new ≡ true) }
+    ensures shelf { H.faults shelf.new ≡ H.faults shelf.old }
+    ensures input_limit { IsErrOf result Halt.InputLimit → S.given input.old + limit < S.given input.new }
+    ensures read_fault { IsErrOf result Halt.ReadFault → Rose (S.faults input.old) (S.faults input.new) }
+    ensures write_fault { IsErrOf result Halt.WriteFault → Rose (K.faults out.old) (K.faults out.new) }
 {
     let mut course = Course::new(alloc, settings)?;
     let mut buffer = piece_buffer(alloc)?;
     let mut left = limit;
     loop {
-        match read_piece(input, buffer.as_mut_slice(), left)? {
-            Piece::End => return course.finish(rt, alloc, shelf, out, gate),
-            Piece::Within(count) => {
+        match read_piece(input, buffer.as_mut_slice(), left) {
+            Err(Failed) => return Err(Halt::ReadFault),
+            Ok(Piece::End) => break,
+            Ok(Piece::Within(count)) => {
                 course.run_piece(rt, alloc, &buffer[..count], shelf, out, gate)?;
                 left -= count as u64;
             }
-            Piece::PastLimit(count) => {
+            Ok(Piece::PastLimit(count)) => {
                 course.run_piece(rt, alloc, &buffer[..count], shelf, out, gate)?;
-                return Err(Status::InputLimit);
+                return Err(Halt::InputLimit);
             }
         }
     }
+    course.finish(rt, alloc, shelf, out, gate)?;
+    Ok(course.refused)
 }
 
 /// What a read gave.
@@ -138,130 +201,28 @@ enum Piece {
 }
 
 /// Reads bytes into the front of the buffer, at most one more than is left up to the limit.
-fn read_piece<S: Source>(input: &mut S, buffer: &mut [u8], left: u64) -> Result<Piece, Status>
+fn read_piece<S: Source>(input: &mut S, buffer: &mut [u8], left: u64) -> Result<Piece, Failed>
     requires room { 0 < length buffer.old }
     requires limit { left < 2 ^ 64 - 1 }
     ensures within { IfOk result (IsPieceOf (length buffer.new) left) }
+    ensures told { (bytes : List ℕ) → S.left input.old ≡ Some bytes → IfOk result (IsReadOf bytes buffer.new (S.left input.new)) }
+    ensures given { IfOk result (λ piece. S.given input.new ≡ min (S.given input.old + taken_by piece) (2 ^ 128 - 1)) }
+    ensures faults { S.faults input.old ≤ S.faults input.new }
+    ensures cause { OnErr result (Rose (S.faults input.old) (S.faults input.new)) }
 {
     let count = buffer.len().min((left + 1) as usize);
-    match input.read(&mut buffer[..count]) {
-        Err(Failed) => Err(Status::ReadFault),
-        Ok(0) => Ok(Piece::End),
-        Ok(count) if count as u64 <= left => Ok(Piece::Within(count)),
-        Ok(count) => Ok(Piece::PastLimit(count - 1)),
+    let given = input.read(&mut buffer[..count])?;
+    if given == 0 {
+        Ok(Piece::End)
+    } else if given as u64 <= left {
+        Ok(Piece::Within(given))
+    } else {
+        Ok(Piece::PastLimit(given - 1))
     }
 }
 
-fn piece_buffer(alloc: Global) -> Result<Vec<u8>, Status>
+fn piece_buffer(alloc: Global) -> Result<Vec<u8>, AllocError>
     ensures { IfOk result (λ buffer. vec_len buffer ≡ PIECE) }
 {
-    match vec![in alloc; 0u8; PIECE] {
-        Ok(buffer) => Ok(buffer),
-        Err(_) => Err(Status::Memory),
-    }
-}
-
-impl Course {
-    fn new(alloc: Global, settings: Settings) -> Result<Course, Status>
-        ensures lines { IfOk result (λ course. course.session.lines ≡ 0) }
-        ensures feed { IfOk result (λ course. course.feed.whole ≡ false) }
-    {
-        match (Session::new(alloc, settings), Feed::new(alloc)) {
-            (Ok(session), Ok(feed)) => Ok(Course {
-                session,
-                feed,
-                refused: false,
-            }),
-            _ => Err(Status::Memory),
-        }
-    }
-
-    /// Runs the lines that the piece ends.
-    fn run_piece<R: Threads, H: Shelf, K: Sink, G: Gate>(
-        &mut self,
-        rt: &R,
-        alloc: Global,
-        piece: &[u8],
-        shelf: &mut H,
-        out: &mut K,
-        gate: &G,
-    ) -> Result<(), Status>
-        requires feed { self.old.feed.whole ≡ false }
-        requires lines { self.old.session.lines + length piece.now < 2 ^ 64 - 1 }
-        ensures feed { OnOk result (self.new.feed.whole ≡ false) }
-        ensures lines { OnOk result (self.new.session.lines ≤ self.old.session.lines + length piece.now) }
-    {
-        let mut rest = piece;
-        while !rest.is_empty() {
-            let fed = self.feed.feed(rest);
-            rest = &rest[fed.used..];
-            if fed.whole {
-                self.run_line(rt, alloc, shelf, out, gate)?;
-            }
-        }
-        Ok(())
-    }
-
-    /// Runs the line that is held.
-    fn run_line<R: Threads, H: Shelf, K: Sink, G: Gate>(
-        &mut self,
-        rt: &R,
-        alloc: Global,
-        shelf: &mut H,
-        out: &mut K,
-        gate: &G,
-    ) -> Result<(), Status>
-        requires feed { IsTrue self.old.feed.whole }
-        requires lines { self.old.session.lines < 2 ^ 64 - 1 }
-        ensures feed { OnOk result (self.new.feed.whole ≡ false) }
-        ensures lines { OnOk result (self.new.session.lines ≡ self.old.session.lines + 1) }
-    {
-        let reply = match self.session.run(rt, alloc, self.feed.line(), shelf, gate) {
-            Ok(reply) => reply,
-            Err(Stop::ShelfFault) => return Err(Status::ReadFault),
-            Err(Stop::Memory) => return Err(Status::Memory),
-        };
-        if let Err(Failed) = report(out, reply.text.as_slice()) {
-            return Err(Status::WriteFault);
-        }
-        self.refused |= reply.kind == ReplyKind::Refused;
-        self.feed.next();
-        Ok(())
-    }
-
-    /// Runs a last line that no LF ends, and answers whether some line was refused.
-    fn finish<R: Threads, H: Shelf, K: Sink, G: Gate>(
-        mut self,
-        rt: &R,
-        alloc: Global,
-        shelf: &mut H,
-        out: &mut K,
-        gate: &G,
-    ) -> Result<bool, Status>
-        requires feed { self.feed.whole ≡ false }
-        requires lines { self.session.lines < 2 ^ 64 - 1 }
-    {
-        if self.feed.end() {
-            self.run_line(rt, alloc, shelf, out, gate)?;
-        }
-        Ok(self.refused)
-    }
-}
-
-/// Writes a report whole and flushes it. An empty report leaves the sink alone.
-fn report<K: Sink>(out: &mut K, text: &[u8]) -> Result<(), Failed> {
-    if text.is_empty() {
-        return Ok(());
-    }
-    write_all(out, text)?;
-    out.flush()
-}
-
-fn write_all<K: Sink>(out: &mut K, text: &[u8]) -> Result<(), Failed> {
-    let mut rest = text;
-    while !rest.is_empty() {
-        let count = out.write(rest)?;
-        rest = &rest[count..];
-    }
-    Ok(())
+    vec![in alloc; 0u8; PIECE]
 }

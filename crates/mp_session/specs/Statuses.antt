@@ -1,0 +1,31 @@
+-- How a run ends.
+use Rattle.std.specs.Prelude.{Bool, true, false, Result, Ok, Err}
+use Rattle.mp_session.specs.declared.course.Halt.{Halt}
+use Rattle.mp_session.specs.declared.course.Halt.TheVariants as halts
+use Rattle.mp_session.specs.declared.top.Status.{Status}
+use Rattle.mp_session.specs.declared.top.Status.TheVariants as statuses
+
+abbrev pub halted : Halt → Status
+halted halts.ReadFault = statuses.ReadFault
+halted halts.WriteFault = statuses.WriteFault
+halted halts.InputLimit = statuses.InputLimit
+halted halts.Memory = statuses.Memory
+
+-- of a run to the end, by whether some line was refused
+abbrev pub ran : Bool → Status
+ran false = statuses.Done
+ran true = statuses.Refused
+
+abbrev pub status_by : Result Bool Halt → Status
+status_by (Ok refused) = ran refused
+status_by (Err halt) = halted halt
+
+-- the input was read to its end, and all was written
+abbrev pub is_whole : Status → Bool
+is_whole statuses.Done = true
+is_whole statuses.Refused = true
+is_whole statuses.Words = false
+is_whole statuses.ReadFault = false
+is_whole statuses.WriteFault = false
+is_whole statuses.InputLimit = false
+is_whole statuses.Memory = false

@@ -1,0 +1,42 @@
+//! Reports, written whole.
+
+ghost use Rattle.std.specs.Prelude.{◌≡◌, ℕ, ◌+◌, ◌-◌, ◌^◌, ◌<◌, ◌≤◌, min, List, ◌++◌, length, Some, OnOk, OnErr, true};
+ghost use Rattle.mp_outside.specs.Counts.{Rose};
+ghost use Rattle.mp_session.specs.Serving.{TellsPrefix};
+
+use mp_outside::{Failed, Sink};
+
+/// Writes a report whole and flushes it. An empty report leaves the sink alone.
+pub(crate) fn report<K: Sink>(out: &mut K, text: &[u8]) -> Result<(), Failed>
+    ensures told { (before : List ℕ) → K.written out.old ≡ Some before → length before + length text.now ≤ K.room out.old
+        → OnOk result (K.written out.new ≡ Some (before ++ text.now)) }
+    ensures prefix { (before : List ℕ) → K.written out.old ≡ Some before → length before + length text.now ≤ K.room out.old
+        → OnErr result (TellsPrefix (K.written out.new) before text.now) }
+    ensures flushed { K.flushed out.old ≡ true → OnOk result (K.flushed out.new ≡ true) }
+    ensures some_flushed { 0 < length text.now → OnOk result (K.flushed out.new ≡ true) }
+    ensures room { K.room out.new ≡ K.room out.old }
+    ensures faults { K.faults out.old ≤ K.faults out.new }
+    ensures cause { OnErr result (Rose (K.faults out.old) (K.faults out.new)) }
+{
+    if text.is_empty() {
+        return Ok(());
+    }
+    write_all(out, text)?;
+    out.flush()
+}
+
+fn write_all<K: Sink>(out: &mut K, text: &[u8]) -> Result<(), Failed>
+    ensures told { (before : List ℕ) → K.written out.old ≡ Some before → length before + length text.now ≤ K.room out.old
+        → OnOk result (K.written out.new ≡ Some (before ++ text.now)) }
+    ensures prefix { (before : List ℕ) → K.written out.old ≡ Some before → length before + length text.now ≤ K.room out.old
+        → OnErr result (TellsPrefix (K.written out.new) before text.now) }
+    ensures room { K.room out.new ≡ K.room out.old }
+    ensures faults { K.faults out.old ≤ K.faults out.new }
+    ensures cause { OnErr result (Rose (K.faults out.old) (K.faults out.new)) }
+{
+    let mut sent = 0;
+    while sent < text.len() {
+        sent += out.write(&text[sent..])?;
+    }
+    Ok(())
+}
