@@ -1,1 +1,4 @@
 pub mod FiledLemmas
+pub mod Outcomes
+pub mod PlannedLemmas
+pub mod SinkLemmas

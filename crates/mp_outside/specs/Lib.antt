@@ -1,4 +1,5 @@
 pub mod Counts
 pub mod Filed
+pub mod Planned
 pub mod States
 pub mod Stored

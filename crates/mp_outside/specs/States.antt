@@ -41,3 +41,9 @@ pub record StdSourceState : Type 0 where
 pub record StdSinkState : Type 0 where
   pub flushed : Bool
   pub faults : ℕ
+
+-- a byte that is given again and again, how many times more, and how many times it was
+pub record LoopSourceState : Type 0 where
+  pub byte : ℕ
+  pub left : ℕ
+  pub given : ℕ

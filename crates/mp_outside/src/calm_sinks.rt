@@ -1,4 +1,4 @@
-ghost use Rattle.std.specs.Prelude.{◌≡◌, ◌+◌, ◌-◌, ◌^◌, ◌≤◌, min, [], length, Some, Ok, IfOk, IsOk, true, unwrap_or};
+ghost use Rattle.std.specs.Prelude.{◌≡◌, [], length, Some, Ok, IfOk, IsOk, true, unwrap_or};
 ghost use Rattle.std.proofs.Common.{rules};
 ghost use Rattle.mp_outside.specs.States.{after_writing};
 

@@ -9,7 +9,7 @@ pub trait Sink {
     /// The bytes written, where the sink tells them.
     ghost written: { Self → Option (List ℕ) };
 
-    /// How many bytes the sink tells at least, before it may stop telling them.
+    /// How many bytes the sink goes on telling. Past these it may tell none.
     ghost room: { Self → ℕ };
 
     /// Whether the bytes written have gone through.

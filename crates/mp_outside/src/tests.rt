@@ -1,14 +1,14 @@
-ghost use Rattle.std.specs.Prelude.{◌≡◌, ◌+◌, ◌≤◌, ◌++◌, List, ℕ, length, Some, IfOk, IfSome, OnOk, true};
+ghost use Rattle.std.specs.Prelude.{◌≡◌, ◌+◌, ◌≤◌, ◌++◌, length, Some, IfOk, IfSome, OnOk, true};
 ghost use Rattle.std.specs.Option.{ForSome};
-ghost use Rattle.mp_outside.specs.Counts.{Rose};
 
 use crate::{
-    CalmShelf, CalmSink, CalmSource, Failed, Gate, OpenGate, Shelf, ShelfAnswer, Sink, Source,
-    StdSink, StdSource,
+    CalmShelf, CalmSink, CalmSource, DiskShelf, Failed, Gate, LoopSource, MemShelf, MemSink,
+    MemSource, OpenGate, Shelf, ShelfAnswer, Sink, Source, StdSink, StdSource,
 };
 use std::alloc::{AllocError, Global};
 use std::test::Fail;
 use std::thread::{Threads, join};
+use std::{fs, process};
 
 // All that was left, or `None` where a read failed or the source gives too much.
 fn read_to_end<S: Source>(alloc: Global, source: &mut S) -> Result<Option<Vec<u8>>, AllocError>
@@ -24,6 +24,13 @@ fn read_to_end<S: Source>(alloc: Global, source: &mut S) -> Result<Option<Vec<u8
         }
     }
     Ok(None)
+}
+
+// One read into four dots.
+fn read_four<S: Source>(source: &mut S) -> Result<[u8; 4], Failed> {
+    let mut buf = *b"....";
+    source.read(&mut buf)?;
+    Ok(buf)
 }
 
 fn copy(alloc: Global, bytes: Vec<u8>) -> Result<Option<Vec<u8>>, AllocError>
@@ -100,6 +107,95 @@ fn a_shelf_in_memory_gives_its_files(rt: HostRuntime) -> Result<(), Fail> {
     assert_eq!(rt;
         fetch(alloc, &mut shelf, b"c", 3).err(),
         Some(ShelfAnswer::Absent)
+    );
+    Ok(())
+}
+
+#[test]
+fn the_planned_reads_fail(rt: HostRuntime) -> Result<(), Fail> {
+    let alloc = rt.alloc();
+    let bytes = b"abcdef".to_vec(alloc)?;
+    let mut source = MemSource::new(bytes, 2, [1].to_vec(alloc)?);
+    assert_eq!(rt; read_four(&mut source).ok(), Some(*b"ab.."));
+    assert!(rt; read_four(&mut source).is_err());
+    assert_eq!(rt; read_four(&mut source).ok(), Some(*b"cd.."));
+    Ok(())
+}
+
+#[test]
+fn the_planned_writes_and_flushes_fail(rt: HostRuntime) -> Result<(), Fail> {
+    let alloc = rt.alloc();
+    let mut sink = MemSink::new(alloc, 10, 3, [1, 2].to_vec(alloc)?)?;
+    assert!(rt; sink.bytes().is_empty());
+    assert!(rt; write_and_flush(&mut sink, b"0123").is_err());
+    assert_eq!(rt; sink.bytes(), b"012".as_slice());
+    assert!(rt; write_and_flush(&mut sink, b"3").is_err());
+    assert_eq!(rt; write_and_flush(&mut sink, b"3456")?, 3);
+    assert_eq!(rt; sink.bytes(), b"012345".as_slice());
+    assert_eq!(rt; write_and_flush(&mut sink, b"67")?, 2);
+    assert_eq!(rt; write_and_flush(&mut sink, b"890")?, 3);
+    assert!(rt; sink.bytes().is_empty());
+    assert_eq!(rt; sink.count(), 11);
+    Ok(())
+}
+
+#[test]
+fn the_planned_fetches_fail(rt: HostRuntime) -> Result<(), Fail> {
+    let alloc = rt.alloc();
+    let mut shelf = MemShelf::new(alloc, [1].to_vec(alloc)?);
+    shelf.put(b"a".to_vec(alloc)?, b"1".to_vec(alloc)?)?;
+    assert_eq!(rt;
+        fetch(alloc, &mut shelf, b"a", 1)?.as_slice(),
+        b"1".as_slice()
+    );
+    assert_eq!(rt;
+        fetch(alloc, &mut shelf, b"a", 1).err(),
+        Some(ShelfAnswer::Failed)
+    );
+    assert_eq!(rt;
+        fetch(alloc, &mut shelf, b"a", 0).err(),
+        Some(ShelfAnswer::TooLarge)
+    );
+    assert_eq!(rt;
+        fetch(alloc, &mut shelf, b"b", 1).err(),
+        Some(ShelfAnswer::Absent)
+    );
+    Ok(())
+}
+
+#[test]
+fn a_byte_is_given_again_and_again(rt: HostRuntime) {
+    let mut source = LoopSource::new(b'#');
+    for _ in 0..3 {
+        assert_eq!(rt; read_four(&mut source).ok(), Some(*b"####"));
+    }
+}
+
+#[test]
+fn a_shelf_on_disk_gives_its_files(rt: HostRuntime) -> Result<(), Fail> {
+    let alloc = rt.alloc();
+    let name = format!(in alloc; "mp_outside_test_{}.csv", process::id(rt.process()))?;
+    let mut shelf = DiskShelf::new(&rt)?;
+    fs::write(&rt, name.as_str(), "1,2\n")?;
+    let found = fetch(alloc, &mut shelf, name.as_bytes(), 4);
+    let too_large = fetch(alloc, &mut shelf, name.as_bytes(), 3);
+    fs::remove_file(&rt, name.as_str())?;
+    let absent = fetch(alloc, &mut shelf, name.as_bytes(), 4);
+
+    assert_eq!(rt; found?.as_slice(), b"1,2\n".as_slice());
+    assert_eq!(rt; too_large.err(), Some(ShelfAnswer::TooLarge));
+    assert_eq!(rt; absent.err(), Some(ShelfAnswer::Absent));
+    assert_eq!(rt;
+        fetch(alloc, &mut shelf, b"\xff", 4).err(),
+        Some(ShelfAnswer::Absent)
+    );
+    assert_eq!(rt;
+        fetch(alloc, &mut shelf, b".", 4).err(),
+        Some(ShelfAnswer::Failed)
+    );
+    assert_eq!(rt;
+        fetch(alloc, &mut shelf, b"a\0b", 4).err(),
+        Some(ShelfAnswer::Failed)
     );
     Ok(())
 }
