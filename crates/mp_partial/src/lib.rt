@@ -1,0 +1,15 @@
+//! Profiles of a part of the pairs of windows, and the traits by which parts are computed piece by piece and merged in
+//! any order.
+#![tactic(auto)]
+
+mod columns;
+mod kernels;
+mod laws;
+mod parts;
+mod profiles;
+mod slots;
+
+pub use kernels::Kernel;
+pub use laws::parts_can_move;
+pub use parts::Part;
+pub use profiles::Profile;

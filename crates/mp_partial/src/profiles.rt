@@ -1,0 +1,173 @@
+//! A profile of a part of the pairs of windows.
+
+ghost use Rattle.std.specs.Prelude.{◌≡◌, ◌≢◌, ◌+◌, ◌<◌, ◌≤◌, nat_lt, if◌then◌else◌, [], ◌∷◌, ◌++◌, length, IsOk, OnOk, Some, None};
+ghost use Rattle.mp_partial.specs.Values.{HasColumns, empty_columns, merged_columns, merged_column, offered};
+ghost use Rattle.mp_partial.specs.MergeLaws.{columns_merge};
+
+use crate::columns;
+use crate::parts::Part;
+use mp_nums::{Items, Memory, Near, Slot, Slots, Sq};
+use std::alloc::Global;
+use std::marker::Model;
+
+/// For each window, by its start, the nearest of the windows that it was compared with, the nearest of those that start
+/// earlier, and the nearest of those that start later. Windows without a missing sample alone are offered.
+#[derive(Debug, Drop)]
+pub struct Profile {
+    all: Slots,
+    left: Slots,
+    right: Slots,
+}
+
+impl Model for Profile {
+    ghost use Rattle.std.specs.Prelude.{min};
+    ghost use Rattle.mp_partial.specs.Profiled.{Profiled, IsProfile};
+
+    ghost Value = { Profiled };
+
+    ghost view = { λ p. record { all = p.all.items; left = p.left.items; right = p.right.items; spare = min p.all.spare (min p.left.spare p.right.spare) } };
+
+    ghost invariant = { λ p. IsProfile p.all.items p.left.items p.right.items };
+}
+
+impl Profile {
+    /// The profile of no windows. It takes no memory.
+    pub fn new(alloc: Global) -> Profile
+        ensures all { result.all ≡ [] }
+        ensures left { result.left ≡ [] }
+        ensures right { result.right ≡ [] }
+    {
+        Profile {
+            all: Items::new(alloc),
+            left: Items::new(alloc),
+            right: Items::new(alloc),
+        }
+    }
+
+    /// The nearest windows.
+    pub fn all(&self) -> &[Slot]
+        ensures column { result.now ≡ self.now.all }
+        ensures lesser { self.now.all ≡ merged_column self.now.left self.now.right }
+    {
+        self.all.as_slice()
+    }
+
+    /// The nearest of the windows that start earlier.
+    pub fn left(&self) -> &[Slot]
+        ensures { result.now ≡ self.now.left }
+    {
+        self.left.as_slice()
+    }
+
+    /// The nearest of the windows that start later.
+    pub fn right(&self) -> &[Slot]
+        ensures { result.now ≡ self.now.right }
+    {
+        self.right.as_slice()
+    }
+
+    /// The number of windows.
+    pub fn len(&self) -> u64
+        ensures all { result ≡ length self.now.all }
+        ensures left { result ≡ length self.now.left }
+        ensures right { result ≡ length self.now.right }
+    {
+        self.all.as_slice().len() as u64
+    }
+
+    /// Window `j` is found at this distance from window `i`.
+    #[inline]
+    pub fn offer(&mut self, i: u64, j: u64, dist: Sq)
+        requires i { i < length self.old.all }
+        requires j { j < length self.old.all }
+        requires apart { i ≢ j }
+        ensures all { self.new.all ≡ offered self.old.all i (record { dist = dist; index = j }) }
+        ensures left { self.new.left
+            ≡ (if nat_lt j i then offered self.old.left i (record { dist = dist; index = j }) else self.old.left) }
+        ensures right { self.new.right
+            ≡ (if nat_lt i j then offered self.old.right i (record { dist = dist; index = j }) else self.old.right) }
+        ensures spare { self.new.spare ≡ self.old.spare }
+    {
+        let found = Near { dist, index: j };
+        if j < i {
+            columns::offer_on_side(&mut self.left, &mut self.all, i, found);
+        } else {
+            columns::offer_on_side(&mut self.right, &mut self.all, i, found);
+        }
+    }
+
+    /// Makes room for `k` more windows.
+    pub fn reserve(&mut self, k: u64) -> Result<(), Memory>
+        ensures ok { OnOk result (k ≤ self.new.spare) }
+        ensures all { self.new.all ≡ self.old.all }
+        ensures left { self.new.left ≡ self.old.left }
+        ensures right { self.new.right ≡ self.old.right }
+        ensures spare { self.old.spare ≤ self.new.spare }
+        ensures succeeds { k ≤ self.old.spare → IsOk result }
+    {
+        self.all.reserve(k)?;
+        self.left.reserve(k)?;
+        self.right.reserve(k)?;
+        Ok(())
+    }
+
+    /// How many windows can be added without memory.
+    pub fn spare(&self) -> u64
+        ensures { result ≡ self.now.spare }
+    {
+        self.all
+            .spare()
+            .min(self.left.spare().min(self.right.spare()))
+    }
+
+    /// Adds a window that was not compared with any.
+    pub fn grow(&mut self)
+        requires { 0 < self.old.spare }
+        ensures all { self.new.all ≡ self.old.all ++ None ∷ [] }
+        ensures left { self.new.left ≡ self.old.left ++ None ∷ [] }
+        ensures right { self.new.right ≡ self.old.right ++ None ∷ [] }
+        ensures spare { self.old.spare ≤ self.new.spare + 1 }
+    {
+        self.all.push(None).unwrap();
+        self.left.push(None).unwrap();
+        self.right.push(None).unwrap();
+    }
+}
+
+impl Part for Profile {
+    ghost value = { λ profile. profile.all ∷ profile.left ∷ profile.right ∷ [] };
+
+    ghost size_of = { λ profile. length profile.all };
+
+    ghost is_value = { HasColumns 3 };
+
+    ghost unit_of = { empty_columns 3 };
+
+    ghost merged = { merged_columns };
+
+    ghost laws = { columns_merge 3 };
+
+    fn unit(alloc: Global, size: u64) -> Result<Self, Memory> {
+        Ok(Profile {
+            all: columns::empty(alloc, size)?,
+            left: columns::empty(alloc, size)?,
+            right: columns::empty(alloc, size)?,
+        })
+    }
+
+    fn size(&self) -> u64 {
+        self.len()
+    }
+
+    fn clear(&mut self) {
+        columns::clear(&mut self.all);
+        columns::clear(&mut self.left);
+        columns::clear(&mut self.right);
+    }
+
+    fn merge(&mut self, other: &Self) {
+        columns::merge(&mut self.all, &other.all);
+        columns::merge(&mut self.left, &other.left);
+        columns::merge(&mut self.right, &other.right);
+    }
+}
