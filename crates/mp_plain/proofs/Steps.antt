@@ -17,6 +17,7 @@ use Rattle.mp_defs.specs.Least.{near, near_at, at_distance, candidate}
 use Rattle.mp_defs.specs.Profile.{column}
 use Rattle.mp_defs.proofs.Distances.{distance_zero, distance_more}
 use Rattle.mp_defs.proofs.LeastLaws.{near_more}
+use Rattle.mp_defs.proofs.Places.{number_at_place}
 use Rattle.mp_plain.specs.Square.{square}
 
 -- ---- options
@@ -29,15 +30,7 @@ none_some e = cc
 
 -- ---- samples
 
-reading_of_unwrapped : (x : Option Sample) → present (option_map reading_of x) ≡ reading_of (unwrap_or x Missing)
-reading_of_unwrapped None = refl
-reading_of_unwrapped (Some x) = refl
-
--- the number at a place is what the sample there stands for, and none past the end
-pub number_at_place : (samples : List Sample) (n : ℕ) → number_at (series_of samples) n ≡ reading_of (get_or samples n Missing)
-number_at_place samples n = rw (slice_get-map reading_of samples n, ← unwrap_or-slice_get samples n Missing) (reading_of_unwrapped (slice_get samples n))
-
--- the same of a pair
+-- the squared difference of two samples, by their places
 pub square_at_places : (a : List Sample) (i : ℕ) (b : List Sample) (j : ℕ) → square_between (number_at (series_of a) i) (number_at (series_of b) j) ≡ square_between (reading_of (get_or a i Missing)) (reading_of (get_or b j Missing))
 square_at_places a i b j = rw (number_at_place a i, number_at_place b j) refl
 

@@ -1,0 +1,3 @@
+pub mod TileLemmas
+pub mod SumLemmas
+pub mod AmongLemmas

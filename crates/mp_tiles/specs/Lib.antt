@@ -1,0 +1,5 @@
+pub mod Pairs
+pub mod Cutting
+pub mod Sums
+pub mod Among
+pub mod Scanning

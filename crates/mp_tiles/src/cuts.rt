@@ -1,0 +1,79 @@
+//! Tiles, and how pairs of windows are cut into them.
+
+ghost use Rattle.std.specs.Prelude.{◌≡◌, ℕ, ◌+◌, ◌<◌, ◌≤◌, All, count_by, nat_lt, if◌then◌else◌, length, slice_get, Some};
+ghost use Rattle.mp_tiles.specs.Pairs.{has_pair, IsTileOf};
+ghost use Rattle.mp_tiles.specs.Cutting.{own_tiles};
+
+use mp_series::MAX_SAMPLES;
+use std::marker::Model;
+
+/// The most diagonals in a tile.
+pub const MAX_TILE: u32 = 65_536;
+
+/// Successive diagonals, from the first to the last. Diagonal `d` holds the pairs of the windows that start at `i` and
+/// at `i + d`.
+#[derive(Clone, Copy, Debug, PartialEq, Eq)]
+pub struct Tile {
+    pub first: u64,
+    pub last: u64,
+}
+
+/// The tiles of a series, in rising order of their diagonals.
+#[derive(Debug, Drop)]
+pub struct Cut {
+    first: u64,
+    end: u64,
+    width: u64,
+}
+
+impl Model for Cut {
+    ghost use Rattle.std.specs.Prelude.{◌<◌, ◌≤◌, List};
+    ghost use Rattle.mp_tiles.specs.declared.cuts.Tile.{Tile};
+    ghost use Rattle.mp_tiles.specs.Cutting.{tiles_between, IsCut};
+
+    ghost Value = { List Tile };
+
+    ghost view = { λ cut. tiles_between cut.first cut.end cut.width };
+
+    ghost invariant = { λ cut. IsCut cut.first cut.end cut.width };
+}
+
+/// Cuts the pairs of the `w` windows of a series that start further apart than `excl`: their diagonals, counted from the
+/// first one, in groups of `tile`, of which the last may have fewer.
+pub fn cut_own(w: u64, excl: u64, tile: u32) -> Cut
+    requires windows { w ≤ MAX_SAMPLES }
+    requires least { 1 ≤ tile }
+    requires greatest { tile ≤ MAX_TILE }
+    ensures tiles { result ≡ own_tiles w excl tile }
+    ensures each { All (IsTileOf w excl) result }
+    ensures pairs { (i j : ℕ) → j < w
+        → count_by (λ t. has_pair t i j) result ≡ (if nat_lt (i + excl) j then 1 else 0) }
+{
+    let first = excl.saturating_add(1);
+    Cut {
+        first,
+        end: w.max(first),
+        width: u64::from(tile),
+    }
+}
+
+impl Cut {
+    /// The number of tiles.
+    pub fn count(&self) -> u64
+        ensures { result ≡ length self.now }
+    {
+        (self.end - self.first).div_ceil(self.width)
+    }
+
+    /// Tile `k`, counted from 0.
+    pub fn tile(&self, k: u64) -> Tile
+        requires { k < length self.now }
+        ensures { slice_get self.now k ≡ Some result }
+    {
+        let first = self.first + k * self.width;
+        Tile {
+            first,
+            last: (first + self.width).min(self.end) - 1,
+        }
+    }
+}

@@ -1,0 +1,10 @@
+//! Profiles along diagonals: the pairs of windows of a series are cut into tiles of successive diagonals, and a tile is
+//! scanned with running sums.
+#![tactic(auto)]
+
+mod cuts;
+mod diagonals;
+mod scans;
+
+pub use cuts::{Cut, MAX_TILE, Tile, cut_own};
+pub use scans::scan_own;
