@@ -1,5 +1,5 @@
 -- What a part stands for: columns of nearest windows.
-use Rattle.std.specs.Prelude.{◌≡◌, ℕ, List, All, length, replicate, slice_index_or, slice_set, Option, Some, None}
+use Rattle.std.specs.Prelude.{◌≡◌, ℕ, List, [], ◌∷◌, All, length, replicate, slice_index_or, slice_set, Option, Some, None}
 use Rattle.std.specs.Simd.Lanes.{zip2}
 use Rattle.mp_nums.specs.declared.nearest.Near.{Near}
 use Rattle.mp_nums.specs.Near.{nearer_of}
@@ -34,3 +34,8 @@ pub record HasColumns (count size : ℕ) (value : Value) : Type 0 where
 -- place i has the lesser of what it had and what was found
 abbrev pub offered : Column → ℕ → Near → Column
 offered column i found = slice_set column i (nearer_of (slice_index_or column i None) (Some found))
+
+-- the values of some pieces together, by any merge and its unit
+abbrev pub merged_over : (Value → Value → Value) → Value → (ℕ → Value) → List ℕ → Value
+merged_over merged unit value [] = unit
+merged_over merged unit value (k ∷ ks) = merged (value k) (merged_over merged unit value ks)

@@ -1,17 +1,16 @@
 -- One more sample of a distance, and one more window of a least.
 use Rattle.std.proofs.Common.{◌≡◌, ℕ, zero, suc, ◌+◌, ◌-◌, ◌*◌, ◌^◌, ◌<◌, ◌≤◌, List, [], ◌∷◌, ◌++◌, get_or, refl, arith, add-one, mul-le-mul, ap, ◌∙◌, sym, Bool, true, false}
-use Rattle.std.specs.Prelude.{Option, Some, None, ℤ, ◌-ℤ◌, unsigned_abs, FitsSigned, slice_get, unwrap_or, if◌then◌else◌}
+use Rattle.std.specs.Prelude.{Option, Some, None, ℤ, ◌-ℤ◌, unsigned_abs, FitsSigned, if◌then◌else◌}
 use Rattle.std.specs.Int.{w32}
 use Rattle.std.specs.Option.{option_map}
 use Rattle.std.proofs.lemmas.Int.{ints}
-use Rattle.std.proofs.lemmas.Option.{slice_get-map, unwrap_or-slice_get}
 use Rattle.std.proofs.lemmas.List.FromFn.{map-range_with_len_more}
 use Rattle.mp_nums.specs.declared.samples.Sample.{Sample}
 use Rattle.mp_nums.specs.declared.samples.Sample.TheVariants.{Missing}
 use Rattle.mp_nums.specs.declared.nearest.Near.{Near}
 use Rattle.mp_nums.specs.declared.nearest.Sq.{Sq}
 use Rattle.mp_nums.specs.Near.{nearer_of}
-use Rattle.mp_defs.specs.Series.{Series, reading_of, series_of, present, number_at}
+use Rattle.mp_defs.specs.Series.{Series, reading_of, series_of, number_at}
 use Rattle.mp_defs.specs.Distance.{square_gap, square_between, plus, distance}
 use Rattle.mp_defs.specs.Least.{near, near_at, at_distance, candidate}
 use Rattle.mp_defs.specs.Profile.{column}

@@ -76,18 +76,18 @@ candidate_or true true x = sym (nearer_repeats x)
 candidate_or true false x = sym (nearer_with_none x).1
 candidate_or false q x = refl
 
-nearest_or : (p q : ℕ → Bool) (m : ℕ) (a : Series) (i : ℕ) → nearest m (λ j. p j || q j) a i a ≡ nearer_of (nearest m p a i a) (nearest m q a i a)
+pub nearest_or : (p q : ℕ → Bool) (m : ℕ) (a : Series) (i : ℕ) → nearest m (λ j. p j || q j) a i a ≡ nearer_of (nearest m p a i a) (nearest m q a i a)
 nearest_or p q m a i =
     near_same (candidate (λ j. p j || q j) (λ j. distance m a i a j)) (λ j. nearer_of (candidate p (λ k. distance m a i a k) j) (candidate q (λ k. distance m a i a k) j)) (windows (length a) m)
     (λ j lt. candidate_or (p j) (q j) (at_distance j (distance m a i a j)))
     ∙ near_both (candidate p (λ j. distance m a i a j)) (candidate q (λ j. distance m a i a j)) (windows (length a) m)
 
-nearest_same : (p q : ℕ → Bool) (m : ℕ) (a : Series) (i : ℕ) → ((j : ℕ) → j < windows_of m a → p j ≡ q j) → nearest m p a i a ≡ nearest m q a i a
+pub nearest_same : (p q : ℕ → Bool) (m : ℕ) (a : Series) (i : ℕ) → ((j : ℕ) → j < windows_of m a → p j ≡ q j) → nearest m p a i a ≡ nearest m q a i a
 nearest_same p q m a i h =
     near_same (candidate p (λ j. distance m a i a j)) (candidate q (λ j. distance m a i a j)) (windows (length a) m)
     (λ j lt. ap (λ t. if t then at_distance j (distance m a i a j) else None) (h j lt))
 
-nearest_none : (p : ℕ → Bool) (m : ℕ) (a : Series) (i : ℕ) → ((j : ℕ) → j < windows_of m a → p j ≡ false) → nearest m p a i a ≡ None
+pub nearest_none : (p : ℕ → Bool) (m : ℕ) (a : Series) (i : ℕ) → ((j : ℕ) → j < windows_of m a → p j ≡ false) → nearest m p a i a ≡ None
 nearest_none p m a i h =
     near_none (candidate p (λ j. distance m a i a j)) (windows (length a) m) (λ j lt. ap (λ t. if t then at_distance j (distance m a i a j) else None) (h j lt))
 
@@ -102,11 +102,21 @@ entry_by_sides pairs m a x = nearest_or (λ j. pairs j x) (λ j. pairs x j) m a 
 
 -- ---- columns
 
-column_same : (f g : ℕ → Option Near) (w : ℕ) → ((x : ℕ) → x < w → f x ≡ g x) → column f w ≡ column g w
+pub column_same : (f g : ℕ → Option Near) (w : ℕ) → ((x : ℕ) → x < w → f x ≡ g x) → column f w ≡ column g w
 column_same f g w h =
     ext_get_or None (column f w) (column g w) (length-map-range_with_len f 0 w ∙ sym (length-map-range_with_len g 0 w))
     (λ k lt. let below : k < w = subst (λ n. k < n) (length-map-range_with_len f 0 w) lt in
     get_or-map-range_with_len f 0 w k k None below (omega arith) ∙ h k below ∙ sym (get_or-map-range_with_len g 0 w k k None below (omega arith)))
+
+-- place by place the lesser of both
+pub column_both : (f g h : ℕ → Option Near) (w : ℕ) → ((x : ℕ) → x < w → h x ≡ nearer_of (f x) (g x)) → column h w ≡ merged_column (column f w) (column g w)
+column_both f g h w is = column_same h (λ x. nearer_of (f x) (g x)) w is ∙ sym (zip2-map nearer_of f g (range_with_len 0 w))
+
+pub column_of_none : (f : ℕ → Option Near) (w : ℕ) → ((x : ℕ) → x < w → f x ≡ None) → column f w ≡ empty_column w
+column_of_none f w h =
+    ext_get_or None (column f w) (empty_column w) (length-map-range_with_len f 0 w ∙ sym (length-replicate w None))
+    (λ k lt. let below : k < w = subst (λ n. k < n) (length-map-range_with_len f 0 w) lt in
+    get_or-map-range_with_len f 0 w k k None below (omega arith) ∙ h k below ∙ sym (get_or-replicate w k None None below))
 
 -- one scan after another
 column_then : (f g h : ℕ → Option Near) (w : ℕ) (old mid new : Column) → ((x : ℕ) → x < w → h x ≡ nearer_of (f x) (g x))
@@ -114,15 +124,11 @@ column_then : (f g h : ℕ → Option Near) (w : ℕ) (old mid new : Column) →
 column_then f g h w old mid new is e k =
     k ∙ ap (λ c. merged_column c (column g w)) e
     ∙ zip_associates nearer_of nearer_associates old (column f w) (column g w)
-    ∙ ap (merged_column old) (zip2-map nearer_of f g (range_with_len 0 w) ∙ sym (column_same h (λ x. nearer_of (f x) (g x)) w is))
+    ∙ ap (merged_column old) (sym (column_both f g h w is))
 
 column_none : (f : ℕ → Option Near) (w : ℕ) (old : Column) → length old ≡ w → ((x : ℕ) → x < w → f x ≡ None) → old ≡ merged_column old (column f w)
 column_none f w old l h =
-    let empty : column f w ≡ empty_column w =
-    ext_get_or None (column f w) (empty_column w) (length-map-range_with_len f 0 w ∙ sym (length-replicate w None))
-    (λ k lt. let below : k < w = subst (λ n. k < n) (length-map-range_with_len f 0 w) lt in
-    get_or-map-range_with_len f 0 w k k None below (omega arith) ∙ h k below ∙ sym (get_or-replicate w k None None below)) in
-    sym (ap (merged_column old) empty ∙ zip_commutes nearer_of nearer_commutes old (empty_column w) ∙ zip_unit_first nearer_of (λ _. ⊤) None (λ x _. (nearer_with_none x).0) w old l (λ _ _ _. tt))
+    sym (ap (merged_column old) (column_of_none f w h) ∙ zip_commutes nearer_of nearer_commutes old (empty_column w) ∙ zip_unit_first nearer_of (λ _. ⊤) None (λ x _. (nearer_with_none x).0) w old l (λ _ _ _. tt))
 
 taken_here : (old : Column) (p : ℕ) (slot : Option Near) (f : ℕ → Option Near) (w k : ℕ) → length old ≡ w → p < w → k < w → f p ≡ slot → ((x : ℕ) → x ≢ p → f x ≡ None)
     → get_or (taken old p slot) k None ≡ nearer_of (get_or old k None) (f k)
@@ -173,7 +179,7 @@ scanned_none p m a old h none = record {
   spare = refl;
 }
 
-entry_or : (p q : ℕ → ℕ → Bool) (m : ℕ) (a : Series) (x : ℕ) → entry_among (λ i j. p i j || q i j) m a x ≡ nearer_of (entry_among p m a x) (entry_among q m a x)
+pub entry_or : (p q : ℕ → ℕ → Bool) (m : ℕ) (a : Series) (x : ℕ) → entry_among (λ i j. p i j || q i j) m a x ≡ nearer_of (entry_among p m a x) (entry_among q m a x)
 entry_or p q m a x =
     entry_by_sides (λ i j. p i j || q i j) m a x
     ∙ ap (λ s. nearer_of s (right_among (λ i j. p i j || q i j) m a x)) (nearest_or (λ j. p j x) (λ j. q j x) m a x)

@@ -1,3 +1,4 @@
 pub mod TileLemmas
 pub mod SumLemmas
 pub mod AmongLemmas
+pub mod ProfileLaws

@@ -3,3 +3,4 @@ pub mod Cutting
 pub mod Sums
 pub mod Among
 pub mod Scanning
+pub mod Laws

@@ -4,7 +4,11 @@
 
 mod cuts;
 mod diagonals;
+mod laws;
 mod scans;
+#[cfg(test)]
+mod tests;
 
 pub use cuts::{Cut, MAX_TILE, Tile, cut_own};
+pub use laws::tiles_make_the_profile;
 pub use scans::scan_own;

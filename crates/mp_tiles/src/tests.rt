@@ -1,0 +1,194 @@
+ghost use Rattle.std.specs.Prelude.{◌≡◌, ◌≤◌, IfOk, length, vec_len};
+
+use crate::{MAX_TILE, Tile, cut_own, scan_own};
+use mp_nums::{Memory, Near, Sample, Slot, Slots, Sq};
+use mp_partial::{Part, Profile};
+use mp_series::{MAX_SAMPLES, MAX_WINDOW, MIN_WINDOW, excl, windows};
+use std::alloc::Global;
+use std::test::Fail;
+
+const GAP: Sample = Sample::Missing;
+
+fn value(number: i32) -> Sample {
+    Sample::Value(number)
+}
+
+fn near(dist: u128, index: u64) -> Slot {
+    Some(Near {
+        dist: Sq(dist),
+        index,
+    })
+}
+
+/// A part in which nothing was found, through the bound.
+fn unit<P: Part>(alloc: Global, size: u64) -> Result<P, Memory>
+    ensures { IfOk result (λ part. P.size_of part ≡ size) }
+{
+    Part::unit(alloc, size)
+}
+
+/// Merges the part with a unit and with itself, which changes nothing.
+fn merge_with_unit<P: Part>(alloc: Global, part: &mut P) -> Result<(), Memory> {
+    let mut other: P = unit(alloc, part.size())?;
+    other.merge(part);
+    part.merge(&other);
+    other.clear();
+    part.merge(&other);
+    Ok(())
+}
+
+/// The profile of the samples, tile by tile.
+fn profile(alloc: Global, samples: &[Sample], m: u32, tile: u32) -> Result<Profile, Memory>
+    requires shortest { MIN_WINDOW ≤ m }
+    requires longest { m ≤ MAX_WINDOW }
+    requires samples { length samples.now ≤ MAX_SAMPLES }
+    requires least { 1 ≤ tile }
+    requires greatest { tile ≤ MAX_TILE }
+{
+    let count = windows(samples.len() as u64, m);
+    let mut profile: Profile = unit(alloc, count)?;
+    let cut = cut_own(count, excl(m), tile);
+    for k in 0..cut.count() {
+        scan_own(samples, m, &cut.tile(k), &mut profile);
+    }
+    Ok(profile)
+}
+
+/// A series of few numbers, so that many distances are equal, in which about one sample in eight is missing.
+fn ties(alloc: Global, count: u64, seed: u64) -> Result<Vec<Sample>, Memory>
+    ensures { IfOk result (λ samples. vec_len samples ≡ count) }
+{
+    let mut samples = Vec::new(alloc);
+    let mut state = seed;
+    for _ in 0..count {
+        state = state
+            .wrapping_mul(6_364_136_223_846_793_005)
+            .wrapping_add(1_442_695_040_888_963_407);
+        samples.push(match state >> 61 {
+            0 => Sample::Missing,
+            1 | 2 => Sample::Value(-1),
+            3 | 4 => Sample::Value(2),
+            _ => Sample::Value(0),
+        })?;
+    }
+    Ok(samples)
+}
+
+#[test]
+fn last_sample_is_missing(rt: HostRuntime) -> Result<(), Fail> {
+    let samples = [
+        value(1),
+        value(2),
+        value(3),
+        value(1),
+        value(2),
+        value(3),
+        GAP,
+    ];
+    let profile = profile(rt.alloc(), samples.as_slice(), 3, 256)?;
+    assert_eq!(rt; profile.len(), 5);
+    assert_eq!(rt;
+        profile.all(),
+        [near(0, 3), near(6, 3), near(6, 0), near(0, 0), None].as_slice()
+    );
+    assert_eq!(rt;
+        profile.left(),
+        [None, None, near(6, 0), near(0, 0), None].as_slice()
+    );
+    assert_eq!(rt;
+        profile.right(),
+        [near(0, 3), near(6, 3), None, None, None].as_slice()
+    );
+    Ok(())
+}
+
+#[test]
+fn middle_sample_is_missing(rt: HostRuntime) -> Result<(), Fail> {
+    let samples = [
+        value(1),
+        value(2),
+        value(3),
+        GAP,
+        value(1),
+        value(2),
+        value(3),
+    ];
+    let profile = profile(rt.alloc(), samples.as_slice(), 3, 256)?;
+    assert_eq!(rt;
+        profile.all(),
+        [near(0, 4), None, None, None, near(0, 0)].as_slice()
+    );
+    Ok(())
+}
+
+#[test]
+fn sums_go_on_past_a_missing_sample(rt: HostRuntime) -> Result<(), Fail> {
+    let samples = [
+        value(1),
+        value(2),
+        GAP,
+        value(1),
+        value(2),
+        value(3),
+        value(1),
+        value(2),
+        value(3),
+    ];
+    let mut profile = profile(rt.alloc(), samples.as_slice(), 3, 1)?;
+    merge_with_unit(rt.alloc(), &mut profile)?;
+    assert_eq!(rt;
+        profile.all(),
+        [
+            None,
+            None,
+            None,
+            near(0, 6),
+            near(6, 6),
+            near(6, 3),
+            near(0, 3)
+        ]
+        .as_slice()
+    );
+    Ok(())
+}
+
+#[test]
+fn units_and_growth(rt: HostRuntime) -> Result<(), Fail> {
+    let mut slots: Slots = unit(rt.alloc(), 2)?;
+    merge_with_unit(rt.alloc(), &mut slots)?;
+    assert_eq!(rt; slots.as_slice(), [None, None].as_slice());
+    let two: Profile = unit(rt.alloc(), 2)?;
+    assert_eq!(rt; two.all(), [None, None].as_slice());
+    assert_eq!(rt; two.left(), [None, None].as_slice());
+    assert_eq!(rt; two.right(), [None, None].as_slice());
+    let mut one = Profile::new(rt.alloc());
+    one.reserve(1)?;
+    assert!(rt; 1 <= one.spare());
+    one.grow();
+    assert_eq!(rt; one.len(), 1);
+    mp_partial::parts_can_move();
+    Ok(())
+}
+
+#[test]
+fn groups_of_three_diagonals(rt: HostRuntime) {
+    let cut = cut_own(10, 1, 3);
+    assert_eq!(rt; cut.count(), 3);
+    assert_eq!(rt; cut.tile(0), Tile { first: 2, last: 4 });
+    assert_eq!(rt; cut.tile(2), Tile { first: 8, last: 9 });
+}
+
+#[test]
+fn tiles_give_what_every_pair_gives(rt: HostRuntime) -> Result<(), Fail> {
+    for seed in 0..6 {
+        let samples = ties(rt.alloc(), 40 + seed, seed)?;
+        let every = mp_plain::profile(rt.alloc(), samples.as_slice(), 3)?;
+        for tile in [1, 2, 7, 256] {
+            let tiled = profile(rt.alloc(), samples.as_slice(), 3, tile)?;
+            assert_eq!(rt; tiled.all(), every.all.as_slice());
+            assert_eq!(rt; tiled.left(), every.left.as_slice());
+            assert_eq!(rt; tiled.right(), every.right.as_slice());
+        }
+    }
+    Ok(())
+}
