@@ -1,0 +1,16 @@
+//! Tests that cross crates: whole runs through the top call, the lines of an input that comes in pieces, the longest
+//! lines and series, the replies of a session, and the calls that take memory.
+#![tactic(auto)]
+
+#[cfg(test)]
+mod cuts;
+#[cfg(test)]
+mod limits;
+#[cfg(test)]
+mod numbers;
+#[cfg(test)]
+mod replies;
+#[cfg(test)]
+mod run;
+#[cfg(test)]
+mod whole_runs;

@@ -1,0 +1,105 @@
+//! The longest lines and the longest series.
+
+use crate::run::{Run, check};
+use mp_session::Feed;
+use mp_session::top::Status;
+use std::alloc::{AllocError, Global};
+use std::process::Abort;
+use std::test::Fail;
+use std::thread::Threads;
+
+/// The most bytes of a line.
+const LINE: usize = 1_048_576;
+
+/// The most samples of a series.
+const SERIES: usize = 262_144;
+
+/// Serves the input for windows of three samples.
+fn check_long<R: Abort + AllocGlobal + Threads>(
+    rt: &R,
+    input: &[u8],
+    output: &str,
+    status: Status,
+) -> Result<(), Fail> {
+    let run = Run {
+        shows: output,
+        words: "--window 3",
+        input,
+        output,
+        status,
+    };
+    check(rt, &run, 65_536)
+}
+
+/// A comment of so many bytes, and what ends it.
+fn comment(alloc: Global, length: usize, end: &str) -> Result<Vec<u8>, AllocError> {
+    let mut line = vec![in alloc; b'#'; length]?;
+    line.extend_from_slice(end.as_bytes())?;
+    Ok(line)
+}
+
+/// A line that appends so many zeros, and what stands behind it.
+fn zeros(alloc: Global, count: usize, end: &str) -> Result<Vec<u8>, AllocError> {
+    let mut input = b"append 0".to_vec(alloc)?;
+    for _ in 0..count {
+        input.extend_from_slice(b" 0")?;
+    }
+    input.extend_from_slice(end.as_bytes())?;
+    Ok(input)
+}
+
+#[test]
+fn one_byte_more_than_the_longest_line_is_kept(rt: HostRuntime) -> Result<(), Fail> {
+    for (length, kept) in [(LINE, LINE), (LINE + 1, LINE + 1), (LINE + 2, LINE + 1)] {
+        let mut feed = Feed::new(rt.alloc())?;
+        let line = comment(rt.alloc(), length, "\n")?;
+        assert_eq!(rt; feed.feed(line.as_slice()).used, length + 1);
+        assert!(rt; feed.is_whole());
+        assert_eq!(rt; feed.line().len(), kept);
+    }
+    Ok(())
+}
+
+#[test]
+fn a_line_that_is_too_long_is_refused(rt: HostRuntime) -> Result<(), Fail> {
+    for (length, end, output, status) in [
+        (LINE, "\n", "", Status::Done),
+        (LINE - 1, "\r\n", "", Status::Done),
+        (LINE + 1, "\n", "refused 1 unknown\n", Status::Refused),
+        (LINE, "\r\n", "refused 1 unknown\n", Status::Refused),
+        (
+            3 * LINE,
+            "\nappend 0 1",
+            "refused 1 unknown\nok 2 1\n",
+            Status::Refused,
+        ),
+    ] {
+        let input = comment(rt.alloc(), length, end)?;
+        check_long(&rt, input.as_slice(), output, status)?;
+    }
+    Ok(())
+}
+
+#[test]
+fn a_series_takes_no_more_than_the_longest(rt: HostRuntime) -> Result<(), Fail> {
+    for (count, end, output, status) in [
+        (SERIES + 1, "\n", "refused 1 full\n", Status::Refused),
+        (
+            SERIES,
+            "\nappend 0 0\n",
+            "ok 1 262144\nrefused 2 full\n",
+            Status::Refused,
+        ),
+        (SERIES, " x\n", "refused 1 sample 262145\n", Status::Refused),
+        (
+            SERIES,
+            "\nappend 0 0 x\n",
+            "ok 1 262144\nrefused 2 sample 2\n",
+            Status::Refused,
+        ),
+    ] {
+        let input = zeros(rt.alloc(), count, end)?;
+        check_long(&rt, input.as_slice(), output, status)?;
+    }
+    Ok(())
+}
