@@ -7,4 +7,5 @@ pub mod ReportLemmas
 pub mod RunLemmas
 pub mod ServeLemmas
 pub mod SessionLemmas
+pub mod TileRuns
 pub mod UnderWay

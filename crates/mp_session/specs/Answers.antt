@@ -2,7 +2,7 @@
 use Rattle.std.specs.Prelude.{◌≡◌, Bool, true, false, length}
 use Rattle.mp_replies.specs.Step as replies
 use Rattle.mp_session.specs.declared.answers.Answer.{Answer}
-use Rattle.mp_session.specs.declared.answers.Answer.TheVariants.{Silent, Refused, Accepted, Columns}
+use Rattle.mp_session.specs.declared.answers.Answer.TheVariants.{Silent, Refused, Accepted, Profile}
 use Rattle.mp_session.specs.declared.answers.ReplyKind.{ReplyKind}
 use Rattle.mp_session.specs.declared.answers.ReplyKind.TheVariants as kinds
 
@@ -10,7 +10,7 @@ abbrev pub answered : Answer → replies.Answer
 answered Silent = replies.Silent
 answered (Refused cause) = replies.Refused cause
 answered (Accepted samples) = replies.Accepted samples
-answered (Columns columns) = replies.Columns 0 columns.all.items columns.left.items columns.right.items
+answered (Profile profile) = replies.Columns 0 profile.all profile.left profile.right
 
 -- what becomes of a line, by its answer
 abbrev pub kind_of : replies.Answer → ReplyKind
@@ -36,4 +36,4 @@ abbrev pub IsReportable : Answer → Type 0
 IsReportable Silent = Unit {0}
 IsReportable (Refused cause) = Unit {0}
 IsReportable (Accepted samples) = Unit {0}
-IsReportable (Columns columns) = (length columns.left.items ≡ length columns.all.items) × (length columns.right.items ≡ length columns.all.items)
+IsReportable (Profile profile) = (length profile.left ≡ length profile.all) × (length profile.right ≡ length profile.all)

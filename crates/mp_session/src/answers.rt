@@ -6,7 +6,7 @@ ghost use Rattle.mp_session.specs.Answers.{answered, is_accepted as is_accepted_
 
 use crate::reports::{ok_text, profile_text, refused_text};
 use mp_nums::{Memory, Text};
-use mp_plain::Columns;
+use mp_partial::Profile;
 use mp_replies::Cause;
 use std::alloc::Global;
 
@@ -41,7 +41,7 @@ pub(crate) enum Answer {
     /// The number of samples, where the command changed it.
     Accepted(Option<u64>),
     /// A profile from its first window on.
-    Columns(Columns),
+    Profile(Profile),
 }
 
 impl Answer {
@@ -51,7 +51,7 @@ impl Answer {
         match self {
             Answer::Silent => ReplyKind::Quiet,
             Answer::Refused(_) => ReplyKind::Refused,
-            Answer::Accepted(_) | Answer::Columns(_) => ReplyKind::Accepted,
+            Answer::Accepted(_) | Answer::Profile(_) => ReplyKind::Accepted,
         }
     }
 
@@ -60,7 +60,7 @@ impl Answer {
     {
         match self {
             Answer::Silent | Answer::Refused(_) => false,
-            Answer::Accepted(_) | Answer::Columns(_) => true,
+            Answer::Accepted(_) | Answer::Profile(_) => true,
         }
     }
 
@@ -73,13 +73,13 @@ impl Answer {
             Answer::Silent => Ok(Text::new(alloc)),
             Answer::Refused(cause) => refused_text(alloc, line, *cause),
             Answer::Accepted(samples) => ok_text(alloc, line, *samples),
-            Answer::Columns(columns) => profile_text(
+            Answer::Profile(profile) => profile_text(
                 alloc,
                 line,
                 0,
-                columns.all.as_slice(),
-                columns.left.as_slice(),
-                columns.right.as_slice(),
+                profile.all(),
+                profile.left(),
+                profile.right(),
             ),
         }
     }

@@ -8,6 +8,7 @@ mod feeds;
 mod field;
 mod laws;
 mod numbers;
+mod profiles;
 mod reports;
 mod sessions;
 mod settings;

@@ -12,10 +12,10 @@ use crate::answers::{Answer, ReplyKind};
 use crate::commands::{Command, parse_line};
 use crate::field::Fields;
 use crate::numbers::read_sample;
+use crate::profiles::profile;
 use crate::settings::Settings;
 use mp_nums::{Memory, Sample, Text};
 use mp_outside::{Gate, Shelf};
-use mp_plain::profile;
 use mp_replies::Cause;
 use mp_series::{MAX_SAMPLES, Samples};
 use std::alloc::{AllocFailed, Global};
@@ -203,9 +203,9 @@ impl Session {
         ensures room { IfOk result (λ prepared. vec_len prepared.samples ≤ self.new.samples.spare) }
         ensures same { IsSameButRoom self.old self.new }
     {
-        let m = self.settings.window();
-        let columns = profile(alloc, self.samples.lend(), m)?;
-        Ok(Prepared::only(alloc, Answer::Columns(columns)))
+        let (m, tile) = (self.settings.window(), self.settings.tile());
+        let profile = profile(alloc, self.samples.lend(), m, tile)?;
+        Ok(Prepared::only(alloc, Answer::Profile(profile)))
     }
 
     /// Takes all that a line needs, its answer ready. It changes nothing but reads and room.

@@ -76,7 +76,8 @@ impl Settings {
 
     /// How many diagonals a tile has.
     pub fn tile(&self) -> u32
-        ensures { result ≡ self.now.tile }
+        ensures value { result ≡ self.now.tile }
+        ensures within { AreWithinLimits self.now }
     {
         self.tile
     }
