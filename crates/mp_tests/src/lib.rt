@@ -1,9 +1,11 @@
-//! Tests that cross crates: whole runs through the top call, the lines of an input that comes in pieces, the longest
-//! lines and series, the replies of a session, and the calls that take memory.
+//! Tests that cross crates: whole runs through the top call, runs that end early, the lines of an input that comes in
+//! pieces, the longest lines and series, the replies of a session, and the calls that take memory.
 #![tactic(auto)]
 
 #[cfg(test)]
 mod cuts;
+#[cfg(test)]
+mod faults;
 #[cfg(test)]
 mod limits;
 #[cfg(test)]
