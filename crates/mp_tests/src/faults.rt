@@ -22,7 +22,7 @@ fn serve_into<R: AllocGlobal + Threads, S: Source, K: Sink>(
     requires { S.given input.old ≤ 2 ^ 127 }
 {
     let alloc = rt.alloc();
-    let words = words
+    let words: Vec<String> = words
         .iter()
         .map(|word| String::from_str(alloc, word))
         .try_collect(alloc)?;
