@@ -1,0 +1,25 @@
+-- How many bytes a number takes.
+use Rattle.std.proofs.Common.{◌≡◌, ℕ, ◌+◌, ◌-◌, ◌*◌, ◌/◌, ◌^◌, ◌<◌, ◌≤◌, length, decimal, arith, sym}
+use Rattle.std.proofs.Math.Nat.{one-le-pow, div-lt_iff_lt-mul, div-le_self}
+use Rattle.std.proofs.lemmas.Nat.{pow-add}
+use Rattle.std.proofs.lemmas.Fmt.{length-decimal-le}
+
+pub unit-positive : (scale : ℕ) → 0 < 10 ^ scale
+unit-positive scale = omega (arith, one-le-pow scale 10 (omega arith))
+
+pub unit-fits : (scale : ℕ) → scale ≤ 9 → 10 ^ scale ≤ 1000000000
+unit-fits scale small =
+    let whole : 10 ^ (scale + (9 - scale)) ≡ 10 ^ scale * 10 ^ (9 - scale) = pow-add 10 scale (9 - scale) in
+    let all : scale + (9 - scale) ≡ 9 = omega arith in
+    let nine : 10 ^ scale * 10 ^ (9 - scale) ≡ 1000000000 = rw all at (sym whole) in
+    let rest = one-le-pow (9 - scale) 10 (omega arith) in
+    grind arith
+
+pub whole-short : (n scale : ℕ) → scale ≤ 9 → n ≤ 2147483648 → length (decimal (n / 10 ^ scale)) ≤ 10 - scale
+whole-short n scale small fits =
+    let joined : 10 ^ ((10 - scale) + scale) ≡ 10 ^ (10 - scale) * 10 ^ scale = pow-add 10 (10 - scale) scale in
+    let all : (10 - scale) + scale ≡ 10 = omega arith in
+    let ten : 10 ^ (10 - scale) * 10 ^ scale ≡ 10000000000 = rw all at (sym joined) in
+    let below : n < 10 ^ (10 - scale) * 10 ^ scale = omega arith in
+    let short : n / 10 ^ scale < 10 ^ (10 - scale) = (div-lt_iff_lt-mul (unit-positive scale)).1 below in
+    length-decimal-le (10 - scale) (n / 10 ^ scale) (omega arith) short (omega (arith, div-le_self n (10 ^ scale)))

@@ -1,0 +1,3 @@
+pub mod SampleText
+pub mod SampleLaws
+pub mod Spelling
