@@ -1,3 +1,5 @@
 mod NumberLemmas
 mod WritingLemmas
 mod RoundTrip
+mod RecordLemmas
+mod TableLemmas

@@ -1,14 +1,17 @@
-//! Texts of samples: how they are read and written.
+//! Texts of samples, read and written, and tables of samples.
 #![tactic(auto)]
 
 mod laws;
+mod records;
 mod refusal;
 mod spelling;
+mod tables;
 mod writing;
 
 pub use laws::written_samples_are_read_back;
-pub use refusal::SampleFault;
+pub use refusal::{SampleFault, TableFault};
 pub use spelling::{GREATEST_SAMPLE, LEAST_SAMPLE, read_sample};
+pub use tables::read_table;
 pub use writing::write_sample;
 
 #[cfg(test)]

@@ -1,7 +1,9 @@
-//! Texts of samples, read and written.
+//! Texts of samples, read and written, and tables.
 
-use crate::{SampleFault, read_sample, write_sample};
+use crate::{SampleFault, TableFault, read_sample, read_table, write_sample};
 use mp_nums::{Sample, Text};
+use mp_series::Bundle;
+use std::alloc::{AllocError, Global};
 use std::process::Abort;
 use std::test::Fail;
 
@@ -45,5 +47,86 @@ fn samples_are_written(rt: HostRuntime) -> Result<(), Fail> {
     write_sample(Sample::Value(-2147483648), 9, &mut out)?;
     write_sample(Sample::Value(5), 0, &mut out)?;
     assert_eq!(rt; out.as_slice(), b"-0.50?-2.1474836485".as_slice());
+    Ok(())
+}
+
+const DAY: &[u8] = b"time,load,temp\n0,1.0,7.5\n1,2.0,7.5\n2,,7.5\n3,-0.5,7.5\n4,2.0,\"\"\n";
+
+#[test]
+fn columns_are_read_under_a_header(rt: HostRuntime) -> Result<(), Fail> {
+    let table = read_table(rt.alloc(), DAY, &[2, 1], true, 1)?;
+    assert_eq!(rt; table.count(), 2);
+    let value = Sample::Value(75);
+    let temperatures = [value, value, value, value, Sample::Missing];
+    assert_eq!(rt; table.series(0), temperatures.as_slice());
+    let loads = [
+        Sample::Value(10),
+        Sample::Value(20),
+        Sample::Missing,
+        Sample::Value(-5),
+        Sample::Value(20),
+    ];
+    assert_eq!(rt; table.series(1), loads.as_slice());
+    Ok(())
+}
+
+#[test]
+fn no_bytes_are_empty_columns(rt: HostRuntime) -> Result<(), Fail> {
+    let table = read_table(rt.alloc(), b"", &[0, 3], true, 0)?;
+    assert_eq!(rt; table.count(), 2);
+    assert_eq!(rt; table.series(1), [].as_slice());
+    Ok(())
+}
+
+fn fault_of(table: Result<Bundle, TableFault>) -> Option<TableFault> {
+    table.err()
+}
+
+#[test]
+fn the_first_fault_is_told(rt: HostRuntime) {
+    let ragged = b"1,2\n3,4\n5,6\n7\n9,10\n";
+    let no_field = TableFault::NoField {
+        number: 4,
+        column: 1,
+    };
+    assert_eq!(rt;
+        fault_of(read_table(rt.alloc(), ragged, &[1], false, 0)),
+        Some(no_field)
+    );
+    let header = TableFault::Record {
+        number: 1,
+        column: 1,
+        fault: SampleFault::Form,
+    };
+    assert_eq!(rt;
+        fault_of(read_table(rt.alloc(), DAY, &[1, 0], false, 1)),
+        Some(header)
+    );
+}
+
+fn zeros(alloc: Global, records: u64) -> Result<Vec<u8>, AllocError> {
+    let mut text = Vec::new(alloc);
+    for _ in 0..records {
+        text.extend_from_slice(b"0\n")?;
+    }
+    Ok(text)
+}
+
+#[test]
+fn the_longest_table_has_262144_records(rt: HostRuntime) -> Result<(), Fail> {
+    let longest = zeros(rt.alloc(), 262144)?;
+    assert_eq!(rt;
+        fault_of(read_table(rt.alloc(), longest.as_slice(), &[0], false, 0)),
+        None
+    );
+    let longer = zeros(rt.alloc(), 262145)?;
+    assert_eq!(rt;
+        fault_of(read_table(rt.alloc(), longer.as_slice(), &[0], false, 0)),
+        Some(TableFault::Rows)
+    );
+    assert_eq!(rt;
+        fault_of(read_table(rt.alloc(), longer.as_slice(), &[0], true, 0)),
+        None
+    );
     Ok(())
 }

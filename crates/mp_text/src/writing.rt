@@ -1,6 +1,6 @@
 //! Samples that are written as their texts.
 
-ghost use Rattle.std.specs.Prelude.{◌≡◌, ◌+◌, ◌/◌, ◌^◌, ◌<◌, ◌≤◌, ◌∷◌, [], ◌++◌, length, decimal, Ok, Some, OnOk, OnErr, unsigned_abs};
+ghost use Rattle.std.specs.Prelude.{◌≡◌, ◌+◌, ◌/◌, ◌^◌, ◌<◌, ◌≤◌, ◌∷◌, [], ◌++◌, length, decimal, Ok, Some, IsOk, OnOk, OnErr, unsigned_abs};
 ghost use Rattle.mp_defs.specs.Series.{reading_of};
 ghost use Rattle.mp_text.specs.SampleText.{last_digits, fraction_text, magnitude_text, number_text, sample_of, sample_text};
 
@@ -17,6 +17,7 @@ pub fn write_sample(sample: Sample, scale: u8, out: &mut Text) -> Result<(), Mem
     requires { scale ≤ 9 }
     ensures ok { OnOk result (out.new.items ≡ out.old.items ++ sample_text scale (reading_of sample)) }
     ensures err { OnErr result (out.new.items ≡ out.old.items) }
+    ensures succeeds { 12 ≤ out.old.spare → IsOk result }
     ensures read_back { OnOk result
         (sample_of LEAST_SAMPLE GREATEST_SAMPLE scale (sample_text scale (reading_of sample)) ≡ Ok (reading_of sample)) }
 {

@@ -1,0 +1,155 @@
+-- Series that are gathered record by record.
+use Rattle.std.proofs.Common.{◌≡◌, ℕ, ◌+◌, ◌<◌, List, [], ◌∷◌, ◌++◌, length, get_or, set, take, drop, map, refl, sym, ap, ◌∙◌, arith, append_assoc, Vec, Option, Some, None, Result, Ok, Err, OnOk, Bool, false, true, replicate, ◌==◌}
+use Rattle.std.specs.declared.alloc.Global.{Global}
+use Rattle.std.proofs.lemmas.List.{map-set, get_or-map, map-append, take_more, drop_more, take-append-drop, length-map, length-take-le, append-nil}
+use Rattle.std.specs.Result.{is_err}
+use Rattle.std.specs.Bool.{MatchBool}
+use Rattle.std.proofs.lemmas.Bool.Decides.{nat_tests}
+use Rattle.mp_text.specs.declared.refusal.TableFault.TheVariants as table
+use Rattle.std.proofs.Math.Seq.{get_or-append_seam, set-append_seam}
+use Rattle.mp_text.specs.declared.refusal.TableFault.{TableFault}
+use Rattle.mp_nums.specs.declared.samples.Sample.{Sample}
+use Rattle.mp_defs.specs.Series.{Series, reading_of, series_of}
+use Rattle.mp_text.specs.Table.{Fields, added, cell, cell_fault, column_of, first_of, record_fault, table_fault, table_of, unless_faulty}
+use Rattle.csv.specs.Records.{field_at}
+
+pub added-pushed : (gathered : List (Vec Sample Global)) (k : ℕ) (old new : Vec Sample Global) (sample : Sample)
+    → k < length gathered → old ≡ get_or gathered k old → new.items ≡ old.items ++ sample ∷ []
+    → map (λ series. series_of series.items) (set gathered k new) ≡ added (map (λ series. series_of series.items) gathered) k (reading_of sample)
+added-pushed gathered k old new sample within is items =
+    let f : Vec Sample Global → Series = λ series. series_of series.items in
+    let before : get_or (map f gathered) k [] ≡ f old = get_or-map f gathered k old [] within ∙ ap f (sym is) in
+    let after : f new ≡ f old ++ reading_of sample ∷ [] = ap (map reading_of) items ∙ map-append reading_of old.items (sample ∷ []) in
+    map-set f gathered k new ∙ ap (λ v. set (map f gathered) k v) (after ∙ ap (λ v. v ++ reading_of sample ∷ []) (sym before))
+
+-- ---- faults
+
+first_of-assoc : (a b c : Option TableFault) → first_of (first_of a b) c ≡ first_of a (first_of b c)
+first_of-assoc None b c = refl
+first_of-assoc (Some e) b c = refl
+
+record_fault-append : (scale number : ℕ) (fields : Fields) (xs ys : List ℕ) → record_fault scale number fields (xs ++ ys) ≡ first_of (record_fault scale number fields xs) (record_fault scale number fields ys)
+record_fault-append scale number fields [] ys = refl
+record_fault-append scale number fields (x ∷ xs) ys =
+    ap (first_of (cell_fault scale number x (field_at fields x))) (record_fault-append scale number fields xs ys)
+    ∙ sym (first_of-assoc (cell_fault scale number x (field_at fields x)) (record_fault scale number fields xs) (record_fault scale number fields ys))
+
+pub fine_more : (scale number : ℕ) (fields : Fields) (columns : List ℕ) (k : ℕ) → k < length columns → record_fault scale number fields (take k columns) ≡ None
+    → cell_fault scale number (get_or columns k 0) (field_at fields (get_or columns k 0)) ≡ None → record_fault scale number fields (take (k + 1) columns) ≡ None
+fine_more scale number fields columns k within fine cell_fine =
+    rw (take_more columns k 0 within, record_fault-append, fine, cell_fine) refl
+
+pub fault_at : (scale number : ℕ) (fields : Fields) (columns : List ℕ) (k : ℕ) (fault : TableFault) → k < length columns → record_fault scale number fields (take k columns) ≡ None
+    → cell_fault scale number (get_or columns k 0) (field_at fields (get_or columns k 0)) ≡ Some fault → record_fault scale number fields columns ≡ Some fault
+fault_at scale number fields columns k fault within fine faulty =
+    let whole : take k columns ++ get_or columns k 0 ∷ drop (k + 1) columns ≡ columns =
+    ap (λ (rest : List ℕ). take k columns ++ rest) (sym (drop_more columns k 0 within)) ∙ take-append-drop k columns in
+    let parts : record_fault scale number fields (take k columns ++ get_or columns k 0 ∷ drop (k + 1) columns) ≡ Some fault =
+    record_fault-append scale number fields (take k columns) (get_or columns k 0 ∷ drop (k + 1) columns)
+    ∙ ap (λ (o : Option TableFault). first_of o (record_fault scale number fields (get_or columns k 0 ∷ drop (k + 1) columns))) fine
+    ∙ ap (λ (o : Option TableFault). first_of o (record_fault scale number fields (drop (k + 1) columns))) faulty in
+    ap (record_fault scale number fields) (sym whole) ∙ parts
+
+-- ---- one record more
+
+column_of-more : (scale : ℕ) (rows : List Fields) (fields : Fields) (column : ℕ) → column_of scale (rows ++ fields ∷ []) column ≡ column_of scale rows column ++ cell scale (field_at fields column) ∷ []
+column_of-more scale rows fields column = map-append (λ (f : Fields). cell scale (field_at f column)) rows (fields ∷ [])
+
+-- a sample more in the series at k
+pub series_more : (scale : ℕ) (rows : List Fields) (fields : Fields) (columns : List ℕ) (k : ℕ) (series : List Series) → k < length columns
+    → series ≡ map (column_of scale (rows ++ fields ∷ [])) (take k columns) ++ map (column_of scale rows) (drop k columns)
+    → added series k (cell scale (field_at fields (get_or columns k 0)))
+    ≡ map (column_of scale (rows ++ fields ∷ [])) (take (k + 1) columns) ++ map (column_of scale rows) (drop (k + 1) columns)
+series_more scale rows fields columns k series within is =
+    let column = get_or columns k 0 in
+    let new : ℕ → Series = column_of scale (rows ++ fields ∷ []) in
+    let old : ℕ → Series = column_of scale rows in
+    let front : List Series = map new (take k columns) in
+    let back : List Series = map old (drop (k + 1) columns) in
+    let long : length front ≡ k = length-map (take k columns) new ∙ length-take-le k columns (omega arith) in
+    let split : series ≡ front ++ old column ∷ back = is ∙ ap (λ (rest : List ℕ). front ++ map old rest) (drop_more columns k 0 within) in
+    let at : get_or (front ++ old column ∷ back) k [] ≡ old column =
+    ap (λ (n : ℕ). get_or (front ++ old column ∷ back) n []) (sym long) ∙ get_or-append_seam front (old column) back [] in
+    let put : (value : Series) → set (front ++ old column ∷ back) k value ≡ front ++ value ∷ back =
+    λ (value : Series). ap (λ (n : ℕ). set (front ++ old column ∷ back) n value) (sym long) ∙ set-append_seam front (old column) back value in
+    let grown : added (front ++ old column ∷ back) k (cell scale (field_at fields column)) ≡ front ++ new column ∷ back =
+    ap (λ (v : Series). set (front ++ old column ∷ back) k (v ++ cell scale (field_at fields column) ∷ [])) at
+    ∙ put (old column ++ cell scale (field_at fields column) ∷ [])
+    ∙ ap (λ (v : Series). front ++ v ∷ back) (sym (column_of-more scale rows fields column)) in
+    let taken : map new (take (k + 1) columns) ≡ front ++ new column ∷ [] = ap (map new) (take_more columns k 0 within) ∙ map-append new (take k columns) (column ∷ []) in
+    ap (λ (ss : List Series). added ss k (cell scale (field_at fields column))) split
+    ∙ grown
+    ∙ sym (append_assoc front (new column ∷ []) back)
+    ∙ ap (λ (f : List Series). f ++ back) (sym taken)
+
+pub ok_part : {T E : Type 0} → (r : Result T E) (P : Type 0) → is_err r ≡ false → OnOk r P → P
+ok_part (Ok x) P h p = p
+ok_part (Err e) P h p = absurd (cc h)
+
+-- ---- records in turn
+
+pub table_fault-fine : (scale number : ℕ) (columns : List ℕ) (fields : Fields) (rest : List Fields) → number < 262145 → record_fault scale number fields columns ≡ None
+    → table_fault scale columns number (fields ∷ rest) ≡ table_fault scale columns (number + 1) rest
+table_fault-fine scale number columns fields rest few fine =
+    let below : number == 262145 ≡ false = grind (arith, nat_tests) in
+    rw (below, fine) refl
+
+pub table_fault-faulty : (scale number : ℕ) (columns : List ℕ) (fields : Fields) (rest : List Fields) (fault : TableFault) → number < 262145
+    → record_fault scale number fields columns ≡ Some fault → table_fault scale columns number (fields ∷ rest) ≡ Some fault
+table_fault-faulty scale number columns fields rest fault few faulty =
+    let below : number == 262145 ≡ false = grind (arith, nat_tests) in
+    rw (below, faulty) refl
+
+pub table_fault-full : (scale number : ℕ) (columns : List ℕ) (fields : Fields) (rest : List Fields) → number ≡ 262145
+    → table_fault scale columns number (fields ∷ rest) ≡ Some table.Rows
+table_fault-full scale number columns fields rest full = rw full refl
+
+-- what was gathered of some records, whose first fault is known so far
+pub record Gathered (scale : ℕ) (columns : List ℕ) (all left : List Fields) (number : ℕ) (series : List Series) : Type 0 where
+  pub done : List Fields
+  pub whole : all ≡ done ++ left
+  pub series_is : series ≡ map (column_of scale done) columns
+  pub faults : table_fault scale columns 1 all ≡ table_fault scale columns number left
+
+pub gathered_none : (scale : ℕ) (columns : List ℕ) (all : List Fields) (series : List Series) → series ≡ replicate (length columns) [] → Gathered scale columns all all 1 series
+gathered_none scale columns all series is = record { done = []; whole = refl; series_is = is ∙ none columns; faults = refl }
+  where
+    none : (cs : List ℕ) → replicate (length cs) [] ≡ map (column_of scale []) cs
+    none [] = refl
+    none (c ∷ cs) = ap (λ (ss : List Series). [] ∷ ss) (none cs)
+
+pub gathered_more : (scale : ℕ) (columns : List ℕ) (all left rest : List Fields) (fields : Fields) (number : ℕ) (series grown : List Series) → Gathered scale columns all left number series
+    → left ≡ fields ∷ rest → number < 262145 → record_fault scale number fields columns ≡ None
+    → ((rows : List Fields) → series ≡ map (column_of scale rows) columns → grown ≡ map (column_of scale (rows ++ fields ∷ [])) columns)
+    → Gathered scale columns all rest (number + 1) grown
+gathered_more scale columns all left rest fields number series grown g is few fine more = record {
+  done = g.done ++ fields ∷ [];
+  whole = g.whole ∙ ap (λ (rows : List Fields). g.done ++ rows) is ∙ sym (append_assoc g.done (fields ∷ []) rest);
+  series_is = more g.done g.series_is;
+  faults = g.faults ∙ ap (table_fault scale columns number) is ∙ table_fault-fine scale number columns fields rest few fine;
+}
+
+pub gathered_all : (scale : ℕ) (columns : List ℕ) (all left : List Fields) (number : ℕ) (series : List Series) → Gathered scale columns all left number series
+    → left ≡ [] → table_of scale columns all ≡ Ok series
+gathered_all scale columns all left number series g none =
+    let fine : table_fault scale columns 1 all ≡ None = g.faults ∙ ap (table_fault scale columns number) none in
+    let done : all ≡ g.done = g.whole ∙ ap (λ (rows : List Fields). g.done ++ rows) none ∙ append-nil g.done in
+    ap (λ (o : Option TableFault). unless_faulty o (map (column_of scale all) columns)) fine
+    ∙ ap Ok (ap (λ (rows : List Fields). map (column_of scale rows) columns) done ∙ sym g.series_is)
+
+pub gathered_fault : (scale : ℕ) (columns : List ℕ) (all left : List Fields) (number : ℕ) (series : List Series) (fault : TableFault) → Gathered scale columns all left number series
+    → table_fault scale columns number left ≡ Some fault → table_of scale columns all ≡ Err fault
+gathered_fault scale columns all left number series fault g faulty =
+    ap (λ (o : Option TableFault). unless_faulty o (map (column_of scale all) columns)) (g.faults ∙ faulty)
+
+pub found_part : (b : Bool) (P Q : Type 0) → b ≡ true → MatchBool b P Q → P
+found_part true P Q h p = p
+found_part false P Q h p = absurd (cc h)
+
+pub none_part : (b : Bool) (P Q : Type 0) → b ≡ false → MatchBool b P Q → Q
+none_part true P Q h p = absurd (cc h)
+none_part false P Q h p = p
+
+-- a table of no record
+pub table_of-none : (scale : ℕ) (columns : List ℕ) (series : List Series) → series ≡ replicate (length columns) [] → table_of scale columns [] ≡ Ok series
+table_of-none scale columns series is = gathered_all scale columns [] [] 1 series (gathered_none scale columns [] series is) refl

@@ -1,0 +1,12 @@
+use Rattle.std.proofs.Common.{◌≡◌, ◌∷◌, ◌++◌, [], List, None, length, take, drop, map, vec_len}
+use Rattle.csv.specs.Records.{fields_of}
+use Rattle.mp_text.specs.Table.{Fields, column_of, record_fault, series_in}
+use Rattle.mp_text.proofs.tables.gather.Given as goal
+
+abbrev pub invariant-loop-k : goal.invariant-loop-k
+invariant-loop-k l = record {
+  len : vec_len l.series ≡ length l.columns;
+  fine : record_fault l.scale l.number (fields_of l.row) (take l.k l.columns) ≡ None;
+  series : (rows : List Fields) → series_in l.initial.series ≡ map (column_of l.scale rows) l.columns
+      → series_in l.series ≡ map (column_of l.scale (rows ++ fields_of l.row ∷ [])) (take l.k l.columns) ++ map (column_of l.scale rows) (drop l.k l.columns);
+}
