@@ -56,7 +56,8 @@ fn offer_slot(slot: &mut Slot, found: Near) -> bool
     ensures kept { result ≡ false → slot.new ≡ slot.old }
 {
     let taken = match *slot {
-        Some(near) => found < near,
+        // most windows are farther, which their distance alone tells
+        Some(near) => found.dist <= near.dist && found < near,
         None => true,
     };
     if taken {

@@ -11,7 +11,7 @@ use std::alloc::Global;
 use std::marker::Model;
 
 /// For each window, by its start, the nearest of the windows that it was compared with, the nearest of those that start
-/// earlier, and the nearest of those that start later. Windows without a missing sample alone are offered.
+/// earlier, and the nearest of those that start later.
 #[derive(Debug, Drop)]
 pub struct Profile {
     all: Slots,

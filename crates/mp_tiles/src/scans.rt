@@ -32,6 +32,8 @@ fn offer_pair(into: &mut Profile, i: u64, j: u64, dist: Option<u128>)
 }
 
 /// Offers the pairs of diagonal `d` to each other, of which there are `rows`.
+// apart from the loops around it, so that these take no registers from it
+#[inline(never)]
 fn scan_diagonal(samples: &[Sample], m: u32, d: u64, rows: u64, into: &mut Profile)
     requires shortest { 1 ≤ m }
     requires apart { 1 ≤ d }
