@@ -1,5 +1,6 @@
 -- One line more in a run.
 use Rattle.std.proofs.Common.{◌≡◌, ℕ, ◌+◌, ◌≤◌, Bool, true, false, ◌||◌, List, [], ◌∷◌, ◌++◌, length, take, drop, refl, arith, ap, ◌∙◌, sym, subst, append_assoc, append-nil, length-append}
+use Rattle.std.proofs.Math.Bool.{or-false, or_assoc}
 use Rattle.std.specs.Prelude.{Option, Some, None, is_some, Result, Ok, Err, OnErr, if◌then◌else◌}
 use Rattle.std.proofs.lemmas.List.{take-append-le}
 use Rattle.std.proofs.Math.Seq.{take-append-add, take-append_seam}
@@ -21,25 +22,20 @@ state_after_more : (state : State) (files : Files) (ran : List (List ℕ)) (line
 state_after_more state files [] line = refl
 state_after_more state files (first ∷ ran) line = state_after_more (after state first files) files ran line
 
+reports_append : (state : State) (files : Files) (ran more : List (List ℕ)) → reports state files (ran ++ more) ≡ reports state files ran ++ reports (state_after state files ran) files more
+reports_append state files [] more = refl
+reports_append state files (first ∷ ran) more =
+    ap (λ text. reply state first files ++ text) (reports_append (after state first files) files ran more)
+    ∙ sym (append_assoc (reply state first files) (reports (after state first files) files ran) (reports (state_after (after state first files) files ran) files more))
+
 reports_more : (state : State) (files : Files) (ran : List (List ℕ)) (line : List ℕ) → reports state files (ran ++ line ∷ []) ≡ reports state files ran ++ reply (state_after state files ran) line files
-reports_more state files [] line = append-nil (reply state line files)
-reports_more state files (first ∷ ran) line =
-    ap (λ text. reply state first files ++ text) (reports_more (after state first files) files ran line)
-    ∙ sym (append_assoc (reply state first files) (reports (after state first files) files ran) (reply (state_after (after state first files) files ran) line files))
-
-or_assoc : (a b c : Bool) → (a || (b || c)) ≡ ((a || b) || c)
-or_assoc true b c = refl
-or_assoc false b c = refl
-
-or_false : (b : Bool) → (b || false) ≡ b
-or_false true = refl
-or_false false = refl
+reports_more state files ran line = reports_append state files ran (line ∷ []) ∙ ap (λ text. reports state files ran ++ text) (append-nil (reply (state_after state files ran) line files))
 
 some_refused_more : (state : State) (files : Files) (ran : List (List ℕ)) (line : List ℕ) → some_refused state files (ran ++ line ∷ []) ≡ (some_refused state files ran || is_some (cause (state_after state files ran) line files))
-some_refused_more state files [] line = or_false (is_some (cause state line files))
+some_refused_more state files [] line = or-false (is_some (cause state line files))
 some_refused_more state files (first ∷ ran) line =
     ap (λ b. is_some (cause state first files) || b) (some_refused_more (after state first files) files ran line)
-    ∙ or_assoc (is_some (cause state first files)) (some_refused (after state first files) files ran) (is_some (cause (state_after (after state first files) files ran) line files))
+    ∙ sym (or_assoc (is_some (cause state first files)) (some_refused (after state first files) files ran) (is_some (cause (state_after (after state first files) files ran) line files)))
 
 -- ---- what becomes of a refused line
 
@@ -122,15 +118,6 @@ front_of_line setup ran line text old refused first old_told new_told room run t
 
 -- ---- more lines at once
 
-reports_append : (state : State) (files : Files) (ran more : List (List ℕ)) → reports state files (ran ++ more) ≡ reports state files ran ++ reports (state_after state files ran) files more
-reports_append state files [] more = refl
-reports_append state files (first ∷ ran) more =
-    ap (λ text. reply state first files ++ text) (reports_append (after state first files) files ran more)
-    ∙ sym (append_assoc (reply state first files) (reports (after state first files) files ran) (reports (state_after (after state first files) files ran) files more))
-
-take_longer : (k : ℕ) (xs ys : List ℕ) → k ≤ length xs → take k (xs ++ ys) ≡ take k xs
-take_longer k xs ys h = take-append-le k xs ys h
-
 -- a front of the reports is a front of more of them
 pub front_longer : (setup : Setup) (ran more : List (List ℕ)) (first now : Option (List ℕ)) (room : ℕ) → HasFront setup ran first room now → HasFront setup (ran ++ more) first room now
 front_longer setup ran more first now room front files before e fits =
@@ -141,7 +128,7 @@ front_longer setup ran more first now room front files before e fits =
     let told : TellsPrefix now before so_far = front files before e fits_first in (
       told.0,
       omega (arith, length-append so_far others, ap length whole, told.1),
-      told.2 ∙ ap (λ t. Some (before ++ t)) (sym (take_longer told.0 so_far others told.1) ∙ ap (take told.0) (sym whole)),
+      told.2 ∙ ap (λ t. Some (before ++ t)) (sym (take-append-le told.0 so_far others told.1) ∙ ap (take told.0) (sym whole)),
     )
 
 -- nothing was run since

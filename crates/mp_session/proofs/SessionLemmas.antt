@@ -1,5 +1,6 @@
 -- A line's step is the step of the command that it asks for.
-use Rattle.std.proofs.Common.{◌≡◌, ℕ, ◌+◌, Bool, true, false, ◌||◌, arith, List, [], refl, ap, ◌∙◌, sym, subst, append-nil}
+use Rattle.std.proofs.Common.{◌≡◌, ℕ, ◌+◌, false, arith, List, [], refl, ap, ◌∙◌, sym, subst, append-nil}
+use Rattle.std.proofs.Math.Bool.{or-false}
 use Rattle.std.specs.Prelude.{None, Ok, Err}
 use Rattle.mp_replies.specs.declared.causes.Cause.{Cause}
 use Rattle.mp_replies.specs.State.{Files, State}
@@ -39,14 +40,10 @@ pub refused_by_line : (held : Held) (line : List ℕ) (why : Cause) → command_
 unfolding cause
 refused_by_line held line why e files = rw e refl
 
-or_false : (b : Bool) → (b || false) ≡ b
-or_false false = refl
-or_false true = refl
-
 -- an answer that adds nothing and doesn't begin the session leaves the count alone changed
 counted_with : (held : Held) (given : Answer) (samples : List Sample) → is_accepted given ≡ false → samples ≡ [] → state_with held given samples ≡ counted (state_of held)
 counted_with held given samples a s =
-    rw (a, s, or_false held.begun, append-nil held.samples.items) refl
+    rw (a, s, or-false held.begun, append-nil held.samples.items) refl
 
 pub step_by_blank : (held : Held) (line : List ℕ) (prepared : Prepared) → command_of line ≡ Ok Blank → prepared.answer ≡ answers.Silent → prepared.samples.items ≡ [] → IsStep held line prepared
 step_by_blank held line prepared e a s = step_by_command held line Blank prepared e record {

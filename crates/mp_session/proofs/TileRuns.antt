@@ -1,8 +1,8 @@
 -- The pairs of tiles, one tile after another.
-use Rattle.std.proofs.Common.{◌≡◌, ℕ, zero, suc, ◌+◌, ◌<◌, ◌≤◌, Bool, true, false, List, [], ◌∷◌, ◌++◌, length, take, replicate, refl, arith, ap, ◌∙◌, sym, subst}
+use Rattle.std.proofs.Common.{◌≡◌, ℕ, ◌+◌, ◌<◌, ◌≤◌, Bool, true, false, List, [], ◌∷◌, ◌++◌, length, take, refl, arith, ap, ◌∙◌, sym, subst}
+use Rattle.std.proofs.Math.Bool.{or-false}
 use Rattle.std.specs.Prelude.{Option, Some, None, ◌&&◌, ◌||◌, All, nat_lt, count_by, slice_get, if◌then◌else◌, ⊤}
 use Rattle.std.specs.List.{list_any}
-use Rattle.std.specs.Int.{abs_diff}
 use Rattle.std.proofs.lemmas.Bool.Decides.{nat_tests}
 use Rattle.std.proofs.lemmas.List.{take_all, take_more, length-replicate}
 use Rattle.std.proofs.lemmas.List.Folds.{list_any-append}
@@ -11,18 +11,17 @@ use Rattle.std.proofs.lemmas.List.FromFn.{length-map-range_with_len}
 use Rattle.std.proofs.lemmas.Option.{slice_get_within, get_or_from_slice_get}
 use Rattle.mp_nums.specs.declared.nearest.Near.{Near}
 use Rattle.mp_nums.specs.Near.{nearer_of}
-use Rattle.mp_nums.specs.declared.samples.Sample.{Sample}
-use Rattle.mp_defs.specs.Series.{Series, series_of}
-use Rattle.mp_defs.specs.Window.{windows, excl, is_allowed}
+use Rattle.mp_defs.specs.Series.{Series}
+use Rattle.mp_defs.specs.Window.{excl, is_allowed}
 use Rattle.mp_defs.specs.Profile.{column, entry, left_entry, right_entry, windows_of}
 use Rattle.mp_partial.specs.Values.{Column, Value, empty_column, empty_columns, merged_column}
 use Rattle.mp_partial.specs.MergeLaws.{nearer_with_none, zip_unit_first}
 use Rattle.mp_partial.specs.Profiled.{Profiled}
 use Rattle.mp_tiles.specs.declared.cuts.Tile.{Tile}
 use Rattle.mp_tiles.specs.Pairs.{has_pair, IsTileOf}
-use Rattle.mp_tiles.specs.Among.{all_column, left_column, right_column, entry_among, left_among, right_among}
+use Rattle.mp_tiles.specs.Among.{entry_among, left_among, right_among}
 use Rattle.mp_tiles.specs.Scanning.{HasPlaces, IsScanned}
-use Rattle.mp_tiles.proofs.AmongLemmas.{nearest_same, column_same, scanned_none, scanned_then, scanned_same, windows_same}
+use Rattle.mp_tiles.proofs.AmongLemmas.{nearest_same, column_same, scanned_none, scanned_then, scanned_same}
 
 -- the pairs of the first k tiles
 abbrev pub pairs_before : List Tile → ℕ → ℕ → ℕ → Bool
@@ -32,15 +31,11 @@ pairs_before tiles k i j = list_any (λ t. has_pair t i j) (take k tiles)
 abbrev pub apart : ℕ → ℕ → ℕ → Bool
 apart zone i j = nat_lt (i + zone) j
 
-or_false : (b : Bool) → (b || false) ≡ b
-or_false true = refl
-or_false false = refl
-
 next_pairs : (tiles : List Tile) (k : ℕ) (t : Tile) (i j : ℕ) → slice_get tiles k ≡ Some t → (pairs_before tiles k i j || has_pair t i j) ≡ pairs_before tiles (k + 1) i j
 next_pairs tiles k t i j e =
     let has : Tile → Bool = λ t. has_pair t i j in
     sym (ap (list_any has) (take_more tiles k t (slice_get_within tiles k t e) ∙ ap (λ x. take k tiles ++ x ∷ []) (get_or_from_slice_get tiles k t t e))
-    ∙ (list_any-append has (take k tiles) (t ∷ []) ∙ ap (λ b. list_any has (take k tiles) || b) (or_false (has t))))
+    ∙ (list_any-append has (take k tiles) (t ∷ []) ∙ ap (λ b. list_any has (take k tiles) || b) (or-false (has t))))
 
 any_by : (b : Bool) (n : ℕ) → (b || nat_lt 0 n) ≡ nat_lt 0 ((if b then 1 else 0) + n)
 any_by b n = grind (arith, nat_tests)

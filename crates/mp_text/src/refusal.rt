@@ -1,3 +1,5 @@
+//! Why a text is refused.
+
 use mp_nums::Memory;
 use thiserror::Error;
 

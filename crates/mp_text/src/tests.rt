@@ -50,23 +50,91 @@ fn samples_are_written(rt: HostRuntime) -> Result<(), Fail> {
     Ok(())
 }
 
-const DAY: &[u8] = b"time,load,temp\n0,1.0,7.5\n1,2.0,7.5\n2,,7.5\n3,-0.5,7.5\n4,2.0,\"\"\n";
+const DAY: &[u8] = b"time,load,temp
+0,1.0,7.5
+1,2.0,7.5
+2,,7.5
+3,1.0,7.5
+4,2.0,\"\"
+5,3.0,7.5
+6,1.0,7.5
+7,2.0,7.5
+8,3.0,7.5
+";
+
+const NONE: Sample = Sample::Missing;
+
+fn value(number: i32) -> Sample {
+    Sample::Value(number)
+}
 
 #[test]
 fn columns_are_read_under_a_header(rt: HostRuntime) -> Result<(), Fail> {
-    let table = read_table(rt.alloc(), DAY, &[2, 1], true, 1)?;
+    let table = read_table(rt.alloc(), DAY, &[1, 2], true, 1)?;
     assert_eq!(rt; table.count(), 2);
-    let value = Sample::Value(75);
-    let temperatures = [value, value, value, value, Sample::Missing];
-    assert_eq!(rt; table.series(0), temperatures.as_slice());
-    let loads = [
-        Sample::Value(10),
-        Sample::Value(20),
-        Sample::Missing,
-        Sample::Value(-5),
-        Sample::Value(20),
+    let (one, two, three) = (value(10), value(20), value(30));
+    let loads = [one, two, NONE, one, two, three, one, two, three];
+    assert_eq!(rt; table.series(0), loads.as_slice());
+    let warm = value(75);
+    let temperatures = [warm, warm, warm, warm, NONE, warm, warm, warm, warm];
+    assert_eq!(rt; table.series(1), temperatures.as_slice());
+    Ok(())
+}
+
+#[test]
+fn columns_come_in_the_order_given(rt: HostRuntime) -> Result<(), Fail> {
+    let table = read_table(rt.alloc(), b"1,2,3\n4,-0.5,6\n", &[2, 1, 2], false, 1)?;
+    assert_eq!(rt; table.count(), 3);
+    let last = [value(30), value(60)];
+    assert_eq!(rt; table.series(0), last.as_slice());
+    assert_eq!(rt; table.series(1), [value(20), value(-5)].as_slice());
+    assert_eq!(rt; table.series(2), last.as_slice());
+    Ok(())
+}
+
+const MESSY: &[u8] = b"\xEF\xBB\xBFdate,note,level\r\n\
+2012/01/01,\"a, \"\"quoted\"\" word\", 1.5 \r\n\
+2012/01/02,\"two\r\nlines\",NA\r\n\
+\r\n\
+2012/01/03,,nan,more,fields\r\n\
+2012/01/04,,NaN\n\
+\n\
+2012/01/05,,?\r\n\
+2012/01/06,,\r\n\
+2012/01/07,,\" -2.25\"\r\n\
+2012/01/08,,\"3\"";
+
+#[test]
+fn tables_are_read_as_programs_write_them(rt: HostRuntime) -> Result<(), Fail> {
+    let table = read_table(rt.alloc(), MESSY, &[2], true, 2)?;
+    let levels = [
+        value(150),
+        NONE,
+        NONE,
+        NONE,
+        NONE,
+        NONE,
+        value(-225),
+        value(300),
     ];
-    assert_eq!(rt; table.series(1), loads.as_slice());
+    assert_eq!(rt; table.series(0), levels.as_slice());
+    let date = TableFault::Record {
+        number: 1,
+        column: 0,
+        fault: SampleFault::Form,
+    };
+    assert_eq!(rt;
+        fault_of(read_table(rt.alloc(), MESSY, &[0], true, 2)),
+        Some(date)
+    );
+    let fourth_field = TableFault::NoField {
+        number: 1,
+        column: 3,
+    };
+    assert_eq!(rt;
+        fault_of(read_table(rt.alloc(), MESSY, &[3], true, 2)),
+        Some(fourth_field)
+    );
     Ok(())
 }
 

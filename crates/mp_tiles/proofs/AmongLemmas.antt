@@ -1,6 +1,6 @@
 -- What more pairs make of a profile.
-use Rattle.std.proofs.Common.{◌≡◌, ◌≢◌, ℕ, zero, suc, ◌+◌, ◌<◌, ◌≤◌, inl, inr, List, length, get_or, set, Bool, true, false, refl, sym, ap, ◌∙◌, arith, subst}
-use Rattle.std.specs.Prelude.{Option, None, ◌==◌, ◌&&◌, ◌||◌, nat_le, nat_lt, if◌then◌else◌, ⊤}
+use Rattle.std.proofs.Common.{◌≡◌, ◌≢◌, ℕ, zero, suc, ◌+◌, ◌-◌, ◌<◌, ◌≤◌, min, inl, inr, List, length, get_or, set, Bool, true, false, refl, sym, ap, ◌∙◌, arith, subst}
+use Rattle.std.specs.Prelude.{Option, None, ◌==◌, ◌&&◌, ◌||◌, nat_le, if◌then◌else◌, ⊤}
 use Rattle.std.specs.List.{range_with_len}
 use Rattle.std.proofs.lemmas.Bool.{cases_eq}
 use Rattle.std.proofs.lemmas.Bool.Decides.{nat_tests}
@@ -23,7 +23,7 @@ use Rattle.mp_partial.specs.MergeLaws.{nearer_commutes, nearer_associates, neare
 use Rattle.mp_tiles.specs.declared.cuts.Tile.{Tile}
 use Rattle.mp_tiles.specs.Pairs.{has_pair}
 use Rattle.mp_tiles.specs.Among.{entry_among, left_among, right_among, all_column, left_column, right_column}
-use Rattle.mp_tiles.specs.Scanning.{on_diagonal, HasPlaces, IsScanned, taken}
+use Rattle.mp_tiles.specs.Scanning.{on_diagonals, in_block, HasPlaces, IsScanned, taken}
 
 -- ---- the least of more candidates
 
@@ -241,44 +241,72 @@ scanned_pair i j m a old new d h lt lt' is all left right spare =
 pub taken_none : (old : Column) (i : ℕ) → old ≡ taken old i None
 taken_none old i = sym (ap (set old i) ((nearer_with_none (get_or old i None)).1) ∙ set-get_or old i None)
 
--- ---- a diagonal, pair by pair
+-- ---- a block, pair by pair
 
--- the pairs of diagonal d before row n
-abbrev pub rows_before : ℕ → ℕ → ℕ → ℕ → Bool
-rows_before d n i j = on_diagonal d i j && nat_lt i n
+pub no_rows : (first end top bottom i j : ℕ) → bottom ≤ top → in_block first end top bottom i j ≡ false
+no_rows first end top bottom i j le = grind (arith, nat_tests)
 
-pub no_rows : (d i j : ℕ) → rows_before d 0 i j ≡ false
-no_rows d i j = grind (arith, nat_tests)
+pub one_row : (d top n c bottom i j : ℕ) → top ≤ n → c ≡ n + d → bottom ≡ n + 1 → (in_block d (d + 1) top n i j || only n c i j) ≡ in_block d (d + 1) top bottom i j
+one_row d top n c bottom i j le e f = grind (arith, nat_tests)
 
-pub one_row : (d n i j : ℕ) → (rows_before d n i j || only n (n + d) i j) ≡ rows_before d (n + 1) i j
-one_row d n i j = grind (arith, nat_tests)
+-- ---- a block, diagonal by diagonal
 
-pub all_rows : (d n w i j : ℕ) → n + d ≡ w → j < w → rows_before d n i j ≡ on_diagonal d i j
-all_rows d n w i j e lt = grind (arith, nat_tests)
+pub no_diagonals : (first end top bottom i j : ℕ) → end ≤ first → in_block first end top bottom i j ≡ false
+no_diagonals first end top bottom i j le = grind (arith, nat_tests)
 
--- ---- a tile, diagonal by diagonal
+-- the same numbers, otherwise computed
+pub diagonal_as : (d d' top top' bottom bottom' m m' : ℕ) (samples others : List Sample) (old new : Profiled) → d ≡ d' → top ≡ top' → bottom ≡ bottom' → m ≡ m' → others ≡ samples
+    → IsScanned (in_block d (d + 1) top bottom) m (series_of others) old new → IsScanned (in_block d' (d' + 1) top' bottom') m' (series_of samples) old new
+diagonal_as d d' top top' bottom bottom' m m' samples others old new e f g h k scanned =
+    subst (λ x. IsScanned (in_block x (x + 1) top' bottom') m' (series_of samples) old new) e
+    (subst (λ x. IsScanned (in_block d (d + 1) x bottom') m' (series_of samples) old new) f
+    (subst (λ x. IsScanned (in_block d (d + 1) top x) m' (series_of samples) old new) g
+    (subst (λ x. IsScanned (in_block d (d + 1) top bottom) x (series_of samples) old new) h
+    (subst (λ x. IsScanned (in_block d (d + 1) top bottom) m (series_of x) old new) k scanned))))
 
--- the pairs on the diagonals from first on and before d
-abbrev pub diagonals_before : ℕ → ℕ → ℕ → ℕ → Bool
-diagonals_before first d i j = nat_le (i + first) j && nat_lt j (i + d)
+-- a diagonal has the rows that there are
+pub one_diagonal : (first d next top bottom end w i j : ℕ) → first ≤ d → next ≡ d + 1 → end ≡ min bottom (w - d) → j < w
+    → (in_block first d top bottom i j || in_block d (d + 1) top end i j) ≡ in_block first next top bottom i j
+one_diagonal first d next top bottom end w i j le n e lt = grind (arith, nat_tests)
 
-pub no_diagonals : (first i j : ℕ) → diagonals_before first first i j ≡ false
-no_diagonals first i j = grind (arith, nat_tests)
+-- and the others have none in the block
+pub all_diagonals : (first d end top bottom w i j : ℕ) → d ≡ min end (w - top) → j < w → in_block first d top bottom i j ≡ in_block first end top bottom i j
+all_diagonals first d end top bottom w i j e lt = grind (arith, nat_tests)
 
-pub one_diagonal : (first d i j : ℕ) → first ≤ d → (diagonals_before first d i j || on_diagonal d i j) ≡ diagonals_before first (d + 1) i j
-one_diagonal first d i j le = grind (arith, nat_tests)
+-- ---- a group, block by block
 
-pub all_diagonals : (first last i j : ℕ) → diagonals_before first (last + 1) i j ≡ (nat_le (i + first) j && nat_le j (i + last))
-all_diagonals first last i j = grind (arith, nat_tests)
+pub one_block : (first end middle bottom next i j : ℕ) → middle ≤ bottom → next ≡ bottom → (in_block first end 0 middle i j || in_block first end middle bottom i j) ≡ in_block first end 0 next i j
+one_block first end middle bottom next i j le e = grind (arith, nat_tests)
+
+pub all_blocks : (first end bottom w i j : ℕ) → w ≤ bottom + first → j < w → in_block first end 0 bottom i j ≡ on_diagonals first end i j
+all_blocks first end bottom w i j le lt = grind (arith, nat_tests)
+
+-- ---- a tile, group by group
+
+pub no_groups : (first end i j : ℕ) → end ≤ first → on_diagonals first end i j ≡ false
+no_groups first end i j le = grind (arith, nat_tests)
+
+pub one_group : (first middle start end next i j : ℕ) → first ≤ middle → middle ≤ end → start ≡ middle → next ≡ end → (on_diagonals first middle i j || on_diagonals start end i j) ≡ on_diagonals first next i j
+one_group first middle start end next i j le le' e f = grind (arith, nat_tests)
+
+-- the same numbers, otherwise computed
+pub diagonals_as : (first end end' m m' : ℕ) (a : Series) (old new : Profiled) → end ≡ end' → m ≡ m' → IsScanned (on_diagonals first end) m a old new → IsScanned (on_diagonals first end') m' a old new
+diagonals_as first end end' m m' a old new e f scanned = subst (λ x. IsScanned (on_diagonals first x) m' a old new) e (subst (λ x. IsScanned (on_diagonals first end) x a old new) f scanned)
+
+all_groups : (first last i j : ℕ) → on_diagonals first (last + 1) i j ≡ (nat_le (i + first) j && nat_le j (i + last))
+all_groups first last i j = grind (arith, nat_tests)
 
 pub windows_same : (m : ℕ) (samples : List Sample) → windows_of m (series_of samples) ≡ windows (length samples) m
 windows_same m samples = ap (λ n. windows n m) (length-map samples reading_of)
+
+pub windows_are : (samples : List Sample) (count rest : ℕ) → count + rest ≡ length samples → windows_of (rest + 1) (series_of samples) ≡ count
+windows_are samples count rest e = windows_same (rest + 1) samples ∙ omega (arith, e)
 
 pub places_as : (w v : ℕ) (p : Profiled) → w ≡ v → HasPlaces w p → HasPlaces v p
 places_as w v p e h = subst (λ n. HasPlaces n p) e h
 
 -- past the last diagonal the tile is scanned
-pub tile_scanned : (tile : Tile) (d m : ℕ) (a : Series) (old new : Profiled) → d ≡ tile.last + 1 → IsScanned (diagonals_before tile.first d) m a old new → IsScanned (has_pair tile) m a old new
-tile_scanned tile d m a old new e h =
-    scanned_same (diagonals_before tile.first (tile.last + 1)) (has_pair tile) m a old new (subst (λ n. IsScanned (diagonals_before tile.first n) m a old new) e h)
-    (λ i j _ _. all_diagonals tile.first tile.last i j)
+pub tile_scanned : (tile : Tile) (end m : ℕ) (a : Series) (old new : Profiled) → end ≡ tile.last + 1 → IsScanned (on_diagonals tile.first end) m a old new → IsScanned (has_pair tile) m a old new
+tile_scanned tile end m a old new e h =
+    scanned_same (on_diagonals tile.first (tile.last + 1)) (has_pair tile) m a old new (subst (λ n. IsScanned (on_diagonals tile.first n) m a old new) e h)
+    (λ i j _ _. all_groups tile.first tile.last i j)

@@ -8,7 +8,7 @@ use Rattle.mp_defs.specs.Series.{Series, reading_of, series_of, number_at}
 use Rattle.mp_defs.specs.Distance.{square_gap, square_between, plus, distance}
 use Rattle.mp_defs.proofs.Distances.{distance_zero, distance_more}
 use Rattle.mp_defs.proofs.Places.{number_at_place}
-use Rattle.mp_tiles.specs.Sums.{filled, gap, square_at, gaps_at, total, AreSums}
+use Rattle.mp_tiles.specs.Sums.{filled, gap, square_at, total, gaps_from, IsSum}
 
 pub total_zero : (f : ℕ → ℕ → ℕ) (i j : ℕ) → total f 0 i j ≡ 0
 unfolding total
@@ -41,6 +41,9 @@ total_small f (suc n) i j h =
 
 -- ---- the distance by its sums
 
+abbrev gaps_at : Series → Series → ℕ → ℕ → ℕ
+gaps_at a b i j = gap (number_at a i) + gap (number_at b j)
+
 abbrev where_none : ℕ → ℕ → Option ℕ
 where_none gaps sum = if gaps == 0 then Some sum else None
 
@@ -69,7 +72,7 @@ one_more g s None y = plus_none (where_none g s) ∙ sym (not_none (g + (1 + gap
 one_more g s (Some x) None = plus_none (where_none g s) ∙ sym (not_none (g + (0 + 1)) (more_test g (0 + 1) (omega arith)) (s + square_gap x (pos 0)))
 one_more g s (Some x) (Some y) = both_there (g == 0) s (square_gap x y) ∙ ap (λ t. if t then Some (s + square_gap x y) else None) (sym (same_test g (0 + 0) (omega arith)))
 
-pub distance_by_sums : (n : ℕ) (a : Series) (i : ℕ) (b : Series) (j : ℕ) → distance n a i b j ≡ (if total (gaps_at a b) n i j == 0 then Some (total (square_at a b) n i j) else None)
+distance_by_sums : (n : ℕ) (a : Series) (i : ℕ) (b : Series) (j : ℕ) → distance n a i b j ≡ (if total (gaps_at a b) n i j == 0 then Some (total (square_at a b) n i j) else None)
 distance_by_sums zero a i b j = rw (distance_zero a i b j, total_zero (gaps_at a b) i j, total_zero (square_at a b) i j) refl
 distance_by_sums (suc n) a i b j =
     let one : n + 1 ≡ suc n = omega arith in
@@ -77,101 +80,87 @@ distance_by_sums (suc n) a i b j =
     (rw (distance_more n a i b j, distance_by_sums n a i b j, total_more (gaps_at a b) n i j, total_more (square_at a b) n i j)
     (one_more (total (gaps_at a b) n i j) (total (square_at a b) n i j) (number_at a (i + n)) (number_at b (j + n))))
 
--- ---- the sums of two windows that move on
+-- the gaps of both windows
+gaps_of_both : (a b : Series) (n i j : ℕ) → total (gaps_at a b) n i j ≡ gaps_from a n i + gaps_from b n j
+gaps_of_both a b zero i j = rw (total_zero (gaps_at a b) i j, total_zero (λ k _. gap (number_at a k)) i i, total_zero (λ k _. gap (number_at b k)) j j) refl
+gaps_of_both a b (suc n) i j =
+    let one : n + 1 ≡ suc n = omega arith in
+    subst (λ k. total (gaps_at a b) k i j ≡ gaps_from a k i + gaps_from b k j) one
+    (omega (arith, gaps_of_both a b n i j, total_more (gaps_at a b) n i j, total_more (λ k _. gap (number_at a k)) n i i, total_more (λ k _. gap (number_at b k)) n j j))
 
-pub square_there : (a b : List Sample) (i j : ℕ) → square_gap (filled (reading_of (get_or a i Missing))) (filled (reading_of (get_or b j Missing))) ≡ square_at (series_of a) (series_of b) i j
-square_there a b i j = rw (number_at_place a i, number_at_place b j) refl
+-- ---- gaps of a window that moves on
 
-pub gaps_there : (a b : List Sample) (i j : ℕ) → gap (reading_of (get_or a i Missing)) + gap (reading_of (get_or b j Missing)) ≡ gaps_at (series_of a) (series_of b) i j
-gaps_there a b i j = rw (number_at_place a i, number_at_place b j) refl
-
-pub sums_of_none : (a b : List Sample) (i j : ℕ) → AreSums a b i j 0 0 0
-sums_of_none a b i j = record {
-  sum_is = sym (total_zero _ i j);
-  gaps_are = sym (total_zero _ i j);
-  small = λ k lt. absurd (omega (arith, lt));
-}
-
--- with one more sample of each
-pub sums_more : (a b : List Sample) (i j n sum gaps square more : ℕ) → AreSums a b i j n sum gaps
-    → square ≡ square_at (series_of a) (series_of b) (i + n) (j + n) → more ≡ gaps_at (series_of a) (series_of b) (i + n) (j + n) → square ≤ 2 ^ 64
-    → AreSums a b i j (n + 1) (sum + square) (gaps + more)
-sums_more a b i j n sum gaps square more h e f le = record {
-  sum_is = rw (total_more (square_at (series_of a) (series_of b)) n i j, ← h.sum_is, ← e) refl;
-  gaps_are = rw (total_more (gaps_at (series_of a) (series_of b)) n i j, ← h.gaps_are, ← f) refl;
-  small = below_more (λ k. square_at (series_of a) (series_of b) (i + k) (j + k) ≤ 2 ^ 64) n h.small (subst (λ s. s ≤ 2 ^ 64) e le);
-}
-
--- without the first sample of each
-pub sums_less : (a b : List Sample) (i j n sum gaps square less : ℕ) → AreSums a b i j (n + 1) sum gaps
-    → square ≡ square_at (series_of a) (series_of b) i j → less ≡ gaps_at (series_of a) (series_of b) i j
-    → AreSums a b (i + 1) (j + 1) n (sum - square) (gaps - less)
-sums_less a b i j n sum gaps square less h e f =
-    let sums = total_on (square_at (series_of a) (series_of b)) n i j in
-    let counts = total_on (gaps_at (series_of a) (series_of b)) n i j in
-    record {
-      sum_is = omega (arith, sums, h.sum_is, e);
-      gaps_are = omega (arith, counts, h.gaps_are, f);
-      small = λ k lt. let here : i + (k + 1) ≡ i + 1 + k = omega arith in let there : j + (k + 1) ≡ j + 1 + k = omega arith in
-          subst (λ p. square_at (series_of a) (series_of b) p (j + 1 + k) ≤ 2 ^ 64) here
-          (subst (λ q. square_at (series_of a) (series_of b) (i + (k + 1)) q ≤ 2 ^ 64) there (h.small (k + 1) (omega (arith, lt))));
-    }
-
-pub sums_are_small : (a b : List Sample) (i j n sum gaps : ℕ) → AreSums a b i j n sum gaps → sum ≤ n * 2 ^ 64
-sums_are_small a b i j n sum gaps h = subst (λ s. s ≤ n * 2 ^ 64) (sym h.sum_is) (total_small (square_at (series_of a) (series_of b)) n i j h.small)
+pub no_gaps : (a : Series) (i : ℕ) → gaps_from a 0 i ≡ 0
+no_gaps a i = total_zero (λ k _. gap (number_at a k)) i i
 
 gap_small : (x : Option ℤ) → gap x ≤ 1
 gap_small None = omega arith
 gap_small (Some x) = omega arith
 
-gaps_few : (a b : Series) (n i j : ℕ) → total (gaps_at a b) n i j ≤ 2 * n
-gaps_few a b zero i j = rw total_zero (omega arith)
-gaps_few a b (suc n) i j =
+pub gaps_few : (a : Series) (n i : ℕ) → gaps_from a n i ≤ n
+gaps_few a zero i = rw no_gaps (omega arith)
+gaps_few a (suc n) i =
     let one : n + 1 ≡ suc n = omega arith in
-    let first = gap_small (number_at a (i + n)) in
-    let second = gap_small (number_at b (j + n)) in
-    let before = gaps_few a b n i j in
-    subst (λ k. total (gaps_at a b) k i j ≤ 2 * k) one (rw total_more (omega (arith, first, second, before)))
+    subst (λ k. gaps_from a k i ≤ k) one (omega (arith, total_more (λ k _. gap (number_at a k)) n i i, gap_small (number_at a (i + n)), gaps_few a n i))
 
-pub gaps_are_few : (a b : List Sample) (i j n sum gaps : ℕ) → AreSums a b i j n sum gaps → gaps ≤ 2 * n
-gaps_are_few a b i j n sum gaps h = subst (λ g. g ≤ 2 * n) (sym h.gaps_are) (gaps_few (series_of a) (series_of b) n i j)
+pub gap_few : (x : Option ℤ) (g : ℕ) → g ≡ gap x → g ≤ 1
+gap_few x g e = omega (arith, gap_small x, e)
 
--- the distance of the windows
-pub distance_there : (a b : List Sample) (i j n sum gaps : ℕ) → AreSums a b i j n sum gaps → distance n (series_of a) i (series_of b) j ≡ (if gaps == 0 then Some sum else None)
-distance_there a b i j n sum gaps h =
+gap_there : (samples : List Sample) (i : ℕ) → gap (reading_of (get_or samples i Missing)) ≡ gap (number_at (series_of samples) i)
+gap_there samples i = rw (number_at_place samples i) refl
+
+-- with one more sample
+pub gaps_more : (samples : List Sample) (n i g : ℕ) → g ≡ gap (reading_of (get_or samples (i + n) Missing)) → gaps_from (series_of samples) n i + g ≡ gaps_from (series_of samples) (n + 1) i
+gaps_more samples n i g e = omega (arith, total_more (λ k _. gap (number_at (series_of samples) k)) n i i, e ∙ gap_there samples (i + n))
+
+-- without the first one
+pub gaps_less : (samples : List Sample) (n i g : ℕ) → g ≡ gap (reading_of (get_or samples i Missing)) → gaps_from (series_of samples) n (i + 1) + g ≡ gaps_from (series_of samples) (n + 1) i
+gaps_less samples n i g e = omega (arith, total_on (λ k _. gap (number_at (series_of samples) k)) n i i, e ∙ gap_there samples i)
+
+-- ---- the sum of two windows that move on
+
+pub square_there : (a b : List Sample) (i j square : ℕ) → square ≡ square_gap (filled (reading_of (get_or a i Missing))) (filled (reading_of (get_or b j Missing)))
+    → square ≡ square_at (series_of a) (series_of b) i j
+square_there a b i j square e = rw (e, number_at_place a i, number_at_place b j) refl
+
+pub square_of : (a b : List Sample) (i j : ℕ) (x y : ℤ) (square : ℕ) → square ≡ square_gap x y → x ≡ filled (number_at (series_of a) i) → y ≡ filled (number_at (series_of b) j)
+    → square ≡ square_at (series_of a) (series_of b) i j
+square_of a b i j x y square e f g = rw (e, f, g) refl
+
+pub sum_of_none : (a b : List Sample) (i j : ℕ) → IsSum a b i j 0 0
+sum_of_none a b i j = record {
+  sum_is = sym (total_zero (square_at (series_of a) (series_of b)) i j);
+  small = λ k lt. absurd (omega (arith, lt));
+}
+
+-- with one more sample of each
+pub sum_more : (a b : List Sample) (i j n sum square : ℕ) → IsSum a b i j n sum → square ≡ square_at (series_of a) (series_of b) (i + n) (j + n) → square < 2 ^ 64
+    → IsSum a b i j (n + 1) (sum + square)
+sum_more a b i j n sum square h e lt = record {
+  sum_is = rw (total_more (square_at (series_of a) (series_of b)) n i j, ← h.sum_is, ← e) refl;
+  small = below_more (λ k. square_at (series_of a) (series_of b) (i + k) (j + k) ≤ 2 ^ 64) n h.small (subst (λ s. s ≤ 2 ^ 64) e (omega (arith, lt)));
+}
+
+-- what stands at the first places of both is in the sum
+pub square_within : (a b : List Sample) (i j n sum square : ℕ) → IsSum a b i j (n + 1) sum → square ≡ square_at (series_of a) (series_of b) i j → square ≤ sum
+square_within a b i j n sum square h e = omega (arith, total_on (square_at (series_of a) (series_of b)) n i j, h.sum_is, e)
+
+-- without the first sample of each
+pub sum_less : (a b : List Sample) (i j n sum square : ℕ) → IsSum a b i j (n + 1) sum → square ≡ square_at (series_of a) (series_of b) i j → IsSum a b (i + 1) (j + 1) n (sum - square)
+sum_less a b i j n sum square h e = record {
+  sum_is = omega (arith, total_on (square_at (series_of a) (series_of b)) n i j, h.sum_is, e);
+  small = λ k lt. let here : i + (k + 1) ≡ i + 1 + k = omega arith in let there : j + (k + 1) ≡ j + 1 + k = omega arith in
+      subst (λ p. square_at (series_of a) (series_of b) p (j + 1 + k) ≤ 2 ^ 64) here
+      (subst (λ q. square_at (series_of a) (series_of b) (i + (k + 1)) q ≤ 2 ^ 64) there (h.small (k + 1) (omega (arith, lt))));
+}
+
+pub sum_is_small : (a b : List Sample) (i j n sum : ℕ) → IsSum a b i j n sum → sum ≤ n * 2 ^ 64
+sum_is_small a b i j n sum h = subst (λ s. s ≤ n * 2 ^ 64) (sym h.sum_is) (total_small (square_at (series_of a) (series_of b)) n i j h.small)
+
+-- the sum is the distance where neither window has a gap, and else there is none
+pub distance_there : (a b : List Sample) (i j n sum gaps : ℕ) → IsSum a b i j n sum → gaps ≡ gaps_from (series_of a) n i + gaps_from (series_of b) n j
+    → (if gaps == 0 then Some sum else None) ≡ distance n (series_of a) i (series_of b) j
+distance_there a b i j n sum gaps h e = sym (
     distance_by_sums n (series_of a) i (series_of b) j
-    ∙ ap (λ g. if g == 0 then Some (total (square_at (series_of a) (series_of b)) n i j) else None) (sym h.gaps_are)
-    ∙ ap (λ s. if gaps == 0 then Some s else None) (sym h.sum_is)
-
--- what stands at the next places of both comes into the sums
-pub sums_take : (a b : List Sample) (i j n sum gaps square more : ℕ) → AreSums a b i j n sum gaps
-    → square ≡ square_gap (filled (reading_of (get_or a (i + n) Missing))) (filled (reading_of (get_or b (j + n) Missing)))
-    → more ≡ gap (reading_of (get_or a (i + n) Missing)) + gap (reading_of (get_or b (j + n) Missing)) → square < 2 ^ 64
-    → AreSums a b i j (n + 1) (sum + square) (gaps + more)
-sums_take a b i j n sum gaps square more h e f lt =
-    sums_more a b i j n sum gaps square more h (e ∙ square_there a b (i + n) (j + n)) (f ∙ gaps_there a b (i + n) (j + n)) (omega arith)
-
--- what stands at the first places of both is in the sums
-pub square_within : (a b : List Sample) (i j n sum gaps square : ℕ) → AreSums a b i j (n + 1) sum gaps
-    → square ≡ square_gap (filled (reading_of (get_or a i Missing))) (filled (reading_of (get_or b j Missing))) → square ≤ sum
-square_within a b i j n sum gaps square h e = omega (arith, total_on (square_at (series_of a) (series_of b)) n i j, h.sum_is, e ∙ square_there a b i j)
-
-pub gaps_within : (a b : List Sample) (i j n sum gaps less : ℕ) → AreSums a b i j (n + 1) sum gaps
-    → less ≡ gap (reading_of (get_or a i Missing)) + gap (reading_of (get_or b j Missing)) → less ≤ gaps
-gaps_within a b i j n sum gaps less h f = omega (arith, total_on (gaps_at (series_of a) (series_of b)) n i j, h.gaps_are, f ∙ gaps_there a b i j)
-
--- and leaves them
-pub sums_leave : (a b : List Sample) (i j n sum gaps square less : ℕ) → AreSums a b i j (n + 1) sum gaps
-    → square ≡ square_gap (filled (reading_of (get_or a i Missing))) (filled (reading_of (get_or b j Missing)))
-    → less ≡ gap (reading_of (get_or a i Missing)) + gap (reading_of (get_or b j Missing))
-    → AreSums a b (i + 1) (j + 1) n (sum - square) (gaps - less)
-sums_leave a b i j n sum gaps square less h e f =
-    sums_less a b i j n sum gaps square less h (e ∙ square_there a b i j) (f ∙ gaps_there a b i j)
-
--- with no gap the sum is the distance
-pub sum_is_distance : (a b : List Sample) (i j n sum gaps : ℕ) → AreSums a b i j n sum gaps → gaps ≡ 0 → Some sum ≡ distance n (series_of a) i (series_of b) j
-sum_is_distance a b i j n sum gaps h e = sym (distance_there a b i j n sum gaps h ∙ ap (λ g. if g == 0 then Some sum else None) e)
-
--- with a gap there is none
-pub gap_is_none : (a b : List Sample) (i j n sum gaps : ℕ) → AreSums a b i j n sum gaps → 0 < gaps → None ≡ distance n (series_of a) i (series_of b) j
-gap_is_none a b i j n sum gaps h lt = sym (distance_there a b i j n sum gaps h ∙ ap (λ (t : Bool). if t then Some sum else None) (some_test gaps lt))
+    ∙ ap (λ g. if g == 0 then Some (total (square_at (series_of a) (series_of b)) n i j) else None) (gaps_of_both (series_of a) (series_of b) n i j ∙ sym e)
+    ∙ ap (λ s. if gaps == 0 then Some s else None) (sym h.sum_is))

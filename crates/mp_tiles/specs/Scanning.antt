@@ -1,5 +1,5 @@
 -- What a scan makes of a profile, pair by pair.
-use Rattle.std.specs.Prelude.{◌≡◌, ℕ, ◌+◌, Bool, ◌==◌, length, slice_index_or, slice_set, Option, None}
+use Rattle.std.specs.Prelude.{◌≡◌, ℕ, ◌+◌, Bool, ◌&&◌, nat_le, nat_lt, length, slice_index_or, slice_set, Option, None}
 use Rattle.mp_nums.specs.declared.nearest.Near.{Near}
 use Rattle.mp_nums.specs.Near.{nearer_of}
 use Rattle.mp_defs.specs.Series.{Series}
@@ -7,9 +7,13 @@ use Rattle.mp_partial.specs.Values.{Column, merged_column}
 use Rattle.mp_partial.specs.Profiled.{Profiled}
 use Rattle.mp_tiles.specs.Among.{all_column, left_column, right_column}
 
--- windows i and j start d places apart
-abbrev pub on_diagonal : ℕ → ℕ → ℕ → Bool
-on_diagonal d i j = j == i + d
+-- the pairs on the diagonals from first on and before end
+abbrev pub on_diagonals : ℕ → ℕ → ℕ → ℕ → Bool
+on_diagonals first end i j = nat_le (i + first) j && nat_lt j (i + end)
+
+-- of these the pairs in the rows from top on and before bottom
+abbrev pub in_block : ℕ → ℕ → ℕ → ℕ → ℕ → ℕ → Bool
+in_block first end top bottom i j = on_diagonals first end i j && (nat_le top i && nat_lt i bottom)
 
 -- the profile has so many windows
 pub record HasPlaces (w : ℕ) (p : Profiled) : Type 0 where

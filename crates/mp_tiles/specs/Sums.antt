@@ -1,5 +1,5 @@
 -- Sums along a diagonal, in which a missing sample counts as 0.
-use Rattle.std.specs.Prelude.{◌≡◌, ℕ, zero, suc, ◌+◌, ◌^◌, ◌<◌, ◌≤◌, ℤ, pos, List, Option, Some, None}
+use Rattle.std.specs.Prelude.{◌≡◌, ℕ, zero, suc, ◌+◌, ◌^◌, ◌<◌, ◌≤◌, length, slice_index_or, ℤ, pos, List, Option, Some, None}
 use Rattle.mp_nums.specs.declared.samples.Sample.{Sample}
 use Rattle.mp_defs.specs.Series.{Series, series_of, number_at}
 use Rattle.mp_defs.specs.Distance.{square_gap}
@@ -16,16 +16,20 @@ gap (Some x) = 0
 abbrev pub square_at : Series → Series → ℕ → ℕ → ℕ
 square_at a b i j = square_gap (filled (number_at a i)) (filled (number_at b j))
 
-abbrev pub gaps_at : Series → Series → ℕ → ℕ → ℕ
-gaps_at a b i j = gap (number_at a i) + gap (number_at b j)
-
 -- the sum over the n places from i and j on
 unfoldable pub total : (ℕ → ℕ → ℕ) → ℕ → ℕ → ℕ → ℕ
 total f zero i j = 0
 total f (suc n) i j = total f n i j + f (i + n) (j + n)
 
--- the sums over the n samples from i on in a and from j on in b
-pub record AreSums (samples others : List Sample) (i j n sum gaps : ℕ) : Type 0 where
+-- how many of the n samples from i on are missing
+abbrev pub gaps_from : Series → ℕ → ℕ → ℕ
+gaps_from a n i = total (λ k _. gap (number_at a k)) n i i
+
+-- the sum over the n samples from i on in one series and from j on in the other
+pub record IsSum (samples others : List Sample) (i j n sum : ℕ) : Type 0 where
   pub sum_is : sum ≡ total (square_at (series_of samples) (series_of others)) n i j
-  pub gaps_are : gaps ≡ total (gaps_at (series_of samples) (series_of others)) n i j
   pub small : (k : ℕ) → k < n → square_at (series_of samples) (series_of others) (i + k) (j + k) ≤ 2 ^ 64
+
+-- the sums of the diagonals from first on at a row, of those that have such a row among so many windows
+abbrev pub AreSums : List Sample → ℕ → ℕ → ℕ → ℕ → List ℕ → Type 0
+AreSums samples count rest first row sums = (t x : ℕ) → t < length sums → row + first + t < count → IsSum samples samples row (row + first + t) rest (slice_index_or sums t x)

@@ -1,120 +1,100 @@
-//! The distances of the pairs of windows along a diagonal, by running sums.
+//! The pairs of windows along a diagonal, by running sums.
 
-ghost use Rattle.std.specs.Prelude.{◌≡◌, ◌+◌, ◌-◌, ◌*◌, ◌^◌, ◌<◌, ◌≤◌, length};
+ghost use Rattle.std.specs.Prelude.{◌≡◌, ◌+◌, ◌-◌, ◌^◌, ◌<◌, ◌≤◌, ◌==◌, if◌then◌else◌, length, Some, None};
 ghost use Rattle.mp_defs.specs.Series.{reading_of, series_of};
-ghost use Rattle.mp_defs.specs.Distance.{square_gap, distance};
-ghost use Rattle.mp_tiles.specs.Sums.{filled, gap as gap_of, AreSums};
+ghost use Rattle.mp_defs.specs.Distance.{square_gap};
+ghost use Rattle.mp_defs.specs.Least.{at_distance};
+ghost use Rattle.mp_tiles.specs.Sums.{filled, IsSum};
+ghost use Rattle.mp_tiles.specs.Scanning.{in_block, HasPlaces, IsScanned, taken};
 
-use mp_nums::Sample;
+use crate::windows::{Stretch, Windows, number};
+use mp_nums::{Sample, Sq};
+use mp_partial::Profile;
 
+/// The squared difference of two numbers.
 #[inline]
-fn number(sample: Sample) -> i32
-    ensures { result ≡ filled (reading_of sample) }
+fn square(x: i32, y: i32) -> u64
+    ensures { result ≡ square_gap x y }
 {
-    match sample {
-        Sample::Value(number) => number,
-        Sample::Missing => 0,
-    }
-}
-
-/// The squared difference of two samples, where a missing one counts as 0.
-#[inline]
-fn square(x: Sample, y: Sample) -> u64
-    ensures { result ≡ square_gap (filled (reading_of x)) (filled (reading_of y)) }
-{
-    let gap = u64::from(number(x).abs_diff(number(y)));
+    let gap = u64::from(x.abs_diff(y));
     gap * gap
 }
 
-#[inline]
-fn gap(sample: Sample) -> u64
-    ensures { result ≡ gap_of (reading_of sample) }
+/// The squared difference of two samples, where a missing one counts as 0.
+fn sample_square(x: Sample, y: Sample) -> u64
+    ensures { result ≡ square_gap (filled (reading_of x)) (filled (reading_of y)) }
 {
-    match sample {
-        Sample::Value(_) => 0,
-        Sample::Missing => 1,
-    }
+    square(number(x), number(y))
 }
 
-/// How many of the two are missing.
-#[inline]
-fn gaps_between(x: Sample, y: Sample) -> u64
-    ensures value { result ≡ gap_of (reading_of x) + gap_of (reading_of y) }
-    ensures few { result ≤ 2 }
+/// The sum of the squared differences of the first two windows on a diagonal without their last samples, where a missing
+/// sample counts as 0.
+pub(crate) fn first_sum(of: &Windows, diagonal: u64) -> u128
+    requires { diagonal < of.now.count }
+    ensures { IsSum of.now.samples.now of.now.samples.now 0 diagonal of.now.rest result }
 {
-    gap(x) + gap(y)
+    let mut sum: u128 = 0;
+    for k in 0..of.rest {
+        let (x, y) = (of.samples[k as usize], of.samples[(diagonal + k) as usize]);
+        sum += u128::from(sample_square(x, y));
+    }
+    sum
 }
 
-/// Two windows that move on together, one in each series. The sums are those of the windows without their last samples:
-/// a missing sample counts as 0, so that what leaves the sum is what came into it.
-#[derive(Drop)]
-pub(crate) struct Diagonal<'a> {
-    pub(crate) a: &'a [Sample],
-    pub(crate) b: &'a [Sample],
-    pub(crate) i: u64,
-    pub(crate) j: u64,
-    pub(crate) last: u64,
-    sum: u128,
-    gaps: u64,
-    ghost sums: { AreSums a.now b.now i j last sum gaps },
-    ghost short: { last < 2 ^ 32 },
+/// A whole sum as a distance: none where a sample is missing.
+#[inline]
+fn distance(sum: u128, gaps: u32) -> Option<u128>
+    ensures { result ≡ (if gaps == 0 then Some sum else None) }
+{
+    if gaps == 0 { Some(sum) } else { None }
 }
 
-impl<'a> Diagonal<'a> {
-    /// The windows of `m` samples that start at `i` in `a` and at `j` in `b`.
-    pub(crate) fn new(a: &'a [Sample], i: u64, b: &'a [Sample], j: u64, m: u32) -> Diagonal<'a>
-        requires shortest { 1 ≤ m }
-        requires first { i + m ≤ length a.now }
-        requires second { j + m ≤ length b.now }
-        ensures a { result.a.now ≡ a.now }
-        ensures b { result.b.now ≡ b.now }
-        ensures i { result.i ≡ i }
-        ensures j { result.j ≡ j }
-        ensures last { result.last + 1 ≡ m }
-    {
-        let last = u64::from(m - 1);
-        let mut sum: u128 = 0;
-        let mut gaps: u64 = 0;
-        for k in 0..last {
-            let (x, y) = (a[(i + k) as usize], b[(j + k) as usize]);
-            sum += u128::from(square(x, y));
-            gaps += gaps_between(x, y);
-        }
-        Diagonal {
-            a,
-            b,
-            i,
-            j,
-            last,
-            sum,
-            gaps,
-        }
+/// Offers the windows that start at `i` and `j` to each other, where they have a distance.
+#[inline]
+fn offer_pair(into: &mut Profile, i: u64, j: u64, dist: Option<u128>)
+    requires order { i < j }
+    requires within { j < length into.old.all }
+    ensures all { into.new.all ≡ taken (taken into.old.all i (at_distance j dist)) j (at_distance i dist) }
+    ensures left { into.new.left ≡ taken into.old.left j (at_distance i dist) }
+    ensures right { into.new.right ≡ taken into.old.right i (at_distance j dist) }
+    ensures spare { into.new.spare ≡ into.old.spare }
+{
+    if let Some(dist) = dist {
+        into.offer(i, j, Sq(dist));
+        into.offer(j, i, Sq(dist));
     }
+}
 
-    /// The squared distance of the two windows, none where a sample of either is missing. Both move on by one.
-    #[inline]
-    pub(crate) fn next_distance(&mut self) -> Option<u128>
-        requires first { self.old.i + self.old.last < length self.old.a.now }
-        requires second { self.old.j + self.old.last < length self.old.b.now }
-        ensures value { let s = self.old in
-            result ≡ distance (s.last + 1) (series_of s.a.now) s.i (series_of s.b.now) s.j }
-        ensures a { self.new.a.now ≡ self.old.a.now }
-        ensures b { self.new.b.now ≡ self.old.b.now }
-        ensures i { self.new.i ≡ self.old.i + 1 }
-        ensures j { self.new.j ≡ self.old.j + 1 }
-        ensures last { self.new.last ≡ self.old.last }
-    {
-        let (x, y) = (
-            self.a[(self.i + self.last) as usize],
-            self.b[(self.j + self.last) as usize],
-        );
-        let sum = self.sum + u128::from(square(x, y));
-        let gaps = self.gaps + gaps_between(x, y);
-        let (x, y) = (self.a[self.i as usize], self.b[self.j as usize]);
-        self.sum = sum - u128::from(square(x, y));
-        self.gaps = gaps - gaps_between(x, y);
-        self.i += 1;
-        self.j += 1;
-        if gaps == 0 { Some(sum) } else { None }
+/// Offers each window of `rows` and the one at the same place of `columns` to each other. The sum is that of the first
+/// two windows without their last samples, and the result that of the two behind the last ones.
+// apart from the loops around it, so that these take no registers from it
+#[inline(never)]
+pub(crate) fn scan_rows(rows: &Stretch, columns: &Stretch, sum: u128, into: &mut Profile) -> u128
+    requires samples { columns.now.of.samples.now ≡ rows.now.of.samples.now }
+    requires rest { columns.now.of.rest ≡ rows.now.of.rest }
+    requires rows { length columns.now.windows.now ≡ length rows.now.windows.now }
+    requires order { rows.now.start < columns.now.start }
+    requires sum { IsSum rows.now.of.samples.now rows.now.of.samples.now rows.now.start columns.now.start
+        rows.now.of.rest sum }
+    requires places { HasPlaces rows.now.of.count into.old }
+    ensures scanned { let first = rows.now.start in let d = columns.now.start - rows.now.start in
+        IsScanned (in_block d (d + 1) first (first + length rows.now.windows.now)) (rows.now.of.rest + 1)
+        (series_of rows.now.of.samples.now) into.old into.new }
+    ensures sum { let n = length rows.now.windows.now in
+        IsSum rows.now.of.samples.now rows.now.of.samples.now (rows.now.start + n) (columns.now.start + n)
+        rows.now.of.rest result }
+    ensures places { HasPlaces rows.now.of.count into.new }
+{
+    // in locals, since the compiler can't tell that a write to the profile leaves them as they are
+    let (first_row, first_column) = (rows.start, columns.start);
+    let (row_windows, column_windows) = (rows.windows, columns.windows);
+    let mut sum = sum;
+    for k in 0..row_windows.len() {
+        let (row, column) = (&row_windows[k], &column_windows[k]);
+        let whole = sum + u128::from(square(row.last, column.last));
+        let dist = distance(whole, row.gaps + column.gaps);
+        offer_pair(into, first_row + k as u64, first_column + k as u64, dist);
+        sum = whole - u128::from(square(row.first, column.first));
     }
+    sum
 }

@@ -8,6 +8,7 @@ mod laws;
 mod scans;
 #[cfg(test)]
 mod tests;
+mod windows;
 
 pub use cuts::{Cut, MAX_TILE, Tile, cut_own};
 pub use laws::tiles_make_the_profile;

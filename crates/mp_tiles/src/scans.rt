@@ -1,51 +1,124 @@
-//! The scan of a tile.
+//! The scan of a tile: its diagonals in groups, and the diagonals of a group block by block.
 
-ghost use Rattle.std.specs.Prelude.{◌≡◌, ℕ, ◌+◌, ◌<◌, ◌≤◌, length};
+ghost use Rattle.std.specs.Prelude.{◌≡◌, ◌+◌, ◌-◌, ◌<◌, ◌≤◌, length, min};
 ghost use Rattle.mp_defs.specs.Series.{series_of};
 ghost use Rattle.mp_defs.specs.Window.{windows, excl};
-ghost use Rattle.mp_defs.specs.Least.{at_distance};
 ghost use Rattle.mp_partial.specs.Values.{merged_column};
 ghost use Rattle.mp_tiles.specs.Pairs.{has_pair, IsTileOf};
 ghost use Rattle.mp_tiles.specs.Among.{all_column, left_column, right_column};
-ghost use Rattle.mp_tiles.specs.Scanning.{on_diagonal, HasPlaces, IsScanned, taken};
+ghost use Rattle.mp_tiles.specs.Sums.{AreSums};
+ghost use Rattle.mp_tiles.specs.Scanning.{in_block, on_diagonals, HasPlaces, IsScanned};
 
 use crate::cuts::Tile;
-use crate::diagonals::Diagonal;
-use mp_nums::{Sample, Sq};
+use crate::diagonals::{first_sum, scan_rows};
+use crate::windows::{PlainWindow, Stretch, Windows, take_windows};
+use mp_nums::Sample;
 use mp_partial::Profile;
 use mp_series::{MAX_SAMPLES, MAX_WINDOW, MIN_WINDOW};
 
-/// Offers the windows that start at `i` and `j` to each other, where they have a distance.
-#[inline]
-fn offer_pair(into: &mut Profile, i: u64, j: u64, dist: Option<u128>)
-    requires order { i < j }
-    requires within { j < length into.old.all }
-    ensures all { into.new.all ≡ taken (taken into.old.all i (at_distance j dist)) j (at_distance i dist) }
-    ensures left { into.new.left ≡ taken into.old.left j (at_distance i dist) }
-    ensures right { into.new.right ≡ taken into.old.right i (at_distance j dist) }
-    ensures spare { into.new.spare ≡ into.old.spare }
+/// The most diagonals in a group, each of which has a sum.
+const GROUP: u64 = 64;
+
+/// The most rows in a block. Its windows and the places of the profile that they are offered to stay in a small cache.
+const ROWS: u64 = 256;
+
+/// The most columns in a block: those of its rows on each diagonal of a group.
+const COLUMNS: u64 = ROWS + GROUP;
+
+/// What stands at a place that no window has taken.
+const NO_WINDOW: PlainWindow = PlainWindow {
+    first: 0,
+    last: 0,
+    gaps: 0,
+};
+
+/// The first sum of each diagonal from `first` on.
+fn start_sums(sums: &mut [u128], of: &Windows, first: u64)
+    requires { first + length sums.old ≤ of.now.count }
+    ensures sums { AreSums of.now.samples.now of.now.count of.now.rest first 0 sums.new }
+    ensures places { length sums.new ≡ length sums.old }
 {
-    if let Some(dist) = dist {
-        into.offer(i, j, Sq(dist));
-        into.offer(j, i, Sq(dist));
+    for t in 0..sums.len() {
+        sums[t] = first_sum(of, first + t as u64);
     }
 }
 
-/// Offers the pairs of diagonal `d` to each other, of which there are `rows`.
-// apart from the loops around it, so that these take no registers from it
-#[inline(never)]
-fn scan_diagonal(samples: &[Sample], m: u32, d: u64, rows: u64, into: &mut Profile)
-    requires shortest { 1 ≤ m }
-    requires apart { 1 ≤ d }
-    requires some { 1 ≤ rows }
-    requires rows { rows + d ≡ windows (length samples.now) m }
-    requires places { HasPlaces (windows (length samples.now) m) into.old }
-    ensures scanned { IsScanned (on_diagonal d) m (series_of samples.now) into.old into.new }
-    ensures places { HasPlaces (windows (length samples.now) m) into.new }
+/// Offers the pairs of a block to each other: those of the rows on each diagonal that has a sum, from the one of the
+/// first row and the first column on.
+fn scan_diagonals(rows: &Stretch, columns: &Stretch, sums: &mut [u128], into: &mut Profile)
+    requires samples { columns.now.of.samples.now ≡ rows.now.of.samples.now }
+    requires rest { columns.now.of.rest ≡ rows.now.of.rest }
+    requires order { rows.now.start < columns.now.start }
+    requires few { length sums.old ≤ GROUP }
+    requires left { columns.now.start < rows.now.of.count }
+    requires rows { length rows.now.windows.now ≡ min (rows.now.of.count - columns.now.start) ROWS }
+    requires columns { length columns.now.windows.now ≡ min (rows.now.of.count - columns.now.start) COLUMNS }
+    requires sums { AreSums rows.now.of.samples.now rows.now.of.count rows.now.of.rest
+        (columns.now.start - rows.now.start) rows.now.start sums.old }
+    requires places { HasPlaces rows.now.of.count into.old }
+    ensures scanned { let first = columns.now.start - rows.now.start in
+        IsScanned (in_block first (first + length sums.old) rows.now.start (rows.now.start + ROWS))
+        (rows.now.of.rest + 1) (series_of rows.now.of.samples.now) into.old into.new }
+    ensures sums { AreSums rows.now.of.samples.now rows.now.of.count rows.now.of.rest
+        (columns.now.start - rows.now.start) (rows.now.start + ROWS) sums.new }
+    ensures places { HasPlaces rows.now.of.count into.new }
+    ensures few { length sums.new ≡ length sums.old }
 {
-    let mut pair = Diagonal::new(samples, 0, samples, d, m);
-    for i in 0..rows {
-        offer_pair(into, i, i + d, pair.next_distance());
+    let left = rows.of.count - columns.start;
+    for t in 0..left.min(sums.len() as u64) {
+        let count = (left - t).min(ROWS);
+        let sum = sums[t as usize];
+        sums[t as usize] = scan_rows(&rows.part(0, count), &columns.part(t, count), sum, into);
+    }
+}
+
+/// Offers the pairs of `ROWS` rows from `row` on to each other, on each diagonal from `first` on that has a sum.
+fn scan_block(of: &Windows, row: u64, first: u64, sums: &mut [u128], into: &mut Profile)
+    requires apart { 1 ≤ first }
+    requires few { length sums.old ≤ GROUP }
+    requires some { row + first < of.now.count }
+    requires sums { AreSums of.now.samples.now of.now.count of.now.rest first row sums.old }
+    requires places { HasPlaces of.now.count into.old }
+    ensures scanned { IsScanned (in_block first (first + length sums.old) row (row + ROWS)) (of.now.rest + 1)
+        (series_of of.now.samples.now) into.old into.new }
+    ensures sums { AreSums of.now.samples.now of.now.count of.now.rest first (row + ROWS) sums.new }
+    ensures places { HasPlaces of.now.count into.new }
+    ensures few { length sums.new ≡ length sums.old }
+{
+    let mut row_windows = [NO_WINDOW; ROWS as usize];
+    let mut column_windows = [NO_WINDOW; COLUMNS as usize];
+    let left = of.count - (row + first);
+    let (rows, columns) = (left.min(ROWS), left.min(COLUMNS));
+    take_windows(&mut row_windows, rows, of, row);
+    take_windows(&mut column_windows, columns, of, row + first);
+    let rows = Stretch {
+        of: *of,
+        start: row,
+        windows: &row_windows[..rows as usize],
+    };
+    let columns = Stretch {
+        of: *of,
+        start: row + first,
+        windows: &column_windows[..columns as usize],
+    };
+    scan_diagonals(&rows, &columns, sums, into);
+}
+
+/// Offers the pairs of a group to each other: each diagonal from `first` on that has a place for a sum.
+fn scan_group(of: &Windows, first: u64, sums: &mut [u128], into: &mut Profile)
+    requires apart { 1 ≤ first }
+    requires some { 1 ≤ length sums.old }
+    requires few { length sums.old ≤ GROUP }
+    requires within { first + length sums.old ≤ of.now.count }
+    requires places { HasPlaces of.now.count into.old }
+    ensures scanned { IsScanned (on_diagonals first (first + length sums.old)) (of.now.rest + 1)
+        (series_of of.now.samples.now) into.old into.new }
+    ensures places { HasPlaces of.now.count into.new }
+    ensures few { length sums.new ≡ length sums.old }
+{
+    start_sums(sums, of, first);
+    for block in 0..(of.count - first).div_ceil(ROWS) {
+        scan_block(of, block * ROWS, first, sums, into);
     }
 }
 
@@ -66,8 +139,16 @@ pub fn scan_own(samples: &[Sample], m: u32, tile: &Tile, into: &mut Profile)
     ensures places { length into.new.all ≡ length into.old.all }
     ensures spare { into.new.spare ≡ into.old.spare }
 {
-    let count = into.len();
-    for d in tile.first..tile.last + 1 {
-        scan_diagonal(samples, m, d, count - d, into);
+    let of = Windows {
+        samples,
+        rest: u64::from(m - 1),
+        count: into.len(),
+    };
+    let mut sums = [0; GROUP as usize];
+    let end = tile.last + 1;
+    for k in 0..(end - tile.first).div_ceil(GROUP) {
+        let first = tile.first + k * GROUP;
+        let width = (end - first).min(GROUP) as usize;
+        scan_group(&of, first, &mut sums[..width], into);
     }
 }

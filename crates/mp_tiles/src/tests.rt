@@ -181,7 +181,7 @@ fn groups_of_three_diagonals(rt: HostRuntime) {
 #[test]
 fn tiles_give_what_every_pair_gives(rt: HostRuntime) -> Result<(), Fail> {
     for seed in 0..6 {
-        let samples = ties(rt.alloc(), 40 + seed, seed)?;
+        let samples = ties(rt.alloc(), 40 + 61 * seed, seed)?;
         let every = mp_plain::profile(rt.alloc(), samples.as_slice(), 3)?;
         for tile in [1, 2, 7, 256] {
             let tiled = profile(rt.alloc(), samples.as_slice(), 3, tile)?;

@@ -1,4 +1,4 @@
-use Rattle.std.proofs.Common.{◌≡◌, ℕ, ◌+◌, ◌<◌, ◌≤◌, length, arith, ap, ◌∙◌, sym, subst}
+use Rattle.std.proofs.Common.{length, arith, ap, ◌∙◌}
 use Rattle.mp_defs.specs.Series.{series_of}
 use Rattle.mp_defs.specs.Window.{windows}
 use Rattle.mp_partial.specs.Values.{empty_columns}

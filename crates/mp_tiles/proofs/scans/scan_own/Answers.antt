@@ -1,34 +1,50 @@
-use Rattle.std.proofs.Common.{◌+◌, length, arith, sym, ◌∙◌}
-use Rattle.mp_tiles.specs.Scanning.{on_diagonal, HasPlaces}
+use Rattle.std.proofs.Common.{◌+◌, ◌-◌, ◌*◌, ◌<◌, length, drop, min, refl, sym, ◌∙◌, arith}
+use Rattle.std.proofs.lemmas.Grind.{div_ceil_times}
+use Rattle.std.proofs.lemmas.List.{length-append, length-take, length-drop}
+use Rattle.mp_defs.specs.Series.{series_of}
 use Rattle.mp_defs.specs.Window.{windows}
-use Rattle.mp_tiles.proofs.AmongLemmas.{diagonals_before, no_diagonals, one_diagonal, windows_same, places_as, scanned_none, scanned_then, scanned_same, tile_scanned}
+use Rattle.mp_tiles.specs.Scanning.{on_diagonals, HasPlaces, IsScanned}
+use Rattle.mp_tiles.proofs.TileLemmas.{starts_before}
+use Rattle.mp_tiles.proofs.AmongLemmas.{no_groups, one_group, windows_same, places_as, diagonals_as, scanned_none, scanned_then, scanned_same, tile_scanned}
 use Rattle.mp_tiles.proofs.scans.scan_own.Goals as goal
 
-pub loop-d-init : goal.loop-d-init
-loop-d-init c =
+pub loop-k-init : goal.loop-k-init
+loop-k-init c =
     let placed : HasPlaces (windows (length c.args.samples.now) c.args.m) c.args.into.now = record {
       all = c.requires.places;
-      left = sym c.len-count.ensures.left ∙ c.len-count.ensures.all ∙ c.requires.places;
-      right = sym c.len-count.ensures.right ∙ c.len-count.ensures.all ∙ c.requires.places;
+      left = sym c.len.ensures.left ∙ c.len.ensures.all ∙ c.requires.places;
+      right = sym c.len.ensures.right ∙ c.len.ensures.all ∙ c.requires.places;
     } in
     record {
+      few = refl;
       places = placed;
-      scanned = scanned_none (diagonals_before c.args.tile.now.first c.args.tile.now.first) _ _ _ (places_as _ _ _ (sym (windows_same c.args.m c.args.samples.now)) placed) (no_diagonals c.args.tile.now.first);
+      scanned = scanned_none (on_diagonals c.args.tile.now.first (min (c.args.tile.now.first + 0) (c.args.tile.now.last + 1))) _ _ _
+          (places_as _ _ _ (sym (windows_same c.args.m c.args.samples.now)) placed) (λ i j. no_groups _ _ i j (omega arith));
     }
 
-pub loop-d-preserved : goal.loop-d-preserved
-loop-d-preserved c = record {
-  places = c.scan_diagonal.ensures.places;
-  scanned = scanned_same _ (diagonals_before c.args.tile.now.first (c.loop-d.d + 1)) _ _ _ _
-      (scanned_then (diagonals_before c.args.tile.now.first c.loop-d.d) (on_diagonal c.loop-d.d) _ _ _ _ _ c.loop-d.invariant.scanned c.scan_diagonal.ensures.scanned)
-      (λ i j _ _. one_diagonal c.args.tile.now.first c.loop-d.d i j c.loop-d.auto.d);
-}
+pub loop-k-preserved : goal.loop-k-preserved
+loop-k-preserved c =
+    let before = c.loop-k.invariant in
+    let first = c.args.tile.now.first in
+    let end = c.args.tile.now.last + 1 in
+    let start = first + c.loop-k.k * 64 in
+    let width = c.min-width.result in
+    let starts : start < end = starts_before first end 64 c.loop-k.k (omega arith) (omega arith) in
+    let given = length-take width c.loop-k.sums in
+    let one : IsScanned (on_diagonals start (start + width)) c.args.m (series_of c.args.samples.now) c.loop-k.into c.scan_group.new.into =
+    diagonals_as start _ (start + width) _ c.args.m _ _ _ (omega (arith, given, before.few, c.min-width.ensures)) (omega (arith, c.from.ensures)) c.scan_group.ensures.scanned in
+    record {
+      few = length-append c.scan_group.new.sums (drop width c.loop-k.sums) ∙ omega (arith, c.scan_group.ensures.few, given, length-drop width c.loop-k.sums, before.few);
+      places = places_as _ _ _ (c.len.ensures.all ∙ c.requires.places) c.scan_group.ensures.places;
+      scanned = scanned_same _ (on_diagonals first (min (first + (c.loop-k.k + 1) * 64) end)) _ _ _ _ (scanned_then (on_diagonals first (min start end)) (on_diagonals start (start + width)) _ _ _ _ _ before.scanned one)
+          (λ i j _ _. one_group first (min start end) start (start + width) (min (first + (c.loop-k.k + 1) * 64) end) i j (omega arith) (omega (arith, starts)) (omega (arith, starts)) (omega (arith, starts, c.min-width.ensures)));
+    }
 
 pub returns-clause-all : goal.returns-clause-all
-returns-clause-all c = (tile_scanned c.args.tile.now _ _ _ _ _ (omega arith) c.loop-d.invariant.scanned).all
+returns-clause-all c = (tile_scanned c.args.tile.now _ _ _ _ _ (omega (arith, (div_ceil_times (c.args.tile.now.last + 1 - c.args.tile.now.first) 64 (omega arith)).0)) c.loop-k.invariant.scanned).all
 
 pub returns-clause-left : goal.returns-clause-left
-returns-clause-left c = (tile_scanned c.args.tile.now _ _ _ _ _ (omega arith) c.loop-d.invariant.scanned).left
+returns-clause-left c = (tile_scanned c.args.tile.now _ _ _ _ _ (omega (arith, (div_ceil_times (c.args.tile.now.last + 1 - c.args.tile.now.first) 64 (omega arith)).0)) c.loop-k.invariant.scanned).left
 
 pub returns-clause-right : goal.returns-clause-right
-returns-clause-right c = (tile_scanned c.args.tile.now _ _ _ _ _ (omega arith) c.loop-d.invariant.scanned).right
+returns-clause-right c = (tile_scanned c.args.tile.now _ _ _ _ _ (omega (arith, (div_ceil_times (c.args.tile.now.last + 1 - c.args.tile.now.first) 64 (omega arith)).0)) c.loop-k.invariant.scanned).right

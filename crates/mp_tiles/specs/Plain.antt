@@ -1,0 +1,15 @@
+-- Windows in plain numbers.
+use Rattle.std.specs.Prelude.{◌≡◌, ℕ, ◌+◌, ◌<◌, length, slice_index_or, List}
+use Rattle.mp_defs.specs.Series.{Series, number_at}
+use Rattle.mp_tiles.specs.declared.windows.PlainWindow.{PlainWindow}
+use Rattle.mp_tiles.specs.Sums.{filled, gaps_from}
+
+-- the window at i, of so many samples behind its first one
+pub record IsPlain (rest i : ℕ) (a : Series) (window : PlainWindow) : Type 0 where
+  pub first : window.first ≡ filled (number_at a i)
+  pub last : window.last ≡ filled (number_at a (i + rest))
+  pub gaps : window.gaps ≡ gaps_from a (rest + 1) i
+
+-- the windows from start on
+abbrev pub ArePlain : ℕ → ℕ → Series → List PlainWindow → Type 0
+ArePlain rest start a windows = (k : ℕ) (other : PlainWindow) → k < length windows → IsPlain rest (start + k) a (slice_index_or windows k other)
