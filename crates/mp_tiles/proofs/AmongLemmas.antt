@@ -1,10 +1,10 @@
 -- What more pairs make of a profile.
-use Rattle.std.proofs.Common.{◌≡◌, ◌≢◌, ℕ, zero, suc, ◌+◌, ◌-◌, ◌<◌, ◌≤◌, min, inl, inr, List, length, get_or, set, Bool, true, false, refl, sym, ap, ◌∙◌, arith, subst}
+use Rattle.std.proofs.Common.{◌≡◌, ◌≢◌, ℕ, zero, suc, ◌+◌, ◌-◌, ◌<◌, ◌≤◌, min, inl, inr, List, length, get_or, Bool, true, false, refl, sym, ap, ◌∙◌, arith, subst}
 use Rattle.std.specs.Prelude.{Option, None, ◌==◌, ◌&&◌, ◌||◌, nat_le, if◌then◌else◌, ⊤}
 use Rattle.std.specs.List.{range_with_len}
 use Rattle.std.proofs.lemmas.Bool.{cases_eq}
 use Rattle.std.proofs.lemmas.Bool.Decides.{nat_tests}
-use Rattle.std.proofs.lemmas.List.{length-map, ext_get_or, length-set, get_or-set_same, get_or-set_other, set-get_or, get_or-replicate, length-replicate}
+use Rattle.std.proofs.lemmas.List.{length-map, ext_get_or, length-set, get_or-set_same, get_or-set_other, get_or-replicate, length-replicate}
 use Rattle.std.proofs.lemmas.List.FromFn.{length-map-range_with_len, get_or-map-range_with_len}
 use Rattle.std.proofs.lemmas.Simd.{length-zip2, get_or-zip2, zip2-map}
 use Rattle.mp_nums.specs.declared.nearest.Near.{Near}
@@ -237,10 +237,6 @@ scanned_pair i j m a old new d h lt lt' is all left right spare =
       spare = spare;
     }
 
--- nothing is taken where nothing is there
-pub taken_none : (old : Column) (i : ℕ) → old ≡ taken old i None
-taken_none old i = sym (ap (set old i) ((nearer_with_none (get_or old i None)).1) ∙ set-get_or old i None)
-
 -- ---- a block, pair by pair
 
 pub no_rows : (first end top bottom i j : ℕ) → bottom ≤ top → in_block first end top bottom i j ≡ false
@@ -255,14 +251,11 @@ pub no_diagonals : (first end top bottom i j : ℕ) → end ≤ first → in_blo
 no_diagonals first end top bottom i j le = grind (arith, nat_tests)
 
 -- the same numbers, otherwise computed
-pub diagonal_as : (d d' top top' bottom bottom' m m' : ℕ) (samples others : List Sample) (old new : Profiled) → d ≡ d' → top ≡ top' → bottom ≡ bottom' → m ≡ m' → others ≡ samples
-    → IsScanned (in_block d (d + 1) top bottom) m (series_of others) old new → IsScanned (in_block d' (d' + 1) top' bottom') m' (series_of samples) old new
-diagonal_as d d' top top' bottom bottom' m m' samples others old new e f g h k scanned =
-    subst (λ x. IsScanned (in_block x (x + 1) top' bottom') m' (series_of samples) old new) e
-    (subst (λ x. IsScanned (in_block d (d + 1) x bottom') m' (series_of samples) old new) f
-    (subst (λ x. IsScanned (in_block d (d + 1) top x) m' (series_of samples) old new) g
-    (subst (λ x. IsScanned (in_block d (d + 1) top bottom) x (series_of samples) old new) h
-    (subst (λ x. IsScanned (in_block d (d + 1) top bottom) m (series_of x) old new) k scanned))))
+pub block_as : (first first' end end' top bottom bottom' m : ℕ) (a : Series) (old new : Profiled) → first ≡ first' → end ≡ end' → bottom ≡ bottom' → IsScanned (in_block first end top bottom) m a old new → IsScanned (in_block first' end' top bottom') m a old new
+block_as first first' end end' top bottom bottom' m a old new e f g scanned =
+    subst (λ x. IsScanned (in_block x end' top bottom') m a old new) e
+    (subst (λ x. IsScanned (in_block first x top bottom') m a old new) f
+    (subst (λ x. IsScanned (in_block first end top x) m a old new) g scanned))
 
 -- a diagonal has the rows that there are
 pub one_diagonal : (first d next top bottom end w i j : ℕ) → first ≤ d → next ≡ d + 1 → end ≡ min bottom (w - d) → j < w

@@ -10,43 +10,40 @@ use Rattle.mp_defs.specs.Series.{Series, reading_of, series_of, number_at}
 use Rattle.mp_defs.specs.Distance.{square_gap, distance}
 use Rattle.mp_defs.proofs.Places.{number_at_place}
 use Rattle.mp_tiles.specs.declared.windows.PlainWindow.{PlainWindow}
+use Rattle.mp_tiles.specs.declared.scans.Gaps.{Gaps}
 use Rattle.mp_tiles.specs.Sums.{filled, gaps_from, IsSum}
-use Rattle.mp_tiles.specs.Plain.{IsPlain, ArePlain}
+use Rattle.mp_tiles.specs.Plain.{IsPlain, ArePlain, AreGaps}
 use Rattle.mp_tiles.proofs.SumLemmas.{square_of, sum_more, square_within, sum_less, distance_there}
 
 -- what stands for a window past the last one
 abbrev pub no_window : PlainWindow
 no_window = record { first = pos 0; last = pos 0; gaps = 0 }
 
-pub sum_at : (a b : List Sample) (i j i' j' n sum : ℕ) → i ≡ i' → j ≡ j' → IsSum a b i j n sum → IsSum a b i' j' n sum
-sum_at a b i j i' j' n sum e f h = subst (λ p. IsSum a b p j' n sum) e (subst (λ q. IsSum a b i q n sum) f h)
+pub sum_at : (a : List Sample) (i j i' j' n sum : ℕ) → i ≡ i' → j ≡ j' → IsSum a i j n sum → IsSum a i' j' n sum
+sum_at a i j i' j' n sum e f h = subst (λ p. IsSum a p j' n sum) e (subst (λ q. IsSum a i q n sum) f h)
 
 pub square_passed : (x y : ℤ) (square : ℕ) → FitsSigned w32 x → FitsSigned w32 y → square ≡ square_gap (to_z w32 (of_z w32 x)) (to_z w32 (of_z w32 y)) → square ≡ square_gap x y
 square_passed x y square f g e = e ∙ ap (λ z. square_gap z (to_z w32 (of_z w32 y))) (to_z-of_z w32 x f) ∙ ap (square_gap x) (to_z-of_z w32 y g)
 
--- the same numbers, otherwise computed
-pub sum_as : (samples others : List Sample) (i j i' j' n n' sum : ℕ) → others ≡ samples → i ≡ i' → j ≡ j' → n ≡ n' → IsSum others others i j n sum → IsSum samples samples i' j' n' sum
-sum_as samples others i j i' j' n n' sum s e f g h = sum_at samples samples i j i' j' n' sum e f (subst (λ k. IsSum samples samples i j k sum) g (subst (λ xs. IsSum xs xs i j n sum) s h))
-
 -- ---- two windows of a series
 
 -- with the last samples
-pub whole_sum : (a : List Sample) (i j rest sum square : ℕ) (row column : PlainWindow) → IsSum a a i j rest sum → IsPlain rest i (series_of a) row → IsPlain rest j (series_of a) column
-    → square ≡ square_gap row.last column.last → square < 2 ^ 64 → IsSum a a i j (rest + 1) (sum + square)
-whole_sum a i j rest sum square row column h p q e lt = sum_more a a i j rest sum square h (square_of a a (i + rest) (j + rest) row.last column.last square e p.last q.last) lt
+pub whole_sum : (a : List Sample) (i j rest sum square : ℕ) (row column : PlainWindow) → IsSum a i j rest sum → IsPlain rest i (series_of a) row → IsPlain rest j (series_of a) column
+    → square ≡ square_gap row.last column.last → square < 2 ^ 64 → IsSum a i j (rest + 1) (sum + square)
+whole_sum a i j rest sum square row column h p q e lt = sum_more a i j rest sum square h (square_of a (i + rest) (j + rest) row.last column.last square e p.last q.last) lt
 
-pub square_leaves : (a : List Sample) (i j rest whole square : ℕ) (row column : PlainWindow) → IsSum a a i j (rest + 1) whole → IsPlain rest i (series_of a) row → IsPlain rest j (series_of a) column
+pub square_leaves : (a : List Sample) (i j rest whole square : ℕ) (row column : PlainWindow) → IsSum a i j (rest + 1) whole → IsPlain rest i (series_of a) row → IsPlain rest j (series_of a) column
     → square ≡ square_gap row.first column.first → square ≤ whole
-square_leaves a i j rest whole square row column h p q e = square_within a a i j rest whole square h (square_of a a i j row.first column.first square e p.first q.first)
+square_leaves a i j rest whole square row column h p q e = square_within a i j rest whole square h (square_of a i j row.first column.first square e p.first q.first)
 
 -- without the first samples
-pub next_sum : (a : List Sample) (i j rest whole square : ℕ) (row column : PlainWindow) → IsSum a a i j (rest + 1) whole → IsPlain rest i (series_of a) row → IsPlain rest j (series_of a) column
-    → square ≡ square_gap row.first column.first → IsSum a a (i + 1) (j + 1) rest (whole - square)
-next_sum a i j rest whole square row column h p q e = sum_less a a i j rest whole square h (square_of a a i j row.first column.first square e p.first q.first)
+pub next_sum : (a : List Sample) (i j rest whole square : ℕ) (row column : PlainWindow) → IsSum a i j (rest + 1) whole → IsPlain rest i (series_of a) row → IsPlain rest j (series_of a) column
+    → square ≡ square_gap row.first column.first → IsSum a (i + 1) (j + 1) rest (whole - square)
+next_sum a i j rest whole square row column h p q e = sum_less a i j rest whole square h (square_of a i j row.first column.first square e p.first q.first)
 
-pub whole_is_distance : (a : List Sample) (i j rest whole : ℕ) (row column : PlainWindow) (found : Option ℕ) → IsSum a a i j (rest + 1) whole → IsPlain rest i (series_of a) row → IsPlain rest j (series_of a) column
+pub whole_is_distance : (a : List Sample) (i j rest whole : ℕ) (row column : PlainWindow) (found : Option ℕ) → IsSum a i j (rest + 1) whole → IsPlain rest i (series_of a) row → IsPlain rest j (series_of a) column
     → found ≡ (if row.gaps + column.gaps == 0 then Some whole else None) → found ≡ distance (rest + 1) (series_of a) i (series_of a) j
-whole_is_distance a i j rest whole row column found h p q e = e ∙ distance_there a a i j (rest + 1) whole (row.gaps + column.gaps) h (omega (arith, p.gaps, q.gaps))
+whole_is_distance a i j rest whole row column found h p q e = e ∙ distance_there a i j (rest + 1) whole (row.gaps + column.gaps) h (omega (arith, p.gaps, q.gaps))
 
 -- ---- windows that are taken one after another
 
@@ -80,6 +77,11 @@ are_taken samples rest start windows count le each k other lt =
     let below : k < count = omega (arith, lt, length-take count windows) in
     subst (IsPlain rest (start + k) (series_of samples)) (sym (get_or-take count windows k other below)) (each k other below)
 
+pub each_taken : (rest start : ℕ) (a : Series) (windows : List PlainWindow) (count : ℕ) → count ≤ length windows → ArePlain rest start a (take count windows)
+    → (q : ℕ) (other : PlainWindow) → q < count → IsPlain rest (start + q) a (get_or windows q other)
+each_taken rest start a windows count le plain q other lt =
+    subst (IsPlain rest (start + q) a) (get_or-take count windows q other lt) (plain q other (omega (arith, lt, length-take count windows)))
+
 -- some of the windows
 pub part_is_plain : (rest start : ℕ) (a : Series) (windows : List PlainWindow) (from count i : ℕ) → i ≡ start + from → ArePlain rest start a windows → from + count ≤ length windows
     → ArePlain rest i a (take count (drop from windows))
@@ -88,3 +90,9 @@ part_is_plain rest start a windows from count i e plain le k other lt =
     let here : start + (from + k) ≡ i + k = omega (arith, e) in
     subst (λ p. IsPlain rest p a (get_or (take count (drop from windows)) k other)) here
     (subst (IsPlain rest (start + (from + k)) a) (sym (get_or-take count (drop from windows) k other below ∙ get_or-drop from windows k other)) (plain (from + k) other (omega (arith, below, le))))
+
+pub gaps_at : (a : Series) (rest row row' column column' : ℕ) (gaps : Gaps) → row ≡ row' → column ≡ column' → AreGaps a rest row column gaps → AreGaps a rest row' column' gaps
+gaps_at a rest row row' column column' gaps e f h = record {
+  row_is = h.row_is ∙ ap (gaps_from a rest) e;
+  column_is = h.column_is ∙ ap (gaps_from a rest) f;
+}

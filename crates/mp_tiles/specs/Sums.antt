@@ -25,11 +25,11 @@ total f (suc n) i j = total f n i j + f (i + n) (j + n)
 abbrev pub gaps_from : Series → ℕ → ℕ → ℕ
 gaps_from a n i = total (λ k _. gap (number_at a k)) n i i
 
--- the sum over the n samples from i on in one series and from j on in the other
-pub record IsSum (samples others : List Sample) (i j n sum : ℕ) : Type 0 where
-  pub sum_is : sum ≡ total (square_at (series_of samples) (series_of others)) n i j
-  pub small : (k : ℕ) → k < n → square_at (series_of samples) (series_of others) (i + k) (j + k) ≤ 2 ^ 64
+-- the sum over the n samples from i on and those from j on
+pub record IsSum (samples : List Sample) (i j n sum : ℕ) : Type 0 where
+  pub sum_is : sum ≡ total (square_at (series_of samples) (series_of samples)) n i j
+  pub small : (k : ℕ) → k < n → square_at (series_of samples) (series_of samples) (i + k) (j + k) ≤ 2 ^ 64
 
 -- the sums of the diagonals from first on at a row, of those that have such a row among so many windows
 abbrev pub AreSums : List Sample → ℕ → ℕ → ℕ → ℕ → List ℕ → Type 0
-AreSums samples count rest first row sums = (t x : ℕ) → t < length sums → row + first + t < count → IsSum samples samples row (row + first + t) rest (slice_index_or sums t x)
+AreSums samples count rest first row sums = (t x : ℕ) → t < length sums → row + first + t < count → IsSum samples row (row + first + t) rest (slice_index_or sums t x)

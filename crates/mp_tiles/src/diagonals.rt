@@ -5,9 +5,10 @@ ghost use Rattle.mp_defs.specs.Series.{reading_of, series_of};
 ghost use Rattle.mp_defs.specs.Distance.{square_gap};
 ghost use Rattle.mp_defs.specs.Least.{at_distance};
 ghost use Rattle.mp_tiles.specs.Sums.{filled, IsSum};
+ghost use Rattle.mp_tiles.specs.Plain.{ArePlain};
 ghost use Rattle.mp_tiles.specs.Scanning.{in_block, HasPlaces, IsScanned, taken};
 
-use crate::windows::{Stretch, Windows, number};
+use crate::windows::{PlainWindow, Windows, number};
 use mp_nums::{Sample, Sq};
 use mp_partial::Profile;
 
@@ -29,14 +30,13 @@ fn sample_square(x: Sample, y: Sample) -> u64
 
 /// The sum of the squared differences of the first two windows on a diagonal without their last samples, where a missing
 /// sample counts as 0.
-pub(crate) fn first_sum(of: &Windows, diagonal: u64) -> u128
+pub(crate) fn first_sum(of: &Windows, diagonal: usize) -> u128
     requires { diagonal < of.now.count }
-    ensures { IsSum of.now.samples.now of.now.samples.now 0 diagonal of.now.rest result }
+    ensures { IsSum of.now.samples.now 0 diagonal of.now.rest result }
 {
     let mut sum: u128 = 0;
     for k in 0..of.rest {
-        let (x, y) = (of.samples[k as usize], of.samples[(diagonal + k) as usize]);
-        sum += u128::from(sample_square(x, y));
+        sum += u128::from(sample_square(of.samples[k], of.samples[diagonal + k]));
     }
     sum
 }
@@ -65,35 +65,39 @@ fn offer_pair(into: &mut Profile, i: u64, j: u64, dist: Option<u128>)
     }
 }
 
-/// Offers each window of `rows` and the one at the same place of `columns` to each other. The sum is that of the first
-/// two windows without their last samples, and the result that of the two behind the last ones.
-// apart from the loops around it, so that these take no registers from it
+/// Offers each window of `rows` and the one at the same place of `columns` to each other. The first row is the window at
+/// `i`, and the first column the one at `j`. The sum is that of these two without their last samples, and the result that
+/// of the two behind the last ones.
+///
+/// It stands apart from the loops around it, so that these take no registers from it.
 #[inline(never)]
-pub(crate) fn scan_rows(rows: &Stretch, columns: &Stretch, sum: u128, into: &mut Profile) -> u128
-    requires samples { columns.now.of.samples.now ≡ rows.now.of.samples.now }
-    requires rest { columns.now.of.rest ≡ rows.now.of.rest }
-    requires rows { length columns.now.windows.now ≡ length rows.now.windows.now }
-    requires order { rows.now.start < columns.now.start }
-    requires sum { IsSum rows.now.of.samples.now rows.now.of.samples.now rows.now.start columns.now.start
-        rows.now.of.rest sum }
-    requires places { HasPlaces rows.now.of.count into.old }
-    ensures scanned { let first = rows.now.start in let d = columns.now.start - rows.now.start in
-        IsScanned (in_block d (d + 1) first (first + length rows.now.windows.now)) (rows.now.of.rest + 1)
-        (series_of rows.now.of.samples.now) into.old into.new }
-    ensures sum { let n = length rows.now.windows.now in
-        IsSum rows.now.of.samples.now rows.now.of.samples.now (rows.now.start + n) (columns.now.start + n)
-        rows.now.of.rest result }
-    ensures places { HasPlaces rows.now.of.count into.new }
+pub(crate) fn scan_rows(
+    of: &Windows,
+    i: usize,
+    j: usize,
+    rows: &[PlainWindow],
+    columns: &[PlainWindow],
+    sum: u128,
+    into: &mut Profile,
+) -> u128
+    requires order { i < j }
+    requires within { j + length columns.now ≤ of.now.count }
+    requires places { length columns.now ≡ length rows.now }
+    requires rows { ArePlain of.now.rest i (series_of of.now.samples.now) rows.now }
+    requires columns { ArePlain of.now.rest j (series_of of.now.samples.now) columns.now }
+    requires sum { IsSum of.now.samples.now i j of.now.rest sum }
+    requires profile { HasPlaces of.now.count into.old }
+    ensures scanned { IsScanned (in_block (j - i) (j - i + 1) i (i + length rows.now)) (of.now.rest + 1)
+        (series_of of.now.samples.now) into.old into.new }
+    ensures sum { IsSum of.now.samples.now (i + length rows.now) (j + length rows.now) of.now.rest result }
+    ensures profile { HasPlaces of.now.count into.new }
 {
-    // in locals, since the compiler can't tell that a write to the profile leaves them as they are
-    let (first_row, first_column) = (rows.start, columns.start);
-    let (row_windows, column_windows) = (rows.windows, columns.windows);
     let mut sum = sum;
-    for k in 0..row_windows.len() {
-        let (row, column) = (&row_windows[k], &column_windows[k]);
+    for k in 0..rows.len() {
+        let (row, column) = (&rows[k], &columns[k]);
         let whole = sum + u128::from(square(row.last, column.last));
         let dist = distance(whole, row.gaps + column.gaps);
-        offer_pair(into, first_row + k as u64, first_column + k as u64, dist);
+        offer_pair(into, (i + k) as u64, (j + k) as u64, dist);
         sum = whole - u128::from(square(row.first, column.first));
     }
     sum

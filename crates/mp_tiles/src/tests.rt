@@ -1,8 +1,14 @@
-ghost use Rattle.std.specs.Prelude.{◌≡◌, ◌≤◌, IfOk, length, vec_len};
+ghost use Rattle.std.specs.Prelude.{◌≡◌, ◌≤◌, All, IfOk, length, slice_index_or, vec_len};
+ghost use Rattle.mp_series.specs.declared.limits.TheConstants.{MAX_SAMPLES, MAX_WINDOW, MIN_WINDOW};
+ghost use Rattle.mp_defs.specs.Series.{series_of};
+ghost use Rattle.mp_defs.specs.Window.{windows as windows_in, excl as zone};
+ghost use Rattle.mp_tiles.specs.Pairs.{has_pair, IsTileOf};
+ghost use Rattle.mp_tiles.specs.Among.{value_among};
+ghost use Rattle.mp_tiles.specs.Pieces.{no_tile, value_has_columns};
 
-use crate::{MAX_TILE, Tile, cut_own, scan_own};
+use crate::{Cut, MAX_TILE, Tile, cut_own, scan_own};
 use mp_nums::{Memory, Near, Sample, Slot, Slots, Sq};
-use mp_partial::{Part, Profile};
+use mp_partial::{Kernel, Part, Profile};
 use mp_series::{MAX_SAMPLES, MAX_WINDOW, MIN_WINDOW, excl, windows};
 use std::alloc::Global;
 use std::test::Fail;
@@ -37,6 +43,54 @@ fn merge_with_unit<P: Part>(alloc: Global, part: &mut P) -> Result<(), Memory> {
     Ok(())
 }
 
+/// The tiles of a series as the pieces of a kernel.
+#[derive(Drop)]
+struct Tiles<'a> {
+    samples: &'a [Sample],
+    m: u32,
+    cut: Cut,
+    ghost shortest: { MIN_WINDOW ≤ m },
+    ghost longest: { m ≤ MAX_WINDOW },
+    ghost few: { length samples.now ≤ MAX_SAMPLES },
+    ghost each: { All (IsTileOf (windows_in (length samples.now) m) (zone m)) cut },
+}
+
+impl<'a> Kernel for Tiles<'a> {
+    type Out = Profile;
+
+    ghost size_of = { λ tiles. windows_in (length tiles.samples.now) tiles.m };
+
+    ghost pieces_of = { λ tiles. length tiles.cut };
+
+    ghost value_of = { λ tiles piece.
+        value_among (has_pair (slice_index_or tiles.cut piece no_tile)) tiles.m (series_of tiles.samples.now) };
+
+    ghost has_values = { λ tiles piece _.
+        value_has_columns (has_pair (slice_index_or tiles.cut piece no_tile)) tiles.m tiles.samples.now };
+
+    fn size(&self) -> u64 {
+        windows(self.samples.len() as u64, self.m)
+    }
+
+    fn pieces(&self) -> u64 {
+        self.cut.count()
+    }
+
+    fn run(&self, piece: u64, into: &mut Profile) {
+        scan_own(self.samples, self.m, &self.cut.tile(piece), into);
+    }
+}
+
+/// Runs each piece of a kernel, through the bound.
+fn run_each<K: Kernel>(kernel: &K, into: &mut K::Out)
+    requires { K.Out.size_of into.old ≡ K.size_of kernel.now }
+    ensures { K.Out.size_of into.new ≡ K.Out.size_of into.old }
+{
+    for piece in 0..kernel.pieces() {
+        kernel.run(piece, into);
+    }
+}
+
 /// The profile of the samples, tile by tile.
 fn profile(alloc: Global, samples: &[Sample], m: u32, tile: u32) -> Result<Profile, Memory>
     requires shortest { MIN_WINDOW ≤ m }
@@ -46,11 +100,13 @@ fn profile(alloc: Global, samples: &[Sample], m: u32, tile: u32) -> Result<Profi
     requires greatest { tile ≤ MAX_TILE }
 {
     let count = windows(samples.len() as u64, m);
-    let mut profile: Profile = unit(alloc, count)?;
-    let cut = cut_own(count, excl(m), tile);
-    for k in 0..cut.count() {
-        scan_own(samples, m, &cut.tile(k), &mut profile);
-    }
+    let tiles = Tiles {
+        samples,
+        m,
+        cut: cut_own(count, excl(m), tile),
+    };
+    let mut profile: Profile = unit(alloc, tiles.size())?;
+    run_each(&tiles, &mut profile);
     Ok(profile)
 }
 
@@ -149,14 +205,24 @@ fn sums_go_on_past_a_missing_sample(rt: HostRuntime) -> Result<(), Fail> {
         ]
         .as_slice()
     );
+    assert_eq!(rt;
+        profile.left(),
+        [None, None, None, None, None, near(6, 3), near(0, 3)].as_slice()
+    );
+    assert_eq!(rt;
+        profile.right(),
+        [None, None, None, near(0, 6), near(6, 6), None, None].as_slice()
+    );
     Ok(())
 }
 
 #[test]
 fn units_and_growth(rt: HostRuntime) -> Result<(), Fail> {
     let mut slots: Slots = unit(rt.alloc(), 2)?;
-    merge_with_unit(rt.alloc(), &mut slots)?;
     assert_eq!(rt; slots.as_slice(), [None, None].as_slice());
+    slots.push(near(5, 1))?;
+    merge_with_unit(rt.alloc(), &mut slots)?;
+    assert_eq!(rt; slots.as_slice(), [None, None, near(5, 1)].as_slice());
     let two: Profile = unit(rt.alloc(), 2)?;
     assert_eq!(rt; two.all(), [None, None].as_slice());
     assert_eq!(rt; two.left(), [None, None].as_slice());
@@ -182,12 +248,14 @@ fn groups_of_three_diagonals(rt: HostRuntime) {
 fn tiles_give_what_every_pair_gives(rt: HostRuntime) -> Result<(), Fail> {
     for seed in 0..6 {
         let samples = ties(rt.alloc(), 40 + 61 * seed, seed)?;
-        let every = mp_plain::profile(rt.alloc(), samples.as_slice(), 3)?;
-        for tile in [1, 2, 7, 256] {
-            let tiled = profile(rt.alloc(), samples.as_slice(), 3, tile)?;
-            assert_eq!(rt; tiled.all(), every.all.as_slice());
-            assert_eq!(rt; tiled.left(), every.left.as_slice());
-            assert_eq!(rt; tiled.right(), every.right.as_slice());
+        for m in [3, 20] {
+            let every = mp_plain::profile(rt.alloc(), samples.as_slice(), m)?;
+            for tile in [1, 7, 65, 256] {
+                let tiled = profile(rt.alloc(), samples.as_slice(), m, tile)?;
+                assert_eq!(rt; tiled.all(), every.all.as_slice());
+                assert_eq!(rt; tiled.left(), every.left.as_slice());
+                assert_eq!(rt; tiled.right(), every.right.as_slice());
+            }
         }
     }
     Ok(())

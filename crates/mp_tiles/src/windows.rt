@@ -1,10 +1,10 @@
 //! Windows in plain numbers, by which the sums of a diagonal run.
 
 ghost use Rattle.std.specs.Prelude.{◌≡◌, ◌+◌, ◌^◌, ◌<◌, ◌≤◌, length, take};
+ghost use Rattle.mp_series.specs.declared.limits.TheConstants.{MAX_SAMPLES};
 ghost use Rattle.mp_defs.specs.Series.{reading_of, series_of};
 ghost use Rattle.mp_tiles.specs.Sums.{filled, gap as gap_of, gaps_from};
 ghost use Rattle.mp_tiles.specs.Plain.{ArePlain};
-ghost use Rattle.mp_series.specs.declared.limits.TheConstants.{MAX_SAMPLES};
 
 use mp_nums::Sample;
 use mp_series::MAX_SAMPLES;
@@ -13,8 +13,8 @@ use mp_series::MAX_SAMPLES;
 #[derive(Clone, Copy)]
 pub(crate) struct Windows<'a> {
     pub(crate) samples: &'a [Sample],
-    pub(crate) rest: u64,
-    pub(crate) count: u64,
+    pub(crate) rest: usize,
+    pub(crate) count: usize,
     ghost all: { count + rest ≡ length samples.now },
     ghost short: { rest < 2 ^ 16 },
     ghost few: { length samples.now ≤ MAX_SAMPLES },
@@ -28,32 +28,13 @@ pub(crate) struct PlainWindow {
     pub(crate) gaps: u32,
 }
 
-/// Successive windows of a series in plain numbers, from the one at `start` on.
-#[derive(Clone, Copy)]
-pub(crate) struct Stretch<'a> {
-    pub(crate) of: Windows<'a>,
-    pub(crate) start: u64,
-    pub(crate) windows: &'a [PlainWindow],
-    ghost plain: { ArePlain of.rest start (series_of of.samples.now) windows.now },
-    ghost within: { start + length windows.now ≤ of.count },
-}
-
-impl<'a> Stretch<'a> {
-    /// The `count` windows from the one at place `from` on.
-    pub(crate) fn part(&self, from: u64, count: u64) -> Stretch<'a>
-        requires { from + count ≤ length self.now.windows.now }
-        ensures samples { result.of.samples.now ≡ self.now.of.samples.now }
-        ensures rest { result.of.rest ≡ self.now.of.rest }
-        ensures of_count { result.of.count ≡ self.now.of.count }
-        ensures start { result.start ≡ self.now.start + from }
-        ensures count { length result.windows.now ≡ count }
-    {
-        Stretch {
-            of: self.of,
-            start: self.start + from,
-            windows: &self.windows[from as usize..(from + count) as usize],
-        }
-    }
+impl PlainWindow {
+    /// What stands at a place that no window has taken.
+    pub(crate) const NONE: PlainWindow = PlainWindow {
+        first: 0,
+        last: 0,
+        gaps: 0,
+    };
 }
 
 #[inline]
@@ -76,36 +57,50 @@ fn gap(sample: Sample) -> u32
     }
 }
 
-/// How many of the `count` samples from `start` on are missing.
-fn count_gaps(samples: &[Sample], start: u64, count: u64) -> u32
-    requires within { start + count ≤ length samples.now }
-    requires short { count < 2 ^ 16 }
-    ensures { result ≡ gaps_from (series_of samples.now) count start }
+/// How many samples of the window at `start` are missing, its last one aside.
+pub(crate) fn count_gaps(of: &Windows, start: usize) -> u32
+    requires { start ≤ of.now.count }
+    ensures { result ≡ gaps_from (series_of of.now.samples.now) of.now.rest start }
 {
     let mut gaps: u32 = 0;
-    for k in 0..count {
-        gaps += gap(samples[(start + k) as usize]);
+    for k in 0..of.rest {
+        gaps += gap(of.samples[start + k]);
     }
     gaps
 }
 
-/// Takes the windows from the one at `start` on into the first `count` places.
-pub(crate) fn take_windows(plain: &mut [PlainWindow], count: u64, of: &Windows, start: u64)
-    requires places { count ≤ length plain.old }
-    requires within { start + count ≤ of.now.count }
-    ensures plain { ArePlain of.now.rest start (series_of of.now.samples.now) (take count plain.new) }
+/// Takes windows into the places from `from` on and before `to`. The window at `start` stands at place 0, and the places
+/// before `from` are taken.
+///
+/// `gaps` is how many samples of the first window that is taken are missing, its last one aside, and the result is the
+/// same of the window behind the last one.
+pub(crate) fn take_windows(
+    of: &Windows,
+    start: usize,
+    plain: &mut [PlainWindow],
+    from: usize,
+    to: usize,
+    gaps: u32,
+) -> u32
+    requires ordered { from ≤ to }
+    requires places { to ≤ length plain.old }
+    requires within { start + to ≤ of.now.count }
+    requires taken { ArePlain of.now.rest start (series_of of.now.samples.now) (take from plain.old) }
+    requires gaps { gaps ≡ gaps_from (series_of of.now.samples.now) of.now.rest (start + from) }
+    ensures taken { ArePlain of.now.rest start (series_of of.now.samples.now) (take to plain.new) }
+    ensures gaps { result ≡ gaps_from (series_of of.now.samples.now) of.now.rest (start + to) }
     ensures places { length plain.new ≡ length plain.old }
 {
-    let mut gaps = count_gaps(of.samples, start, of.rest);
-    for k in 0..count {
-        let first = of.samples[(start + k) as usize];
-        let last = of.samples[(start + k + of.rest) as usize];
+    let mut gaps = gaps;
+    for k in from..to {
+        let (first, last) = (of.samples[start + k], of.samples[start + k + of.rest]);
         let gaps_within = gaps + gap(last);
-        plain[k as usize] = PlainWindow {
+        plain[k] = PlainWindow {
             first: number(first),
             last: number(last),
             gaps: gaps_within,
         };
         gaps = gaps_within - gap(first);
     }
+    gaps
 }

@@ -1,5 +1,5 @@
 //! Computes the profile of a series that it makes itself, along diagonals or by comparing every pair of windows, and
-//! prints a number that is the same for both. With the word `timed` it also prints the time that a pair of windows took.
+//! prints a number that is the same for both. With the word `timed` it also prints the time that it took.
 #![tactic(auto)]
 
 ghost use Rattle.std.specs.Prelude.{◌≤◌};
@@ -12,8 +12,8 @@ mod words;
 use anyhow::Result;
 use std::env;
 use std::rt::{Clock, Env};
-use std::time::Instant;
-use words::Words;
+use std::time::{Duration, Instant};
+use words::{Body, Words};
 
 fn main(rt: HostRuntime) -> Result<()> {
     run(&rt)
@@ -26,12 +26,24 @@ fn run<R: AllocGlobal + Clock + Env + Print>(rt: &R) -> Result<()> {
     }
     let words = Words::read(texts.as_slice())?;
     let samples = series::noise(rt.alloc(), words.samples)?;
-    let start = Instant::now(rt)?;
-    let sum = bodies::sum_of_profile(rt.alloc(), &words, samples.as_slice())?;
-    let nanos = start.elapsed(rt)?.as_nanos();
-    println!(rt; "{sum:016x}")?;
-    if words.timed {
-        println!(rt; "{nanos} nanoseconds")?;
+    let samples = samples.as_slice();
+    if words.body != Body::Pairs {
+        let start = Instant::now(rt)?;
+        let sum = bodies::sum_by_tiles(rt.alloc(), &words, samples)?;
+        report(rt, sum, words.timed, start.elapsed(rt)?)?;
+    }
+    if words.body != Body::Tiles {
+        let start = Instant::now(rt)?;
+        let sum = bodies::sum_by_pairs(rt.alloc(), &words, samples)?;
+        report(rt, sum, words.timed, start.elapsed(rt)?)?;
+    }
+    Ok(())
+}
+
+fn report(rt: &impl Print, sum: u128, timed: bool, time: Duration) -> Result<()> {
+    println!(rt; "{sum:032x}")?;
+    if timed {
+        println!(rt; "{} nanoseconds", time.as_nanos())?;
     }
     Ok(())
 }

@@ -15,6 +15,8 @@ pub enum Body {
     Tiles,
     /// By comparing every pair of windows.
     Pairs,
+    /// The one way and then the other.
+    Both,
 }
 
 /// What is to be done.
@@ -33,17 +35,23 @@ pub struct Words {
 }
 
 impl Words {
-    /// Reads `tiles` or `pairs`, the numbers of samples, of samples in a window and of diagonals in a tile, and maybe
-    /// `timed`.
+    /// Reads `tiles`, `pairs` or `both`, the numbers of samples, of samples in a window and of diagonals in a tile, and
+    /// maybe `timed`.
     pub fn read(words: &[String]) -> Result<Words> {
         ensure!(
             words.len() == 4 || words.len() == 5,
-            "tiles or pairs, samples, window, tile, and maybe timed"
+            "tiles, pairs or both, samples, window, tile, and maybe timed"
+        );
+        let timed = words.len() == 5;
+        ensure!(
+            !timed || words[4].as_str() == "timed",
+            "timed, or no fifth word"
         );
         let body = match words[0].as_str() {
             "tiles" => Body::Tiles,
             "pairs" => Body::Pairs,
-            _ => bail!("tiles or pairs"),
+            "both" => Body::Both,
+            _ => bail!("tiles, pairs or both"),
         };
         let samples = words[1].as_str().parse::<u64>().context("samples")?;
         let window = words[2].as_str().parse::<u32>().context("window")?;
@@ -59,7 +67,7 @@ impl Words {
             samples,
             window,
             tile,
-            timed: words.len() == 5,
+            timed,
         })
     }
 }

@@ -6,11 +6,10 @@ use Rattle.mp_tiles.proofs.diagonals.scan_rows.Given as goal
 
 abbrev pub invariant-loop-k : goal.invariant-loop-k
 invariant-loop-k l =
-    let a = l.rows.of.samples.now in
-    let first = l.rows.start in
-    let d = l.columns.start - first in
+    let a = l.of.samples.now in
+    let d = l.j - l.i in
     record {
-      sum : IsSum a a (first + l.k) (l.columns.start + l.k) l.rows.of.rest l.sum;
-      places : HasPlaces l.rows.of.count l.into;
-      scanned : IsScanned (in_block d (d + 1) first (first + l.k)) (l.rows.of.rest + 1) (series_of a) l.initial.into l.into;
+      sum : IsSum a (l.i + l.k) (l.j + l.k) l.of.rest l.sum;
+      profile : HasPlaces l.of.count l.into;
+      scanned : IsScanned (in_block d (d + 1) l.i (l.i + l.k)) (l.of.rest + 1) (series_of a) l.initial.into l.into;
     }

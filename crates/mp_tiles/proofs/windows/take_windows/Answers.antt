@@ -1,11 +1,18 @@
-use Rattle.std.proofs.Common.{◌≡◌, ◌+◌, rules, w32, FitsSigned, ap, ◌∙◌, arith}
+use Rattle.std.proofs.Common.{◌≡◌, ◌+◌, rules, w32, FitsSigned, refl, ap, ◌∙◌, arith}
 use Rattle.std.proofs.lemmas.Int.{to_z-of_z}
 use Rattle.std.proofs.lemmas.List.{length-set}
 use Rattle.mp_defs.specs.Series.{series_of}
 use Rattle.mp_tiles.specs.Sums.{gaps_from}
 use Rattle.mp_tiles.proofs.SumLemmas.{gaps_few, gap_few, gaps_more, gaps_less}
-use Rattle.mp_tiles.proofs.PlainLemmas.{one_taken, are_taken}
+use Rattle.mp_tiles.proofs.PlainLemmas.{one_taken, are_taken, each_taken}
 use Rattle.mp_tiles.proofs.windows.take_windows.Goals as goal
+
+pub loop-k-init : goal.loop-k-init
+loop-k-init c = record {
+  gaps = c.requires.gaps;
+  places = refl;
+  taken = each_taken _ _ _ _ _ (omega arith) c.requires.taken;
+}
 
 pub overflow_add-gaps_within : goal.overflow_add-gaps_within
 overflow_add-gaps_within c = omega (arith, c.loop-k.invariant.gaps, gaps_few (series_of c.args.of.now.samples.now) c.args.of.now.rest (c.args.start + c.loop-k.k), gap_few _ _ c.gap.ensures)
@@ -33,5 +40,5 @@ loop-k-preserved c =
           (to_z-of_z w32 c.number.result first_fits ∙ c.number.ensures) (to_z-of_z w32 c.number-in-loop-k.result last_fits ∙ c.number-in-loop-k.ensures) within;
     }
 
-pub returns-clause-plain : goal.returns-clause-plain
-returns-clause-plain c = are_taken _ _ _ _ _ (omega (arith, c.loop-k.invariant.places)) (λ q other lt. c.loop-k.invariant.taken q other (omega (arith, lt)))
+pub returns-clause-taken : goal.returns-clause-taken
+returns-clause-taken c = are_taken _ _ _ _ _ (omega (arith, c.loop-k.invariant.places)) (λ q other lt. c.loop-k.invariant.taken q other (omega (arith, lt)))
