@@ -1,6 +1,6 @@
 //! A list of samples that counts how often they are read.
 
-ghost use Rattle.std.specs.Prelude.{◌≡◌, ◌+◌, ◌<◌, ◌≤◌, ◌↔◌, [], ◌∷◌, ◌++◌, length, IsOk, IsErrOf, IfOk, OnOk, OnErr};
+ghost use Rattle.std.specs.Prelude.{◌≡◌, ◌+◌, ◌^◌, ◌<◌, ◌≤◌, ◌↔◌, [], ◌∷◌, ◌++◌, length, IsOk, IsErrOf, IfOk, OnOk, OnErr};
 
 use crate::limits::MAX_SAMPLES;
 use mp_nums::{Items, Memory, Sample};
@@ -117,6 +117,7 @@ impl Samples {
         ensures* reads { sem 𝓛 (CountsEveryPair self.entry) }
         ensures items { result.now ≡ self.old.items }
         ensures within { length result.now ≤ MAX_SAMPLES }
+        ensures reads_within { self.old.reads < 2 ^ 128 }
     {
         let count = self.stored.as_slice().len() as u128;
         self.reads = self.reads.saturating_add(count * count);

@@ -1,10 +1,11 @@
 -- A line's step is the step of the command that it asks for.
-use Rattle.std.proofs.Common.{◌≡◌, ℕ, ◌+◌, false, arith, List, [], refl, ap, ◌∙◌, sym, subst, append-nil}
+use Rattle.std.proofs.Common.{◌≡◌, ℕ, ◌+◌, ◌^◌, ◌<◌, false, arith, List, [], refl, ap, ◌∙◌, sym, subst, append-nil}
 use Rattle.std.proofs.Math.Bool.{or-false}
 use Rattle.std.specs.Prelude.{None, Ok, Err}
 use Rattle.mp_replies.specs.declared.causes.Cause.{Cause}
 use Rattle.mp_replies.specs.State.{Files, State}
 use Rattle.mp_nums.specs.declared.samples.Sample.{Sample}
+use Rattle.mp_series.specs.Samples.{Counted, after_reads}
 use Rattle.mp_replies.specs.Command.{Command, Blank, command_of}
 use Rattle.mp_replies.specs.Step.{cause, command_cause, after, accepted_after, counted, answer, command_answer, Answer}
 use Rattle.mp_replies.specs.Report.{text_of}
@@ -100,4 +101,14 @@ stands_still old mid state same h = record {
   lines_is = rw same.lines_is h.lines_is;
   begun_is = rw same.begun_is h.begun_is;
   stores_is = rw same.items_are h.stores_is;
+}
+
+-- a session that lent its samples is the same but for reads
+pub same_but_reads : (old held : Held) (n : ℕ) (lent : Counted) → held ≡ old → held.samples.reads < 2 ^ 128 → lent ≡ after_reads held.samples n → IsSameButRoom old (record held { samples = lent })
+same_but_reads old held n lent h within counted = subst (λ (s : Held). IsSameButRoom s (record held { samples = lent })) h record {
+  settings_are = refl;
+  lines_is = refl;
+  begun_is = refl;
+  items_are = rw counted refl;
+  reads_rise = rw counted (grind arith);
 }

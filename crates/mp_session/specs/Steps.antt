@@ -50,9 +50,10 @@ pub record IsCommandStep (held : Held) (command : Command) (prepared : Prepared)
 abbrev pub IsCommandRefused : Held → Command → Cause → Type 0
 IsCommandRefused held command why = (files : Files) → replies.command_cause (state_of held) files command ≡ Some why
 
--- nothing but reads and room is changed
+-- nothing but reads and room is changed, and reads only rise
 pub record IsSameButRoom (old new : Held) : Type 0 where
   pub settings_are : new.settings ≡ old.settings
   pub lines_is : new.lines ≡ old.lines
   pub begun_is : new.begun ≡ old.begun
   pub items_are : new.samples.items ≡ old.samples.items
+  pub reads_rise : old.samples.reads ≤ new.samples.reads

@@ -1,6 +1,6 @@
 //! A session: lines in, replies out.
 
-ghost use Rattle.std.specs.Prelude.{◌≡◌, ◌↔◌, ℕ, ◌+◌, ◌-◌, ◌^◌, ◌<◌, ◌≤◌, List, [], ◌++◌, length, vec_len, Option, Some, None, IfOk, IfErr, OnOk, OnErr, IsErrOf, IsNone, IfSome, map};
+ghost use Rattle.std.specs.Prelude.{◌≡◌, ◌↔◌, ℕ, ◌+◌, ◌-◌, ◌^◌, ◌<◌, ◌≤◌, List, [], ◌++◌, length, vec_len, Option, Some, None, IfOk, IfErr, OnOk, OnErr, IsErrOf, IsNone, IfSome, map, true, false};
 ghost use Rattle.mp_replies.specs.declared.causes.Cause.{Cause as Why};
 ghost use Rattle.mp_series.specs.declared.limits.TheConstants.{MAX_SAMPLES};
 ghost use Rattle.mp_defs.specs.Series.{reading_of};
@@ -143,7 +143,7 @@ impl Session {
     ghost use Rattle.mp_replies.specs.Step.{answer, after};
     ghost use Rattle.mp_replies.specs.Command.{Append, Profile};
     ghost use Rattle.mp_replies.specs.Output.{reply};
-    ghost use Rattle.mp_session.specs.Answers.{answered, kind_of};
+    ghost use Rattle.mp_session.specs.Answers.{answered, is_accepted, kind_of};
     ghost use Rattle.mp_session.specs.Jobs.{setup_by};
     ghost use Rattle.mp_session.specs.Sessions.{StandsFor};
     ghost use Rattle.mp_session.specs.Steps.{IsStep, IsCommandStep, IsRefused, IsCommandRefused, IsSameButRoom, state_of, state_with};
@@ -169,6 +169,8 @@ impl Session {
         ensures refused { IfErr result (λ refusal. (why : Why) → refusal ≡ Refusal.Cause why → IsRefused self.old line.now why) }
         ensures room { IfOk result (λ prepared. vec_len prepared.samples ≤ self.new.samples.spare) }
         ensures same { IsSameButRoom self.old self.new }
+        ensures unread { IfOk result (λ prepared. is_accepted (answered prepared.answer) ≡ false → self.new.samples.reads ≡ self.old.samples.reads) }
+        ensures unread_refused { IfErr result (λ refusal. (why : Why) → refusal ≡ Refusal.Cause why → self.new.samples.reads ≡ self.old.samples.reads) }
     {
         match parse_line(line) {
             Err(cause) => Err(Refusal::Cause(cause)),
@@ -184,6 +186,7 @@ impl Session {
             → IsCommandRefused self.old (Append 0 (fields_in items.entry.text.now)) why) }
         ensures room { IfOk result (λ prepared. vec_len prepared.samples ≤ self.new.samples.spare) }
         ensures same { IsSameButRoom self.old self.new }
+        ensures reads { self.new.samples.reads ≡ self.old.samples.reads }
     {
         let samples = read_items(alloc, items)?;
         let count = self.samples.len() + samples.len() as u64;
@@ -202,6 +205,8 @@ impl Session {
         ensures refused { IfErr result (λ refusal. (why : Why) → refusal ≡ Refusal.Cause why → IsCommandRefused self.old (Profile 0) why) }
         ensures room { IfOk result (λ prepared. vec_len prepared.samples ≤ self.new.samples.spare) }
         ensures same { IsSameButRoom self.old self.new }
+        ensures accepted { IfOk result (λ prepared. is_accepted (answered prepared.answer) ≡ true) }
+        ensures memory { IfErr result (λ refusal. refusal ≡ Refusal.Memory) }
     {
         let (m, tile) = (self.settings.window(), self.settings.tile());
         let profile = profile(alloc, self.samples.lend(), m, tile)?;
@@ -213,6 +218,7 @@ impl Session {
         ensures ok { IfOk result (IsStep self.old line.now) }
         ensures room { IfOk result (λ prepared. vec_len prepared.samples ≤ self.new.samples.spare) }
         ensures same { IsSameButRoom self.old self.new }
+        ensures unread { IfOk result (λ prepared. is_accepted (answered prepared.answer) ≡ false → self.new.samples.reads ≡ self.old.samples.reads) }
     {
         match self.accept(alloc, line) {
             Ok(prepared) => Ok(prepared),
@@ -240,6 +246,10 @@ impl Session {
         ensures lines { OnOk result (self.new.lines ≡ self.old.lines + 1) }
         ensures stop { (state : State) → StandsFor self.old state → OnErr result (StandsFor self.new state) }
         ensures stop_lines { OnErr result (self.new.lines ≡ self.old.lines) }
+        ensures settings { self.new.settings ≡ self.old.settings }
+        ensures reads { self.old.samples.reads ≤ self.new.samples.reads }
+        ensures refused_reads { IfOk result (λ r. r.kind ≡ ReplyKind.Refused → self.new.samples.reads ≡ self.old.samples.reads) }
+        ensures quiet_reads { IfOk result (λ r. r.kind ≡ ReplyKind.Quiet → self.new.samples.reads ≡ self.old.samples.reads) }
         ensures no_fault { IsErrOf result Stop.ShelfFault → ⊥ }
         ensures shelf { H.faults _shelf.new ≡ H.faults _shelf.old }
     {
@@ -256,6 +266,8 @@ impl Session {
         requires fits { 0 < length prepared.now.samples.items → length self.old.samples.items + length prepared.now.samples.items ≤ MAX_SAMPLES }
         ensures state { state_of self.new ≡ state_with self.old (answered prepared.now.answer) prepared.now.samples.items }
         ensures lines { self.new.lines ≡ self.old.lines + 1 }
+        ensures settings { self.new.settings ≡ self.old.settings }
+        ensures reads { self.new.samples.reads ≡ self.old.samples.reads }
     {
         add_all(&mut self.samples, prepared.samples.as_slice());
         self.lines += 1;
