@@ -1,8 +1,8 @@
--- Where a field of a text ends, and what follows it.
-use Rattle.std.proofs.Common.{◌≡◌, ℕ, zero, suc, ◌+◌, ◌<◌, ◌≤◌, true, false, List, [], ◌∷◌, length, take, drop, get_or, refl, arith, ap, ◌∙◌, sym, subst, not}
+-- Where a field of a text ends, what follows it, and how many fields there are.
+use Rattle.std.proofs.Common.{◌≡◌, ℕ, zero, suc, ◌+◌, ◌<◌, ◌≤◌, Bool, true, false, List, [], ◌∷◌, length, take, drop, get_or, refl, arith, ap, ◌∙◌, sym, subst, not}
 use Rattle.std.proofs.lemmas.List.{get_or-drop, length-drop}
 use Rattle.std.specs.Prelude.{slice_index, filter}
-use Rattle.mp_replies.specs.Bytes.{is_empty}
+use Rattle.mp_replies.specs.Bytes.{is_empty, onto_first}
 use Rattle.mp_replies.specs.Lines.{is_blank, pieces, fields_in}
 
 -- a blank in front changes no field
@@ -47,3 +47,18 @@ fields-field text n p h before end =
     let whole = pieces-field text n h before end in
     let rest = pieces-field (drop n text) 0 (omega arith) (λ k lt. absurd (omega (arith, lt))) (λ lt. begins text n (end (omega (arith, lt, length-drop n text)))) in
     rw (whole, rest) (kept_field (take n text) (later_pieces (drop n text)) (nonempty_take text n p h))
+
+-- a byte in front of the first piece makes at most one field more
+onto_first-fields : (b : ℕ) (found : List (List ℕ)) → length (filter (λ piece. not (is_empty piece)) (onto_first b found)) ≤ length (filter (λ piece. not (is_empty piece)) found) + 1
+onto_first-fields b [] = omega arith
+onto_first-fields b ([] ∷ found) = omega arith
+onto_first-fields b ((c ∷ piece) ∷ found) = omega arith
+
+fields_within_by : (b : ℕ) (bs : List ℕ) (blank : Bool) → is_blank b ≡ blank → length (fields_in bs) ≤ length bs → length (fields_in (b ∷ bs)) ≤ length (b ∷ bs)
+fields_within_by b bs true h shorter = rw h (omega arith)
+fields_within_by b bs false h shorter = let more = onto_first-fields b (pieces bs) in rw h (omega arith)
+
+-- a text has no more fields than bytes
+pub fields_within : (text : List ℕ) → length (fields_in text) ≤ length text
+fields_within [] = omega arith
+fields_within (b ∷ bs) = fields_within_by b bs (is_blank b) refl (fields_within bs)

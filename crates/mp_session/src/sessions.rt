@@ -18,7 +18,7 @@ use mp_nums::{Memory, Sample, Text};
 use mp_outside::{Gate, Shelf};
 use mp_replies::Cause;
 use mp_series::{MAX_SAMPLES, Samples};
-use std::alloc::{AllocFailed, Global};
+use std::alloc::Global;
 use std::marker::Model;
 use std::thread::Threads;
 use thiserror::Error;
@@ -72,6 +72,17 @@ impl Model for Session {
     ghost view = { λ s. record { settings = s.settings; lines = s.lines; begun = s.begun; samples = s.samples } };
 }
 
+impl From<Cause> for Refusal {
+    ghost use Rattle.std.specs.Prelude.{◌≡◌};
+    ghost use Rattle.mp_session.specs.declared.sessions.Refusal.TheVariants.{Cause as refused_by};
+
+    ghost from_gives = { λ cause refusal. refusal ≡ refused_by cause };
+
+    fn from(cause: Cause) -> Refusal {
+        Refusal::Cause(cause)
+    }
+}
+
 impl From<Memory> for Refusal {
     ghost use Rattle.std.specs.Prelude.{◌≡◌};
     ghost use Rattle.mp_session.specs.declared.sessions.Refusal.TheVariants.{Memory as out_of_memory};
@@ -83,29 +94,33 @@ impl From<Memory> for Refusal {
     }
 }
 
-impl<T: Drop> From<AllocFailed<T>> for Refusal {
-    ghost use Rattle.std.specs.Prelude.{◌≡◌};
-    ghost use Rattle.mp_session.specs.declared.sessions.Refusal.TheVariants.{Memory as out_of_memory};
-
-    ghost from_gives = { λ _ refusal. refusal ≡ out_of_memory };
-
-    fn from(_failed: AllocFailed<T>) -> Refusal {
-        Refusal::Memory
+/// How many items there are, each of which spells a sample, or why the first one that doesn't is refused.
+#[tactic(auto, using(crate::proofs::FieldLemmas::fields_within))]
+fn count_items(items: Fields<'_>) -> Result<u64, Cause>
+    ensures count { IfOk result (λ count. count ≡ length (fields_in items.entry.text.now)) }
+    ensures within { IfOk result (λ count. count < 2 ^ 63) }
+    ensures good { OnOk result (bad_item 1 (fields_in items.entry.text.now) ≡ None) }
+    ensures bad { IfErr result (λ why. bad_item 1 (fields_in items.entry.text.now) ≡ Some why) }
+{
+    let mut count = 0;
+    for item in items {
+        if read_sample(item).is_none() {
+            return Err(Cause::Sample(count + 1));
+        }
+        count += 1;
     }
+    Ok(count)
 }
 
-/// The samples that the items spell.
-fn read_items(alloc: Global, items: Fields<'_>) -> Result<Vec<Sample>, Refusal>
-    ensures ok { IfOk result (λ samples. map reading_of samples.items ≡ map sample_of (fields_in items.entry.text.now)) }
-    ensures good { OnOk result (bad_item 1 (fields_in items.entry.text.now) ≡ None) }
-    ensures bad { IfErr result (λ refusal. (why : Why) → refusal ≡ Refusal.Cause why → bad_item 1 (fields_in items.entry.text.now) ≡ Some why) }
+/// The samples that the items spell, all of which are good, and of which there are `count`.
+fn read_items(alloc: Global, items: Fields<'_>, count: u64) -> Result<Vec<Sample>, Memory>
+    requires good { bad_item 1 (fields_in items.text.now) ≡ None }
+    requires count { count ≡ length (fields_in items.text.now) }
+    ensures { IfOk result (λ samples. map reading_of samples.items ≡ map sample_of (fields_in items.entry.text.now)) }
 {
-    let mut samples = Vec::new(alloc);
+    let mut samples = Vec::with_capacity(alloc, count as usize)?;
     for item in items {
-        match read_sample(item) {
-            Some(value) => samples.push(Sample::Value(value))?,
-            None => return Err(Refusal::Cause(Cause::Sample(samples.len() as u64 + 1))),
-        }
+        samples.push(Sample::Value(read_sample(item).unwrap()))?;
     }
     Ok(samples)
 }
@@ -188,12 +203,13 @@ impl Session {
         ensures same { IsSameButRoom self.old self.new }
         ensures reads { self.new.samples.reads ≡ self.old.samples.reads }
     {
-        let samples = read_items(alloc, items)?;
-        let count = self.samples.len() + samples.len() as u64;
+        let added = count_items(items)?;
+        let count = self.samples.len() + added;
         if count > MAX_SAMPLES {
             return Err(Refusal::Cause(Cause::Full));
         }
-        self.samples.reserve(samples.len() as u64)?;
+        let samples = read_items(alloc, items, added)?;
+        self.samples.reserve(added)?;
         Ok(Prepared {
             answer: Answer::Accepted(Some(count)),
             samples,
