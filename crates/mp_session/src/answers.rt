@@ -15,7 +15,9 @@ use std::alloc::Global;
 pub enum ReplyKind {
     /// A blank line or a comment.
     Quiet,
+    /// A command that was carried out.
     Accepted,
+    /// A line that changed nothing but the number of lines run.
     Refused,
     /// An accepted line that ends the run.
     Ended,

@@ -26,6 +26,7 @@ use thiserror::Error;
 /// The report of a line, and what became of the line.
 #[derive(Debug, Drop)]
 pub struct Reply {
+    /// The report, each of its lines with its LF. It is empty for a quiet line.
     pub text: Text,
     pub kind: ReplyKind,
 }
@@ -33,8 +34,10 @@ pub struct Reply {
 /// Why a run stops at a line.
 #[derive(Clone, Copy, Debug, PartialEq, Eq, Error)]
 pub enum Stop {
+    /// The shelf failed when a line asked it for a file. No line asks for one yet.
     #[error("a file could not be fetched")]
     ShelfFault,
+    /// There was no memory for what the line needs, its report included.
     #[error("out of memory")]
     Memory,
 }
@@ -161,7 +164,7 @@ impl Session {
     ghost use Rattle.mp_session.specs.Answers.{answered, is_accepted, kind_of};
     ghost use Rattle.mp_session.specs.Jobs.{setup_by};
     ghost use Rattle.mp_session.specs.Sessions.{StandsFor};
-    ghost use Rattle.mp_session.specs.Steps.{IsStep, IsCommandStep, IsRefused, IsCommandRefused, IsSameButRoom, state_of, state_with};
+    ghost use Rattle.mp_session.specs.Steps.{IsStep, IsCommandStep, IsRefused, IsUnrefused, IsCommandRefused, IsCommandUnrefused, IsSameButRoom, HasTakenOver};
 
     /// Slot 0 has one empty channel, all other slots are closed, and no line was run.
     pub fn new(alloc: Global, settings: Settings) -> Result<Session, Memory>
@@ -179,9 +182,11 @@ impl Session {
     }
 
     /// Takes all that an accepted line needs, or says why the line is refused. It changes nothing but reads and room.
+    /// Want of memory comes only where nothing refuses the line.
     fn accept(&mut self, alloc: Global, line: &[u8]) -> Result<Prepared, Refusal>
         ensures ok { IfOk result (IsStep self.old line.now) }
         ensures refused { IfErr result (λ refusal. (why : Why) → refusal ≡ Refusal.Cause why → IsRefused self.old line.now why) }
+        ensures memory { IsErrOf result Refusal.Memory → IsUnrefused self.old line.now }
         ensures room { IfOk result (λ prepared. vec_len prepared.samples ≤ self.new.samples.spare) }
         ensures same { IsSameButRoom self.old self.new }
         ensures unread { IfOk result (λ prepared. is_accepted (answered prepared.answer) ≡ false → self.new.samples.reads ≡ self.old.samples.reads) }
@@ -195,10 +200,12 @@ impl Session {
         }
     }
 
+    /// Takes the room for the items and reads them, where none is bad and all fit.
     fn accept_append(&mut self, alloc: Global, items: Fields<'_>) -> Result<Prepared, Refusal>
         ensures ok { IfOk result (IsCommandStep self.old (Append 0 (fields_in items.entry.text.now))) }
         ensures refused { IfErr result (λ refusal. (why : Why) → refusal ≡ Refusal.Cause why
             → IsCommandRefused self.old (Append 0 (fields_in items.entry.text.now)) why) }
+        ensures memory { IsErrOf result Refusal.Memory → IsCommandUnrefused self.old (Append 0 (fields_in items.entry.text.now)) }
         ensures room { IfOk result (λ prepared. vec_len prepared.samples ≤ self.new.samples.spare) }
         ensures same { IsSameButRoom self.old self.new }
         ensures reads { self.new.samples.reads ≡ self.old.samples.reads }
@@ -216,12 +223,13 @@ impl Session {
         })
     }
 
+    /// Computes the profile, for which the samples are lent once.
     fn accept_profile(&mut self, alloc: Global) -> Result<Prepared, Refusal>
         ensures ok { IfOk result (IsCommandStep self.old (Profile 0)) }
-        ensures refused { IfErr result (λ refusal. (why : Why) → refusal ≡ Refusal.Cause why → IsCommandRefused self.old (Profile 0) why) }
         ensures room { IfOk result (λ prepared. vec_len prepared.samples ≤ self.new.samples.spare) }
         ensures same { IsSameButRoom self.old self.new }
         ensures accepted { IfOk result (λ prepared. is_accepted (answered prepared.answer) ≡ true) }
+        ensures unrefused { IsCommandUnrefused self.old (Profile 0) }
         ensures memory { IfErr result (λ refusal. refusal ≡ Refusal.Memory) }
     {
         let (m, tile) = (self.settings.window(), self.settings.tile());
@@ -243,7 +251,8 @@ impl Session {
         }
     }
 
-    /// Runs one line without its LF: answers it and takes over what it changes.
+    /// Runs one line without its LF: answers it and takes over what it changes. A line that is refused or quiet changes
+    /// nothing but the number of lines run, and reads no sample.
     ///
     /// All memory is taken before the first change, so that a run that stops at the line leaves the session as it
     /// was before, how often samples were read aside.
@@ -280,9 +289,7 @@ impl Session {
         requires lines { self.old.lines < 2 ^ 64 - 1 }
         requires room { vec_len prepared.now.samples ≤ self.old.samples.spare }
         requires fits { 0 < length prepared.now.samples.items → length self.old.samples.items + length prepared.now.samples.items ≤ MAX_SAMPLES }
-        ensures state { state_of self.new ≡ state_with self.old (answered prepared.now.answer) prepared.now.samples.items }
-        ensures lines { self.new.lines ≡ self.old.lines + 1 }
-        ensures settings { self.new.settings ≡ self.old.settings }
+        ensures made { HasTakenOver self.old self.new (answered prepared.now.answer) prepared.now.samples.items }
         ensures reads { self.new.samples.reads ≡ self.old.samples.reads }
     {
         add_all(&mut self.samples, prepared.samples.as_slice());
@@ -291,6 +298,9 @@ impl Session {
     }
 
     /// How often samples of the slot were read, `None` where the slot isn't open.
+    ///
+    /// Each time that a line computes from the samples, every one of them counts as read as often as there are samples,
+    /// as for every pair of them. Samples that are added are not read. The count stays at its greatest value.
     pub fn reads(&self, slot: u64) -> Option<u128>
         ensures open { (state : State) → StandsFor self.now state → IsNone result ↔ (store_at state slot ≡ Closed) }
         ensures value { IfSome result (λ reads. reads ≡ self.now.samples.reads) }

@@ -14,4 +14,4 @@ returns-clause-text g c = λ state files h.
 
 pub returns-clause-after : goal.returns-clause-after
 returns-clause-after g c = λ state files h.
-    stands_after c.args.self.now c.prepare.new.self c.take_over.new.self state c.args.line.now files c.in_ok-prepared.prepared h c.in_ok-prepared.ensures.ok c.in_ok-prepared.ensures.same c.take_over.ensures.state
+    stands_after c.args.self.now c.prepare.new.self c.take_over.new.self state c.args.line.now files c.in_ok-prepared.prepared h c.in_ok-prepared.ensures.ok c.in_ok-prepared.ensures.same c.take_over.ensures.made
