@@ -56,3 +56,14 @@ impl Bundle {
         self.stored[c as usize].as_slice()
     }
 }
+
+/// The series as they stand, in their order. It takes no memory.
+impl From<Vec<Vec<Sample>>> for Bundle {
+    ghost use Rattle.std.specs.Prelude.{◌≡◌, map};
+
+    ghost from_gives = { λ stored bundle. bundle ≡ map (λ series. series.items) stored.items };
+
+    fn from(stored: Vec<Vec<Sample>>) -> Bundle {
+        Bundle { stored }
+    }
+}

@@ -10,6 +10,7 @@ use Rattle.std.proofs.Math.Seq.{get_or-append_seam, set-append_seam}
 use Rattle.mp_text.specs.declared.refusal.TableFault.{TableFault}
 use Rattle.mp_nums.specs.declared.samples.Sample.{Sample}
 use Rattle.mp_defs.specs.Series.{Series, reading_of, series_of}
+use Rattle.std.proofs.lemmas.Simd.{map-map}
 use Rattle.mp_text.specs.Table.{Fields, added, cell, cell_fault, column_of, first_of, record_fault, table_fault, table_of, unless_faulty}
 use Rattle.csv.specs.Records.{field_at}
 
@@ -142,6 +143,11 @@ pub gathered_fault : (scale : ℕ) (columns : List ℕ) (all left : List Fields)
 gathered_fault scale columns all left number series fault g faulty =
     ap (λ (o : Option TableFault). unless_faulty o (map (column_of scale all) columns)) (g.faults ∙ faulty)
 
+-- the bundle of these series
+pub bundled : (gathered : List (Vec Sample Global)) (bundle : List (List Sample)) → bundle ≡ map (λ series. series.items) gathered
+    → map series_of bundle ≡ map (λ series. series_of series.items) gathered
+bundled gathered bundle is = ap (map series_of) is ∙ map-map series_of (λ series. series.items) gathered
+
 pub found_part : (b : Bool) (P Q : Type 0) → b ≡ true → MatchBool b P Q → P
 found_part true P Q h p = p
 found_part false P Q h p = absurd (cc h)
@@ -153,3 +159,10 @@ none_part false P Q h p = p
 -- a table of no record
 pub table_of-none : (scale : ℕ) (columns : List ℕ) (series : List Series) → series ≡ replicate (length columns) [] → table_of scale columns [] ≡ Ok series
 table_of-none scale columns series is = gathered_all scale columns [] [] 1 series (gathered_none scale columns [] series is) refl
+
+-- the bundle of what was gathered of all records
+pub whole_table : (scale : ℕ) (columns : List ℕ) (all left : List Fields) (number : ℕ) (gathered : List (Vec Sample Global)) (bundle : List (List Sample))
+    → Gathered scale columns all left number (map (λ series. series_of series.items) gathered) → left ≡ [] → bundle ≡ map (λ series. series.items) gathered
+    → table_of scale columns all ≡ Ok (map series_of bundle)
+whole_table scale columns all left number gathered bundle g none is =
+    gathered_all scale columns all left number (map (λ series. series_of series.items) gathered) g none ∙ ap Ok (sym (bundled gathered bundle is))

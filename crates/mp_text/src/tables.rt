@@ -59,7 +59,7 @@ fn read_under_header(
     let mut row = ByteRecord::new(alloc);
     if !read_record(reader, &mut row)? {
         let series = empty_series(alloc, columns.len())?;
-        return Ok(bundle_of(alloc, &series)?);
+        return Ok(Bundle::from(series));
     }
     read_rows(alloc, reader, columns, scale)
 }
@@ -92,17 +92,6 @@ fn push_to(series: &mut Vec<Vec<Sample>>, k: usize, sample: Sample) -> Result<()
 {
     series[k].push(sample)?;
     Ok(())
-}
-
-/// A bundle of copies of the series.
-fn bundle_of(alloc: Global, series: &Vec<Vec<Sample>>) -> Result<Bundle, Memory>
-    ensures { IfOk result (λ bundle. map series_of bundle ≡ series_in series.now) }
-{
-    let mut bundle = Bundle::new(alloc);
-    for one in series {
-        bundle.add(one.as_slice())?;
-    }
-    Ok(bundle)
 }
 
 /// So many series without a sample.
@@ -161,12 +150,12 @@ fn read_rows(
     let mut series = empty_series(alloc, columns.len())?;
     for number in 1..MAX_SAMPLES + 1 {
         if !read_record(reader, &mut row)? {
-            return Ok(bundle_of(alloc, &series)?);
+            return Ok(Bundle::from(series));
         }
         gather(&mut series, &row, columns, number, scale)?;
     }
     if read_record(reader, &mut row)? {
         return Err(TableFault::Rows);
     }
-    Ok(bundle_of(alloc, &series)?)
+    Ok(Bundle::from(series))
 }
