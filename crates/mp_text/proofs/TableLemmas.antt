@@ -2,7 +2,7 @@
 use Rattle.std.proofs.Common.{◌≡◌, ℕ, ◌+◌, ◌<◌, List, [], ◌∷◌, ◌++◌, length, get_or, set, take, drop, map, refl, sym, ap, ◌∙◌, arith, append_assoc, Vec, Option, Some, None, Result, Ok, Err, OnOk, Bool, false, true, replicate, ◌==◌}
 use Rattle.std.specs.declared.alloc.Global.{Global}
 use Rattle.std.proofs.lemmas.List.{map-set, get_or-map, map-append, take_more, drop_more, take-append-drop, length-map, length-take-le, append-nil}
-use Rattle.std.specs.Result.{is_err}
+use Rattle.std.specs.Result.{is_err, IfErr, IsErrAnd}
 use Rattle.std.specs.Bool.{MatchBool}
 use Rattle.std.proofs.lemmas.Bool.Decides.{nat_tests}
 use Rattle.mp_text.specs.declared.refusal.TableFault.TheVariants as table
@@ -82,6 +82,10 @@ series_more scale rows fields columns k series within is =
     ∙ grown
     ∙ sym (append_assoc front (new column ∷ []) back)
     ∙ ap (λ (f : List Series). f ++ back) (sym taken)
+
+pub err_part : {T E : Type 0} → (r : Result T E) (Q P : E → Type 0) → IsErrAnd r Q → ((e : E) → Q e → P e) → IfErr r P
+err_part (Ok x) Q P is all = absurd is
+err_part (Err e) Q P is all = all e is
 
 pub ok_part : {T E : Type 0} → (r : Result T E) (P : Type 0) → is_err r ≡ false → OnOk r P → P
 ok_part (Ok x) P h p = p

@@ -1,12 +1,14 @@
-use Rattle.std.proofs.Common.{Option, ℤ, ap, sym, ◌∙◌, arith}
+use Rattle.std.proofs.Common.{Option, Some, ℤ, ap, sym, ◌∙◌, arith}
 use Rattle.csv.specs.Records.{fields_of}
 use Rattle.mp_text.specs.Table.{added, series_in}
-use Rattle.mp_text.proofs.TableLemmas.{fault_at, fine_more, ok_part, series_more}
+use Rattle.mp_text.proofs.TableLemmas.{err_part, fault_at, fine_more, ok_part, series_more}
 use Rattle.mp_text.proofs.tables.gather.Goals as goal
 
 pub returns-in_err-sample-clause-fault : goal.returns-in_err-sample-clause-fault
 returns-in_err-sample-clause-fault c =
-    grind (arith, fault_at c.args.scale c.args.number (fields_of c.args.row.now) c.args.columns.now c.loop-k.k)
+    err_part c.from_residual.result _ _ c.from_residual.ensures.1 (λ fault passed_on known.
+    fault_at c.args.scale c.args.number (fields_of c.args.row.now) c.args.columns.now c.loop-k.k fault (omega arith) c.loop-k.invariant.fine
+    (c.in_err-sample.ensures.fault ∙ ap Some (sym passed_on)))
 
 pub loop-k-preserved : goal.loop-k-preserved
 loop-k-preserved c = record {
