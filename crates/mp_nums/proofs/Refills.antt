@@ -1,13 +1,9 @@
--- A slice keeps its length, so what is written through it is what the list then holds.
+-- What is seen of a list after a write through its slice.
 use Rattle.std.proofs.Common.{◌≡◌, ◌-◌, List, ◌++◌, length, take, drop, ap, subst, vec_len, vec_capacity}
-use Rattle.std.proofs.lemmas.List.{take_at}
 use Rattle.std.specs.Global.{Vec}
 use Rattle.std.specs.Vec.{with_items}
 use Rattle.mp_nums.specs.Listed.{Listed}
 use Rattle.mp_nums.specs.Lending.{refilled}
-
-pub refilled_same : {X : Type 0} (old items : List X) → length items ≡ length old → refilled old items ≡ items
-refilled_same old items h = take_at items (drop (length items) old) (length old) h
 
 -- what is seen of a vector with these items
 abbrev seen_with : {X : Type 0} → Vec X → List X → Listed X

@@ -1,11 +1,10 @@
 -- Numbers that digits spell, and where they are read as a limit.
-use Rattle.std.proofs.Common.{◌≡◌, ℕ, ◌-◌, ◌≤◌, Bool, true, false, min, fold, List, [], ◌∷◌, ◌++◌, length, take, drop, replicate, sym, ap, ◌∙◌, arith, pos, negsuc}
+use Rattle.std.proofs.Common.{◌≡◌, ℕ, ◌-◌, ◌≤◌, Bool, true, min, fold, List, [], ◌∷◌, ◌++◌, length, take, drop, replicate, sym, ap, ◌∙◌, arith}
 use Rattle.std.specs.List.{list_all}
-use Rattle.std.proofs.lemmas.Int.{ints}
 use Rattle.std.proofs.lemmas.List.{take-replicate, take-append-drop, take_all}
 use Rattle.std.proofs.lemmas.List.Folds.{list_all-append}
 use Rattle.std.proofs.lemmas.List.Sums.{fold-append}
-use Rattle.mp_text.specs.SampleText.{next_digit, value_of, fixed, signed, is_within}
+use Rattle.mp_text.specs.SampleText.{next_digit, value_of, fixed}
 
 pub list_all-take : (p : ℕ → Bool) (n : ℕ) (xs : List ℕ) → list_all p xs ≡ true → list_all p (take n xs) ≡ true
 list_all-take p n xs h = grind (arith, list_all-append p (take n xs) (drop n xs), take-append-drop n xs)
@@ -39,13 +38,3 @@ fixed-pieces fraction scale kept small is =
     let few : scale - length fraction ≤ 9 = omega arith in
     let right : take (scale - length fraction) (replicate 9 48) ≡ replicate (scale - length fraction) 48 = take-replicate (scale - length fraction) 9 48 few in
     rw (left, missing) (ap (λ zs. take scale fraction ++ zs) right)
-
--- ---- numbers past every bound
-
-pub within-capped : (is_negative : Bool) (n : ℕ) → is_within (negsuc 2147483647) (pos 2147483647) (signed is_negative (min n 1000000000000000000)) ≡ is_within (negsuc 2147483647) (pos 2147483647) (signed is_negative n)
-within-capped true n = grind (arith, ints)
-within-capped false n = grind (arith, ints)
-
-pub signed-capped : (is_negative : Bool) (n : ℕ) → is_within (negsuc 2147483647) (pos 2147483647) (signed is_negative (min n 1000000000000000000)) ≡ true → signed is_negative (min n 1000000000000000000) ≡ signed is_negative n
-signed-capped true n h = grind (arith, ints)
-signed-capped false n h = grind (arith, ints)

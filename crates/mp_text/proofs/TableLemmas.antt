@@ -5,7 +5,6 @@ use Rattle.std.proofs.lemmas.List.{map-set, get_or-map, map-append, take_more, d
 use Rattle.std.specs.Result.{is_err, IfErr, IsErrAnd}
 use Rattle.std.specs.Bool.{MatchBool}
 use Rattle.std.proofs.lemmas.Bool.Decides.{nat_tests}
-use Rattle.mp_text.specs.declared.refusal.TableFault.TheVariants as table
 use Rattle.std.proofs.Math.Seq.{get_or-append_seam, set-append_seam}
 use Rattle.mp_text.specs.declared.refusal.TableFault.{TableFault}
 use Rattle.mp_nums.specs.declared.samples.Sample.{Sample}
@@ -99,16 +98,6 @@ table_fault-fine scale number columns fields rest few fine =
     let below : number == 262145 ≡ false = grind (arith, nat_tests) in
     rw (below, fine) refl
 
-pub table_fault-faulty : (scale number : ℕ) (columns : List ℕ) (fields : Fields) (rest : List Fields) (fault : TableFault) → number < 262145
-    → record_fault scale number fields columns ≡ Some fault → table_fault scale columns number (fields ∷ rest) ≡ Some fault
-table_fault-faulty scale number columns fields rest fault few faulty =
-    let below : number == 262145 ≡ false = grind (arith, nat_tests) in
-    rw (below, faulty) refl
-
-pub table_fault-full : (scale number : ℕ) (columns : List ℕ) (fields : Fields) (rest : List Fields) → number ≡ 262145
-    → table_fault scale columns number (fields ∷ rest) ≡ Some table.Rows
-table_fault-full scale number columns fields rest full = rw full refl
-
 -- what was gathered of some records, whose first fault is known so far
 pub record Gathered (scale : ℕ) (columns : List ℕ) (all left : List Fields) (number : ℕ) (series : List Series) : Type 0 where
   pub done : List Fields
@@ -141,11 +130,6 @@ gathered_all scale columns all left number series g none =
     let done : all ≡ g.done = g.whole ∙ ap (λ (rows : List Fields). g.done ++ rows) none ∙ append-nil g.done in
     ap (λ (o : Option TableFault). unless_faulty o (map (column_of scale all) columns)) fine
     ∙ ap Ok (ap (λ (rows : List Fields). map (column_of scale rows) columns) done ∙ sym g.series_is)
-
-pub gathered_fault : (scale : ℕ) (columns : List ℕ) (all left : List Fields) (number : ℕ) (series : List Series) (fault : TableFault) → Gathered scale columns all left number series
-    → table_fault scale columns number left ≡ Some fault → table_of scale columns all ≡ Err fault
-gathered_fault scale columns all left number series fault g faulty =
-    ap (λ (o : Option TableFault). unless_faulty o (map (column_of scale all) columns)) (g.faults ∙ faulty)
 
 -- the bundle of these series
 pub bundled : (gathered : List (Vec Sample Global)) (bundle : List (List Sample)) → bundle ≡ map (λ series. series.items) gathered

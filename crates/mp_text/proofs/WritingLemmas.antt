@@ -7,14 +7,6 @@ use Rattle.std.proofs.lemmas.Fmt.{length-decimal-le}
 pub unit-positive : (scale : ℕ) → 0 < 10 ^ scale
 unit-positive scale = omega (arith, one-le-pow scale 10 (omega arith))
 
-pub unit-fits : (scale : ℕ) → scale ≤ 9 → 10 ^ scale ≤ 1000000000
-unit-fits scale small =
-    let whole : 10 ^ (scale + (9 - scale)) ≡ 10 ^ scale * 10 ^ (9 - scale) = pow-add 10 scale (9 - scale) in
-    let all : scale + (9 - scale) ≡ 9 = omega arith in
-    let nine : 10 ^ scale * 10 ^ (9 - scale) ≡ 1000000000 = rw all at (sym whole) in
-    let rest = one-le-pow (9 - scale) 10 (omega arith) in
-    grind arith
-
 pub whole-short : (n scale : ℕ) → scale ≤ 9 → n ≤ 2147483648 → length (decimal (n / 10 ^ scale)) ≤ 10 - scale
 whole-short n scale small fits =
     let joined : 10 ^ ((10 - scale) + scale) ≡ 10 ^ (10 - scale) * 10 ^ scale = pow-add 10 (10 - scale) scale in
