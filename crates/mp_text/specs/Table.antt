@@ -6,6 +6,7 @@ use Rattle.std.specs.declared.vec.Vec.{Vec}
 use Rattle.std.specs.declared.alloc.Global.{Global}
 use Rattle.mp_nums.specs.declared.samples.Sample.{Sample}
 use Rattle.mp_defs.specs.Series.{Series, series_of}
+use Rattle.mp_series.specs.declared.limits.TheConstants.{MAX_SAMPLES}
 use Rattle.mp_text.specs.SampleText.{sample_of}
 use Rattle.mp_text.specs.declared.refusal.SampleFault.{SampleFault}
 use Rattle.mp_text.specs.declared.refusal.TableFault.{TableFault}
@@ -58,7 +59,7 @@ record_fault scale number fields (column ∷ columns) =
 abbrev pub table_fault : ℕ → List ℕ → ℕ → List Fields → Option TableFault
 table_fault scale columns number [] = None
 table_fault scale columns number (fields ∷ rest) =
-    if number == 262145 then Some table.Rows
+    if number == MAX_SAMPLES + 1 then Some table.Rows
     else first_of (record_fault scale number fields columns) (table_fault scale columns (number + 1) rest)
 
 -- ---- the columns
