@@ -50,6 +50,7 @@ impl<T> Items<T> {
         }
     }
 
+    /// The items, in their order.
     pub fn as_slice(&self) -> &[T]
         ensures { result.now ≡ self.now.items }
     {

@@ -12,6 +12,7 @@ pub struct Ratio {
 }
 
 impl Ratio {
+    /// The fraction `num / den`, as it stands. It takes no memory.
     pub fn new(num: u64, den: u64) -> Ratio
         requires { 0 < den }
         ensures num { result.num ≡ num }

@@ -30,6 +30,8 @@ impl<R> Model for DiskShelf<R> {
 }
 
 impl<R: Files + Clone> DiskShelf<R> {
+    /// A shelf of the files that the runtime reaches, of which no fetch has failed. It keeps a copy of the runtime, for
+    /// which there may be no memory.
     pub fn new(rt: &R) -> Result<DiskShelf<R>, Memory>
         ensures { IfOk result (λ shelf. ⟦<DiskShelf<R> as Shelf>⟧.faults shelf ≡ 0) }
     {

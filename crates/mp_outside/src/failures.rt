@@ -18,8 +18,10 @@ pub enum ShelfAnswer {
     /// The file is longer than the limit.
     #[error("the file is too large")]
     TooLarge,
+    /// The fetch failed, which the shelf counts. Whether there is such a file is open.
     #[error("the file could not be read")]
     Failed,
+    /// There was no memory for the file's bytes.
     #[error("out of memory")]
     Memory,
 }

@@ -11,8 +11,10 @@ use thiserror::Error;
 /// Why a sample was not taken.
 #[derive(Clone, Copy, Debug, PartialEq, Eq, Error)]
 pub enum PushRefusal {
+    /// The series would have more than `MAX_SAMPLES` samples.
     #[error("the series is full")]
     Full,
+    /// There was no memory for the samples.
     #[error("out of memory")]
     Memory,
 }
@@ -124,6 +126,7 @@ impl Samples {
         self.stored.as_slice()
     }
 
+    /// How many samples there are. It is no read.
     pub fn len(&self) -> u64
         ensures length { result ≡ length self.now.items }
         ensures within { result ≤ MAX_SAMPLES }

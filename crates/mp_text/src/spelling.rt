@@ -10,9 +10,10 @@ ghost use Rattle.mp_text.specs.Spelling.{seen};
 use crate::refusal::SampleFault;
 use mp_nums::Sample;
 
-/// The least and the greatest number of a sample, in units of `10^-scale`.
+/// The least number of a sample, in units of `10^-scale`.
 pub const LEAST_SAMPLE: i64 = -2_147_483_648;
 
+/// The greatest number of a sample, in units of `10^-scale`.
 pub const GREATEST_SAMPLE: i64 = 2_147_483_647;
 
 /// Greater magnitudes are read as this one, which no sample has.
@@ -23,7 +24,11 @@ const ZEROS: [u8; 9] = *b"000000000";
 /// The sample that a text spells, in units of `10^-scale`.
 ///
 /// Spaces and tabs at both ends are ignored. A missing sample is nothing, `?`, `nan`, `NaN` or `NA`. A number is an
-/// optional sign, digits, and optionally a point and digits, with at least one digit in all. It takes no memory.
+/// optional sign, digits, and optionally a point and digits, with at least one digit in all. Digits past the scale are
+/// taken where they are 0. It takes no memory.
+///
+/// The faults are tested in this order: `Form` for any other text, `Fine` for a digit past the scale that isn't 0, and
+/// `Range` for a number that is less than `LEAST_SAMPLE` or greater than `GREATEST_SAMPLE`.
 pub fn read_sample(text: &[u8], scale: u8) -> Result<Sample, SampleFault>
     requires { scale ≤ 9 }
     ensures sample { IfOk result (λ sample. sample_of LEAST_SAMPLE GREATEST_SAMPLE scale text.now ≡ Ok (reading_of sample)) }

@@ -14,11 +14,14 @@ use mp_nums::{Memory, Sample};
 use mp_series::{Bundle, MAX_SAMPLES};
 use std::alloc::Global;
 
-/// The samples in some columns of a text of comma-separated values: a series for each column given, in their order.
+/// The samples in some columns of a text of comma-separated values, in units of `10^-scale`: a series for each column
+/// given, in their order, with a sample for each record.
 ///
 /// Columns are counted from 0 and may be named twice. With `header` the first record is passed over. A byte-order mark
 /// at the start and lines without any byte are no part of a record. The fault is the first one in the order of records,
-/// and in a record in the order of the columns given; more than `MAX_SAMPLES` records are refused as `Rows`.
+/// and in a record in the order of the columns given. The first record past `MAX_SAMPLES` is refused as `Rows`, before
+/// its fields are looked at. Every error of the reader of records is answered as `Memory`, since over bytes in memory,
+/// and with records that may differ in length, none other is left.
 pub fn read_table(
     alloc: Global,
     text: &[u8],
