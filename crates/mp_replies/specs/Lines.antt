@@ -1,5 +1,6 @@
 -- The lines of an input, and the fields of a line.
-use Rattle.std.specs.Prelude.{ℕ, ◌-◌, Bool, not, ◌==◌, ◌||◌, List, [], ◌∷◌, length, filter, slice_index, take, if◌then◌else◌}
+use Rattle.std.specs.Prelude.{ℕ, ◌-◌, Bool, false, not, ◌==◌, ◌||◌, List, [], ◌∷◌, length, filter, slice_index, take, if◌then◌else◌}
+use Rattle.std.specs.List.{list_all}
 use Rattle.mp_replies.specs.Bytes.{is_empty, onto_first}
 
 -- an input is cut at each LF. A last piece that no LF ends is a line where it isn't empty
@@ -36,3 +37,17 @@ fields_in text = filter (λ piece. not (is_empty piece)) (pieces text)
 
 abbrev pub fields : List ℕ → List (List ℕ)
 fields line = fields_in (without_cr line)
+
+-- ---- lines that ask for nothing
+
+-- nothing but spaces and tabs
+abbrev pub is_blank_line : List ℕ → Bool
+is_blank_line line = list_all is_blank (without_cr line)
+
+-- the first byte that is no space and no tab is a #
+abbrev pub opens_comment : List ℕ → Bool
+opens_comment [] = false
+opens_comment (b ∷ bs) = if is_blank b then opens_comment bs else b == 35
+
+abbrev pub is_comment : List ℕ → Bool
+is_comment line = opens_comment (without_cr line)

@@ -12,4 +12,7 @@ pub use examples::{
     bad_item_is_named, full_series_is_refused, lines_end_or_not, plain_output,
     refused_piece_output, short_output, spelled_numbers,
 };
-pub use laws::{long_lines_are_cut, refused_lines_change_nothing};
+pub use laws::{
+    answers_refuse_by_cause, long_lines_are_cut, quiet_lines_are_silent,
+    refused_lines_change_nothing,
+};
