@@ -89,7 +89,8 @@ impl Profile {
         ensures spare { self.new.spare ≡ self.old.spare }
     {
         let found = Near { dist, index: j };
-        if j < i {
+        let is_earlier = j < i;
+        if is_earlier {
             columns::offer_on_side(&mut self.left, &mut self.all, i, found);
         } else {
             columns::offer_on_side(&mut self.right, &mut self.all, i, found);
