@@ -66,21 +66,21 @@ cut line = cut_by line (nat_lt 1048576 (length line)) refl
 
 -- ---- a line that was cut is run as the whole line
 
-pub cause_cut : (state : State) (line : List ℕ) (files : Files) → cause state (take 1048577 line) files ≡ cause state line files
+pub cause_cut : (state : State) (files : Files) (line : List ℕ) → cause state (take 1048577 line) files ≡ cause state line files
 unfolding cause
-cause_cut state line files = ap (λ read. cause_by state files read) (cut line)
+cause_cut state files line = ap (λ read. cause_by state files read) (cut line)
 
-pub after_cut : (state : State) (line : List ℕ) (files : Files) → after state (take 1048577 line) files ≡ after state line files
+pub after_cut : (state : State) (files : Files) (line : List ℕ) → after state (take 1048577 line) files ≡ after state line files
 unfolding after cause
-after_cut state line files = ap (λ read. after_by state files read (cause_by state files read)) (cut line)
+after_cut state files line = ap (λ read. after_by state files read (cause_by state files read)) (cut line)
 
-answer_cut : (state : State) (line : List ℕ) (files : Files) → answer state (take 1048577 line) files ≡ answer state line files
+answer_cut : (state : State) (files : Files) (line : List ℕ) → answer state (take 1048577 line) files ≡ answer state line files
 unfolding answer after cause
-answer_cut state line files = ap (λ read. answer_by (after_by state files read (cause_by state files read)) read (cause_by state files read)) (cut line)
+answer_cut state files line = ap (λ read. answer_by (after_by state files read (cause_by state files read)) read (cause_by state files read)) (cut line)
 
-pub reply_cut : (state : State) (line : List ℕ) (files : Files) → reply state (take 1048577 line) files ≡ reply state line files
+pub reply_cut : (state : State) (files : Files) (line : List ℕ) → reply state (take 1048577 line) files ≡ reply state line files
 unfolding reply
-reply_cut state line files = ap (λ a. text_of (state.lines + 1) a) (answer_cut state line files)
+reply_cut state files line = ap (λ a. text_of (state.lines + 1) a) (answer_cut state files line)
 
 pub run_cut : LongLinesAreRunCut
-run_cut state line files = (cause_cut state line files, (after_cut state line files, (answer_cut state line files, reply_cut state line files)))
+run_cut state line files = (cause_cut state files line, (after_cut state files line, (answer_cut state files line, reply_cut state files line)))

@@ -1,14 +1,13 @@
 -- What a run's outcome says of the program's output and status.
-use Rattle.std.proofs.Common.{◌≡◌, ℕ, ◌+◌, Bool, ◌||◌, List, [], ◌∷◌, ◌++◌, length, map, refl, arith, ap, ◌∙◌, sym, subst}
+use Rattle.std.proofs.Common.{◌≡◌, ℕ, Bool, ◌||◌, List, [], ◌∷◌, ◌++◌, length, map, refl, arith, ap, ◌∙◌, sym, subst}
 use Rattle.std.specs.Prelude.{Option, Some, None, is_some, Result, Ok, Err, IfOk, OnOk, OnErr, IsTrue}
 use Rattle.std.proofs.lemmas.List.{take_all}
 use Rattle.mp_replies.specs.Words.{Setup, job}
 use Rattle.mp_replies.specs.Lines.{lines}
 use Rattle.mp_replies.specs.State.{Files, State, opening}
-use Rattle.mp_replies.specs.Step.{cause, cause_by, after, after_by, answer, answer_by}
-use Rattle.mp_replies.specs.Report.{text_of}
+use Rattle.mp_replies.specs.Step.{cause, after}
 use Rattle.mp_replies.specs.Output.{reply, reports, some_refused, usage, output, session_output}
-use Rattle.mp_replies.proofs.Steps.{cut as same_command}
+use Rattle.mp_replies.proofs.Steps.{cause_cut, after_cut, reply_cut}
 use Rattle.mp_session.specs.Feeding.{cut, nothing, lines_left}
 use Rattle.mp_session.specs.Serving.{TellsPrefix, HasReports, HasFront}
 use Rattle.mp_session.specs.Statuses.{status_by, is_whole, ran, halted}
@@ -18,18 +17,6 @@ use Rattle.mp_session.specs.declared.top.Status.{Status}
 use Rattle.mp_session.proofs.UnderWay.{whole_front}
 
 -- ---- a line that was cut is run as the whole line
-
-cause_cut : (state : State) (files : Files) (line : List ℕ) → cause state (cut line) files ≡ cause state line files
-unfolding cause
-cause_cut state files line = ap (λ read. cause_by state files read) (same_command line)
-
-after_cut : (state : State) (files : Files) (line : List ℕ) → after state (cut line) files ≡ after state line files
-unfolding after cause
-after_cut state files line = ap (λ read. after_by state files read (cause_by state files read)) (same_command line)
-
-reply_cut : (state : State) (files : Files) (line : List ℕ) → reply state (cut line) files ≡ reply state line files
-unfolding reply answer after cause
-reply_cut state files line = ap (λ read. text_of (state.lines + 1) (answer_by (after_by state files read (cause_by state files read)) read (cause_by state files read))) (same_command line)
 
 reports_cut : (state : State) (files : Files) (all : List (List ℕ)) → reports state files (map cut all) ≡ reports state files all
 reports_cut state files [] = refl
