@@ -27,7 +27,7 @@ impl<I> Model for StdSource<I> {
 }
 
 impl<I: Read> StdSource<I> {
-    /// The runtime's standard input, of which nothing was given and no read has failed. It takes no memory today.
+    /// The runtime's standard input, of which nothing was given and no read has failed. It takes no memory.
     pub fn new<R: Input<Reader = I>>(rt: &R) -> Result<StdSource<I>, Memory>
         ensures given { IfOk result (λ source. ⟦<StdSource<I> as Source>⟧.given source ≡ 0) }
         ensures faults { IfOk result (λ source. ⟦<StdSource<I> as Source>⟧.faults source ≡ 0) }
@@ -78,7 +78,7 @@ impl<O> Model for StdSink<O> {
 }
 
 impl<'a, P: Print> StdSink<Printer<'a, P>> {
-    /// The runtime's standard output, which is flushed and of which no write has failed. It takes no memory today.
+    /// The runtime's standard output, which is flushed and of which no write has failed. It takes no memory.
     pub fn new(rt: &'a P) -> Result<StdSink<Printer<'a, P>>, Memory>
         ensures flushed { IfOk result (λ sink. ⟦<StdSink<Printer<'a, P>> as Sink>⟧.flushed sink ≡ true) }
         ensures faults { IfOk result (λ sink. ⟦<StdSink<Printer<'a, P>> as Sink>⟧.faults sink ≡ 0) }

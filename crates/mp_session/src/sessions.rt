@@ -34,7 +34,7 @@ pub struct Reply {
 /// Why a run stops at a line.
 #[derive(Clone, Copy, Debug, PartialEq, Eq, Error)]
 pub enum Stop {
-    /// The shelf failed when a line asked it for a file. No line asks for one yet.
+    /// The shelf failed when a line asked it for a file. No line asks for one.
     #[error("a file could not be fetched")]
     ShelfFault,
     /// There was no memory for what the line needs, its report included.
