@@ -1,5 +1,5 @@
 -- One line more in a run.
-use Rattle.std.proofs.Common.{◌≡◌, ℕ, ◌+◌, ◌≤◌, Bool, true, false, ◌||◌, List, [], ◌∷◌, ◌++◌, length, take, drop, refl, arith, ap, ◌∙◌, sym, subst, append_assoc, append-nil, length-append}
+use Rattle.std.proofs.Common.{◌≡◌, ◌⊎◌, inl, inr, ℕ, ◌+◌, ◌≤◌, Bool, true, false, ◌||◌, List, [], ◌∷◌, ◌++◌, length, take, drop, refl, arith, ap, ◌∙◌, sym, subst, append_assoc, append-nil, length-append}
 use Rattle.std.proofs.Math.Bool.{or-false, or_assoc}
 use Rattle.std.specs.Prelude.{Option, Some, None, is_some, Result, Ok, Err, OnErr, if◌then◌else◌}
 use Rattle.std.proofs.lemmas.List.{take-append-le}
@@ -210,6 +210,14 @@ advances_part setup ran old new bytes used session refused first now room part n
       ∙ (ap (λ (h : Holding). lines_left h later) (sym is)
       ∙ ap (λ l. lines_left new (l ++ later)) (sym (ap (λ n. drop n bytes) used_is ∙ drop-used_of-no_lf bytes none)));
 }
+
+-- ---- the sink between lines
+
+-- what is flushed or as it was, and later flushed or as it was then
+pub flushed_on : {Out : Type 0} (flushed : Out → Bool) (first now later : Out) → (flushed now ≡ true) ⊎ (now ≡ first) → (flushed later ≡ true) ⊎ (later ≡ now) → (flushed later ≡ true) ⊎ (later ≡ first)
+flushed_on flushed first now later before (inl is) = inl is
+flushed_on flushed first now later (inl was) (inr same) = inl (ap flushed same ∙ was)
+flushed_on flushed first now later (inr was) (inr same) = inr (same ∙ was)
 
 -- ---- the end of the input
 

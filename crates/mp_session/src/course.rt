@@ -1,6 +1,6 @@
 //! The course of a run: lines are run as they become whole.
 
-ghost use Rattle.std.specs.Prelude.{◌≡◌, ℕ, ◌+◌, ◌-◌, ◌^◌, ◌<◌, ◌≤◌, min, List, [], ◌∷◌, ◌++◌, length, drop, Option, Some, IfOk, OnOk, OnErr, IsErrOf, IsTrue, false, true};
+ghost use Rattle.std.specs.Prelude.{◌≡◌, ◌⊎◌, ℕ, ◌+◌, ◌-◌, ◌^◌, ◌<◌, ◌≤◌, min, List, [], ◌∷◌, ◌++◌, length, drop, Option, Some, IfOk, OnOk, OnErr, IsErrOf, IsTrue, false, true};
 ghost use Rattle.mp_outside.specs.Counts.{Rose};
 ghost use Rattle.mp_replies.specs.Words.{Setup};
 ghost use Rattle.mp_session.specs.Feeding.{nothing, lines_left};
@@ -94,7 +94,7 @@ impl Course {
             → HasReports setup ran first (K.room out.old) (K.written out.old)
             → OnErr result (HasFront setup (ran ++ self.old.feed.kept ∷ []) first (K.room out.old) (K.written out.new)) }
 
-        ensures flushed { K.flushed out.old ≡ true → OnOk result (K.flushed out.new ≡ true) }
+        ensures flushed { OnOk result ((K.flushed out.new ≡ true) ⊎ (out.new ≡ out.old)) }
         ensures room { K.room out.new ≡ K.room out.old }
         ensures faults { K.faults out.old ≤ K.faults out.new }
         ensures shelf { H.faults shelf.new ≡ H.faults shelf.old }
@@ -139,7 +139,7 @@ impl Course {
             → HasReports setup ran first (K.room out.old) (K.written out.old)
             → OnErr result ((later : List ℕ) → HasFront setup (ran ++ lines_left self.old.feed (bytes.now ++ later)) first (K.room out.old) (K.written out.new)) }
 
-        ensures flushed { K.flushed out.old ≡ true → OnOk result (K.flushed out.new ≡ true) }
+        ensures flushed { OnOk result ((K.flushed out.new ≡ true) ⊎ (out.new ≡ out.old)) }
         ensures room { K.room out.new ≡ K.room out.old }
         ensures faults { K.faults out.old ≤ K.faults out.new }
         ensures shelf { H.faults shelf.new ≡ H.faults shelf.old }
@@ -176,7 +176,7 @@ impl Course {
             → HasReports setup ran first (K.room out.old) (K.written out.old)
             → OnErr result ((later : List ℕ) → HasFront setup (ran ++ lines_left self.old.feed (piece.now ++ later)) first (K.room out.old) (K.written out.new)) }
 
-        ensures flushed { K.flushed out.old ≡ true → OnOk result (K.flushed out.new ≡ true) }
+        ensures flushed { OnOk result ((K.flushed out.new ≡ true) ⊎ (out.new ≡ out.old)) }
         ensures room { K.room out.new ≡ K.room out.old }
         ensures faults { K.faults out.old ≤ K.faults out.new }
         ensures shelf { H.faults shelf.new ≡ H.faults shelf.old }
@@ -213,7 +213,7 @@ impl Course {
             → HasReports setup ran first (K.room out.old) (K.written out.old)
             → OnErr result (HasFront setup (ran ++ lines_left self.old.feed []) first (K.room out.old) (K.written out.new)) }
 
-        ensures flushed { K.flushed out.old ≡ true → OnOk result (K.flushed out.new ≡ true) }
+        ensures flushed { OnOk result ((K.flushed out.new ≡ true) ⊎ (out.new ≡ out.old)) }
         ensures room { K.room out.new ≡ K.room out.old }
         ensures faults { K.faults out.old ≤ K.faults out.new }
         ensures shelf { H.faults shelf.new ≡ H.faults shelf.old }

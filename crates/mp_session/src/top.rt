@@ -51,8 +51,12 @@ pub enum Status {
     Memory = 6,
 }
 
-/// Runs the session that the words ask for on the whole input, and writes the report of each line as soon as the line
-/// was run. Words outside the grammar have the usage written.
+/// Runs the session that the words ask for on the whole input. The words are those behind the program's name. The report
+/// of each line is written whole, and the sink flushed, before the next line is run. A line without a report neither
+/// writes nor flushes. Words outside the grammar have the usage written and flushed, and no input is read.
+///
+/// `rt` is what starts threads, `shelf` what fetches files, and `gate` what a worker passes before each piece of its
+/// work. No line makes use of these three: profiles are computed on the calling thread, from the lines' items alone.
 pub fn serve<R: Threads, H: Shelf, S: Source, K: Sink, G: Gate>(
     rt: &R,
     alloc: Global,
@@ -86,10 +90,13 @@ pub fn serve<R: Threads, H: Shelf, S: Source, K: Sink, G: Gate>(
         → result ≡ Status.Words → K.written out.new ≡ Some (before ++ usage) }
     ensures usage_front { (before : List ℕ) → K.written out.old ≡ Some before → length before + length usage ≤ K.room out.old
         → job (map string_bytes words.now) ≡ None → TellsPrefix (K.written out.new) before usage }
+    ensures usage_unfinished { (before : List ℕ) → K.written out.old ≡ Some before → length before + length usage ≤ K.room out.old
+        → job (map string_bytes words.now) ≡ None → result ≡ Status.WriteFault → ¬ ((K.written out.new ≡ Some (before ++ usage)) × (K.flushed out.new ≡ true)) }
     ensures unread { job (map string_bytes words.now) ≡ None
         → (S.left input.new ≡ S.left input.old) × (S.given input.new ≡ S.given input.old) × (S.faults input.new ≡ S.faults input.old) }
 
-    // A sink that was flushed is flushed, also one that tells nothing.
+    // Every sink is flushed, or nothing was done with it, also one that tells nothing. So one that was flushed is flushed.
+    ensures flushed_or_untouched { IsTrue (is_whole result) → (K.flushed out.new ≡ true) ⊎ (out.new ≡ out.old) }
     ensures flushed { K.flushed out.old ≡ true → IsTrue (is_whole result) → K.flushed out.new ≡ true }
     ensures usage_flushed { result ≡ Status.Words → K.flushed out.new ≡ true }
 
@@ -116,6 +123,8 @@ fn refuse_words<K: Sink>(out: &mut K) -> Status
     ensures front { (before : List ℕ) → K.written out.old ≡ Some before → length before + length usage ≤ K.room out.old
         → TellsPrefix (K.written out.new) before usage }
     ensures flushed { result ≡ Status.Words → K.flushed out.new ≡ true }
+    ensures unfinished { (before : List ℕ) → K.written out.old ≡ Some before → length before + length usage ≤ K.room out.old
+        → result ≡ Status.WriteFault → ¬ ((K.written out.new ≡ Some (before ++ usage)) × (K.flushed out.new ≡ true)) }
     ensures write_fault { result ≡ Status.WriteFault → Rose (K.faults out.old) (K.faults out.new) }
 {
     match report(out, USAGE) {
@@ -162,7 +171,7 @@ fn run_session<R: Threads, H: Shelf, S: Source, K: Sink, G: Gate>(
     ensures within { (bytes : List ℕ) → S.left input.old ≡ Some bytes → OnOk result (length bytes ≤ limit) }
     ensures past { (bytes : List ℕ) → S.left input.old ≡ Some bytes → IsErrOf result Halt.InputLimit → limit < length bytes }
 
-    ensures flushed { K.flushed out.old ≡ true → OnOk result (K.flushed out.new ≡ true) }
+    ensures flushed { OnOk result ((K.flushed out.new ≡ true) ⊎ (out.new ≡ out.old)) }
     ensures shelf { H.faults shelf.new ≡ H.faults shelf.old }
     ensures input_limit { IsErrOf result Halt.InputLimit → S.given input.old + limit < S.given input.new }
     ensures read_fault { IsErrOf result Halt.ReadFault → Rose (S.faults input.old) (S.faults input.new) }

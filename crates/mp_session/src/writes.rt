@@ -1,6 +1,6 @@
 //! Reports, written whole.
 
-ghost use Rattle.std.specs.Prelude.{◌≡◌, ℕ, ◌+◌, ◌-◌, ◌^◌, ◌<◌, ◌≤◌, min, List, ◌++◌, length, Some, OnOk, OnErr, true};
+ghost use Rattle.std.specs.Prelude.{◌≡◌, ◌≢◌, ◌⊎◌, ℕ, ◌+◌, ◌-◌, ◌^◌, ◌<◌, ◌≤◌, min, List, [], ◌++◌, length, Some, IsOk, OnOk, OnErr, true, false};
 ghost use Rattle.mp_outside.specs.Counts.{Rose};
 ghost use Rattle.mp_session.specs.Serving.{TellsPrefix};
 
@@ -12,7 +12,10 @@ pub(crate) fn report<K: Sink>(out: &mut K, text: &[u8]) -> Result<(), Failed>
         → OnOk result (K.written out.new ≡ Some (before ++ text.now)) }
     ensures prefix { (before : List ℕ) → K.written out.old ≡ Some before → length before + length text.now ≤ K.room out.old
         → OnErr result (TellsPrefix (K.written out.new) before text.now) }
-    ensures flushed { K.flushed out.old ≡ true → OnOk result (K.flushed out.new ≡ true) }
+    ensures unfinished { (before : List ℕ) → K.written out.old ≡ Some before → length before + length text.now ≤ K.room out.old
+        → OnErr result (¬ ((K.written out.new ≡ Some (before ++ text.now)) × (K.flushed out.new ≡ true))) }
+    ensures quiet { text.now ≡ [] → IsOk result × (out.new ≡ out.old) }
+    ensures flushed { OnOk result ((K.flushed out.new ≡ true) ⊎ (out.new ≡ out.old)) }
     ensures some_flushed { 0 < length text.now → OnOk result (K.flushed out.new ≡ true) }
     ensures room { K.room out.new ≡ K.room out.old }
     ensures faults { K.faults out.old ≤ K.faults out.new }
@@ -30,6 +33,9 @@ fn write_all<K: Sink>(out: &mut K, text: &[u8]) -> Result<(), Failed>
         → OnOk result (K.written out.new ≡ Some (before ++ text.now)) }
     ensures prefix { (before : List ℕ) → K.written out.old ≡ Some before → length before + length text.now ≤ K.room out.old
         → OnErr result (TellsPrefix (K.written out.new) before text.now) }
+    ensures unfinished { (before : List ℕ) → K.written out.old ≡ Some before → length before + length text.now ≤ K.room out.old
+        → OnErr result (K.written out.new ≢ Some (before ++ text.now)) }
+    ensures unflushed { 0 < length text.now → OnOk result (K.flushed out.new ≡ false) }
     ensures room { K.room out.new ≡ K.room out.old }
     ensures faults { K.faults out.old ≤ K.faults out.new }
     ensures cause { OnErr result (Rose (K.faults out.old) (K.faults out.new)) }

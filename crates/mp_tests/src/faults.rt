@@ -3,7 +3,9 @@
 ghost use Rattle.std.specs.Prelude.{◌≤◌, ◌^◌};
 
 use mp_nums::Memory;
-use mp_outside::{CalmShelf, CalmSink, LoopSource, MemSink, MemSource, OpenGate, Sink, Source};
+use mp_outside::{
+    CalmShelf, CalmSink, Failed, LoopSource, MemSink, MemSource, OpenGate, Sink, Source,
+};
 use mp_session::top::{Status, serve};
 use std::alloc::AllocError;
 use std::str;
@@ -75,6 +77,19 @@ fn a_failed_write_or_flush_ends_the_run(rt: HostRuntime) -> Result<(), Fail> {
             "call {failing} fails"
         );
     }
+    Ok(())
+}
+
+#[test]
+fn quiet_lines_leave_the_sink_alone(rt: HostRuntime) -> Result<(), Fail> {
+    let alloc = rt.alloc();
+    let lines = b"# nothing to report\n\n  \n#\r\n# the last";
+    let mut input = MemSource::new(lines.to_vec(alloc)?, 8, Vec::new(alloc));
+    let mut out = MemSink::new(alloc, 64, 4, vec![in alloc; 0]?)?;
+    let status = serve_into(&rt, &["--window", "3"], &mut input, &mut out)?;
+    assert_eq!(rt; status, Status::Done);
+    assert!(rt; out.bytes().is_empty());
+    assert_eq!(rt; out.flush(), Err(Failed), "the first call fails");
     Ok(())
 }
 

@@ -6,7 +6,7 @@ use Rattle.mp_session.specs.Feeding.{lines_left}
 use Rattle.mp_session.specs.Jobs.{setup_by}
 use Rattle.mp_session.specs.Pieces.{taken_by}
 use Rattle.mp_session.specs.Serving.{HasReports, HasFront, Advances}
-use Rattle.mp_session.proofs.RunLemmas.{on_err}
+use Rattle.mp_session.proofs.RunLemmas.{on_err, flushed_on}
 use Rattle.mp_session.proofs.UnderWay.{written_over, within_left, past_left, front_within, drop_within, front_past, longer_past, none_left, nothing_left, front_under_way, front_of_piece, front_after, under_way_on, all_lines, all_taken}
 use Rattle.mp_session.proofs.top.run_session.Goals as goal
 
@@ -49,7 +49,7 @@ loop-buffer-preserved g c =
       lines = omega (arith, ran.lines, in_left.1, in_left.2, i.lines, length-take-le read.count c.deref.result.now (omega (arith, in_left.1, c.deref.ensures.len)));
       buffer = i.buffer;
       given = omega (arith, read.ensures.given, ap taken_by read.field-0-is, i.given, i.lines, in_left.2, c.requires.limit, c.requires.given);
-      flushed = λ was. ran.flushed (i.flushed was);
+      flushed = flushed_on g.K.Sink.flushed c.args.out.now c.loop-buffer.out c.run_piece.new.out i.flushed ran.flushed;
       room = ran.room ∙ i.room;
       sink_faults = omega (arith, i.sink_faults, ran.faults);
       source_faults = omega (arith, i.source_faults, read.ensures.faults);
@@ -124,6 +124,9 @@ returns-clause-told g c = λ bytes e.
     (sym (all_lines (setup_by c.args.settings) _ _ _ _ _ _ _ _ _ i.run (none_left _ _ _ read.field-0 read.field-0-is read.ensures.told) bytes e))
     (subst (λ (r : ℕ). HasReports (setup_by c.args.settings) (i.run.ran ++ lines_left c.loop-buffer.course.feed []) (g.K.Sink.written c.args.out.now) r (g.K.Sink.written c.finish.new.out)) i.room
     (c.in_ok-finish.ensures.told (setup_by c.args.settings) i.run.ran (g.K.Sink.written c.args.out.now) i.run.run told))
+
+pub returns-clause-flushed : goal.returns-clause-flushed
+returns-clause-flushed g c = flushed_on g.K.Sink.flushed c.args.out.now c.loop-buffer.out c.finish.new.out c.loop-buffer.invariant.flushed c.in_ok-finish.ensures.flushed
 
 pub returns-clause-within : goal.returns-clause-within
 returns-clause-within g c = λ bytes e.

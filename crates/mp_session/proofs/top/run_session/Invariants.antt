@@ -1,4 +1,4 @@
-use Rattle.std.proofs.Common.{◌≡◌, ◌+◌, ◌-◌, ◌≤◌, true, vec_len}
+use Rattle.std.proofs.Common.{◌≡◌, ◌⊎◌, ◌+◌, ◌-◌, ◌≤◌, true, vec_len}
 use Rattle.std.specs.Prelude.{IsTrue}
 use Rattle.mp_session.specs.Jobs.{setup_by}
 use Rattle.mp_session.specs.Serving.{IsUnderWay}
@@ -11,7 +11,7 @@ invariant-loop-buffer g l = record {
   lines : l.course.session.lines + l.left ≤ l.limit;
   buffer : vec_len l.buffer ≡ 65536;
   given : g.S.Source.given l.input ≡ g.S.Source.given l.initial.input + (l.limit - l.left);
-  flushed : g.K.Sink.flushed l.initial.out ≡ true → g.K.Sink.flushed l.out ≡ true;
+  flushed : (g.K.Sink.flushed l.out ≡ true) ⊎ (l.out ≡ l.initial.out);
   room : g.K.Sink.room l.out ≡ g.K.Sink.room l.initial.out;
   sink_faults : g.K.Sink.faults l.initial.out ≤ g.K.Sink.faults l.out;
   source_faults : g.S.Source.faults l.initial.input ≤ g.S.Source.faults l.input;

@@ -3,7 +3,7 @@ use Rattle.std.proofs.lemmas.List.{take_rest, length-drop}
 use Rattle.std.proofs.lemmas.Bool.Decides.{nat_tests}
 use Rattle.mp_session.specs.Feeding.{lines_left}
 use Rattle.mp_session.specs.Serving.{HasReports, HasFront, Advances}
-use Rattle.mp_session.proofs.RunLemmas.{on_err, front_on, advances_on}
+use Rattle.mp_session.proofs.RunLemmas.{on_err, front_on, advances_on, flushed_on}
 use Rattle.mp_session.proofs.course.Course.run_piece.Goals as goal
 
 pub returns-in_err-used-clause-front : goal.returns-in_err-used-clause-front
@@ -33,7 +33,7 @@ loop-rest-preserved g c =
           let two = subst (λ (r : ℕ). Advances setup (ran ++ one.more) c.loop-rest.self.feed c.run_front.new.self.feed bytes (drop used bytes) c.run_front.new.self.session c.run_front.new.self.refused first r (g.K.Sink.written c.run_front.new.out)) i.room (e.advances setup (ran ++ one.more) first one.run one_told) in
           subst (λ (rest : List ℕ). Advances setup ran c.args.self.now.feed c.run_front.new.self.feed c.args.piece.now rest c.run_front.new.self.session c.run_front.new.self.refused first (g.K.Sink.room c.args.out.now) (g.K.Sink.written c.run_front.new.out)) (sym left)
           (advances_on setup ran c.args.self.now.feed c.loop-rest.self.feed c.run_front.new.self.feed c.args.piece.now bytes (drop used bytes) _ _ _ _ first _ _ _ one two);
-      flushed = λ was. e.flushed (i.flushed was);
+      flushed = flushed_on g.K.Sink.flushed c.args.out.now c.loop-rest.out c.run_front.new.out i.flushed e.flushed;
       room = e.room ∙ i.room;
       faults = omega (arith, i.faults, e.faults);
       shelf = e.shelf ∙ i.shelf;

@@ -1,4 +1,4 @@
-use Rattle.std.proofs.Common.{◌≡◌, ℕ, ◌+◌, ◌≤◌, List, length, true}
+use Rattle.std.proofs.Common.{◌≡◌, ◌⊎◌, ℕ, ◌+◌, ◌≤◌, List, length, true}
 use Rattle.std.specs.Prelude.{Option, IsTrue}
 use Rattle.mp_replies.specs.Words.{Setup}
 use Rattle.mp_session.specs.Serving.{HasRun, HasReports, Advances}
@@ -11,7 +11,7 @@ invariant-loop-rest g l = record {
   advances : (setup : Setup) (ran : List (List ℕ)) (first : Option (List ℕ)) → HasRun setup ran l.initial.self.session l.initial.self.refused
       → HasReports setup ran first (g.K.Sink.room l.initial.out) (g.K.Sink.written l.initial.out)
       → Advances setup ran l.initial.self.feed l.self.feed l.piece l.rest l.self.session l.self.refused first (g.K.Sink.room l.initial.out) (g.K.Sink.written l.out);
-  flushed : g.K.Sink.flushed l.initial.out ≡ true → g.K.Sink.flushed l.out ≡ true;
+  flushed : (g.K.Sink.flushed l.out ≡ true) ⊎ (l.out ≡ l.initial.out);
   room : g.K.Sink.room l.out ≡ g.K.Sink.room l.initial.out;
   faults : g.K.Sink.faults l.initial.out ≤ g.K.Sink.faults l.out;
   shelf : g.H.Shelf.faults l.shelf ≡ g.H.Shelf.faults l.initial.shelf;
