@@ -2,7 +2,8 @@
 use Rattle.std.proofs.Common.{◌≡◌, ◌⊎◌, inl, inr, ℕ, ◌+◌, ◌≤◌, Bool, true, false, ◌||◌, List, [], ◌∷◌, ◌++◌, length, take, drop, refl, arith, ap, ◌∙◌, sym, subst, append_assoc, append-nil, length-append}
 use Rattle.std.proofs.Math.Bool.{or-false, or_assoc}
 use Rattle.std.specs.Prelude.{Option, Some, None, is_some, Result, Ok, Err, OnErr, if◌then◌else◌}
-use Rattle.std.proofs.lemmas.List.{take-append-le}
+use Rattle.std.proofs.lemmas.List.{nil_from_length, take-append-le}
+use Rattle.std.proofs.lemmas.Option.{none-some}
 use Rattle.std.proofs.Math.Seq.{take-append-add, take-append_seam}
 use Rattle.mp_replies.specs.declared.causes.Cause.{Cause}
 use Rattle.mp_replies.specs.Words.{Setup}
@@ -12,7 +13,7 @@ use Rattle.mp_replies.specs.Step.{cause, cause_by, command_cause, after, answer,
 use Rattle.mp_replies.specs.Output.{reply, reports, state_after, some_refused}
 use Rattle.mp_session.specs.Answers.{kind_of, is_refused}
 use Rattle.mp_session.specs.Sessions.{Held, StandsFor}
-use Rattle.mp_session.specs.Serving.{TellsPrefix, HasRun, HasReports, HasFront, Advances}
+use Rattle.mp_session.specs.Serving.{TellsPrefix, HasRun, HasReports, HasFront, AreQuiet, Advances}
 use Rattle.mp_session.specs.Feeding.{Holding, nothing, IsCutLine, has_lf, used_of, fed, ended, lines_left}
 use Rattle.mp_session.proofs.FeedSteps.{lines_left-fed, lines_left-fed_lf, lines_left-end, drop-used_of-no_lf}
 
@@ -153,15 +154,20 @@ advances_on setup ran old mid new bytes left rest session later_session refused 
   lines_are = λ later. one.lines_are later ∙ (ap (λ ls. one.more ++ ls) (two.lines_are later) ∙ sym (append_assoc one.more two.more (lines_left new (rest ++ later))));
 }
 
+-- what was to come before some lines is these, and what is still to come
+lines_on : (setup : Setup) (ran : List (List ℕ)) (old mid : Holding) (bytes left later : List ℕ) (session : Held) (refused : Bool) (first now : Option (List ℕ)) (room : ℕ)
+    → (one : Advances setup ran old mid bytes left session refused first room now)
+    → (ran ++ one.more) ++ lines_left mid (left ++ later) ≡ ran ++ lines_left old (bytes ++ later)
+lines_on setup ran old mid bytes left later session refused first now room one =
+    append_assoc ran one.more (lines_left mid (left ++ later)) ∙ ap (λ ls. ran ++ ls) (sym (one.lines_are later))
+
 -- a front of what was to come after some lines
 pub front_on : (setup : Setup) (ran : List (List ℕ)) (old mid : Holding) (bytes left later : List ℕ) (session : Held) (refused : Bool) (first now later_now : Option (List ℕ)) (room : ℕ)
     → (one : Advances setup ran old mid bytes left session refused first room now)
     → HasFront setup ((ran ++ one.more) ++ lines_left mid (left ++ later)) first room later_now
     → HasFront setup (ran ++ lines_left old (bytes ++ later)) first room later_now
 front_on setup ran old mid bytes left later session refused first now later_now room one front =
-    let same : (ran ++ one.more) ++ lines_left mid (left ++ later) ≡ ran ++ lines_left old (bytes ++ later) =
-    append_assoc ran one.more (lines_left mid (left ++ later)) ∙ ap (λ ls. ran ++ ls) (sym (one.lines_are later)) in
-    subst (λ (r : List (List ℕ)). HasFront setup r first room later_now) same front
+    subst (λ (r : List (List ℕ)). HasFront setup r first room later_now) (lines_on setup ran old mid bytes left later session refused first now room one) front
 
 -- ---- what one call takes
 
@@ -218,6 +224,44 @@ pub flushed_on : {Out : Type 0} (flushed : Out → Bool) (first now later : Out)
 flushed_on flushed first now later before (inl is) = inl is
 flushed_on flushed first now later (inl was) (inr same) = inl (ap flushed same ∙ was)
 flushed_on flushed first now later (inr was) (inr same) = inr (same ∙ was)
+
+-- ---- lines without a report
+
+nil_front : (front rest : List ℕ) → front ++ rest ≡ [] → front ≡ []
+nil_front front rest none = nil_from_length front (omega (arith, length-append front rest, ap length none))
+
+nil_rest : (front rest : List ℕ) → front ++ rest ≡ [] → rest ≡ []
+nil_rest front rest none = nil_from_length rest (omega (arith, length-append front rest, ap length none))
+
+-- where these lines and the next have none, the next line's is empty
+pub quiet_line : (setup : Setup) (files : Files) (ran : List (List ℕ)) (line text : List ℕ) (old : Held) (refused : Bool) → HasRun setup ran old refused
+    → ((state : State) (files : Files) → StandsFor old state → text ≡ reply state line files)
+    → AreQuiet setup files (ran ++ line ∷ []) → text ≡ []
+quiet_line setup files ran line text old refused run is quiet =
+    let state = state_after (opening setup) files ran in
+    is state files (run.stands files)
+    ∙ nil_rest (reports (opening setup) files ran) (reply state line files) (sym (reports_more (opening setup) files ran line) ∙ quiet)
+
+quiet_shorter : (setup : Setup) (files : Files) (ran more : List (List ℕ)) → AreQuiet setup files (ran ++ more) → AreQuiet setup files ran
+quiet_shorter setup files ran more quiet =
+    nil_front (reports (opening setup) files ran) (reports (state_after (opening setup) files ran) files more) (sym (reports_append (opening setup) files ran more) ∙ quiet)
+
+pub quiet_fed : (setup : Setup) (files : Files) (ran : List (List ℕ)) (old held : Holding) (bytes later : List ℕ) → IsCutLine old.kept → has_lf bytes ≡ true → held ≡ fed old bytes
+    → AreQuiet setup files (ran ++ lines_left old (bytes ++ later)) → AreQuiet setup files (ran ++ held.kept ∷ [])
+quiet_fed setup files ran old held bytes later part some is quiet =
+    quiet_shorter setup files (ran ++ held.kept ∷ []) (lines_left nothing (drop (used_of bytes) bytes ++ later))
+    (subst (AreQuiet setup files) (first_line ran old held bytes later part some is) quiet)
+
+-- a sink that told nothing before
+pub none_told : (setup : Setup) (ran : List (List ℕ)) (room : ℕ) (now : Option (List ℕ)) → HasReports setup ran None room now
+none_told setup ran room now files before e fits = absurd (none-some before e)
+
+-- what is still to come after some lines
+pub quiet_on : (setup : Setup) (files : Files) (ran : List (List ℕ)) (old mid : Holding) (bytes left later : List ℕ) (session : Held) (refused : Bool) (first now : Option (List ℕ)) (room : ℕ)
+    → (one : Advances setup ran old mid bytes left session refused first room now)
+    → AreQuiet setup files (ran ++ lines_left old (bytes ++ later)) → AreQuiet setup files ((ran ++ one.more) ++ lines_left mid (left ++ later))
+quiet_on setup files ran old mid bytes left later session refused first now room one quiet =
+    subst (AreQuiet setup files) (sym (lines_on setup ran old mid bytes left later session refused first now room one)) quiet
 
 -- ---- the end of the input
 

@@ -1,5 +1,5 @@
 -- What a run's outcome says of the program's output and status.
-use Rattle.std.proofs.Common.{◌≡◌, ℕ, Bool, ◌||◌, List, [], ◌∷◌, ◌++◌, length, map, refl, arith, ap, ◌∙◌, sym, subst}
+use Rattle.std.proofs.Common.{◌≡◌, ◌≢◌, ℕ, Bool, ◌||◌, List, [], ◌∷◌, ◌++◌, length, map, refl, arith, ap, ◌∙◌, sym, subst}
 use Rattle.std.specs.Prelude.{Option, Some, None, is_some, Result, Ok, Err, IfOk, OnOk, OnErr, IsTrue}
 use Rattle.std.proofs.lemmas.List.{take_all}
 use Rattle.mp_replies.specs.Words.{Setup, job}
@@ -41,6 +41,9 @@ output_is words setup files bytes e = reports_cut (opening setup) files (lines b
 pub output_is_usage : (words : List (List ℕ)) (files : Files) (bytes : List ℕ) → job words ≡ None → usage ≡ output words files bytes
 unfolding output
 output_is_usage words files bytes e = ap (λ j. session_output j files bytes) (sym e)
+
+pub usage_is_some : usage ≢ []
+usage_is_some none = omega (arith, ap length none)
 
 pub same_setup : (words : List (List ℕ)) (one other : Setup) → Some one ≡ job words → job words ≡ Some other → one ≡ other
 same_setup words one other e is = let both : Some one ≡ Some other = e ∙ is in cc

@@ -3,12 +3,12 @@ use Rattle.std.proofs.Common.{◌≡◌, ℕ, ◌+◌, ◌<◌, ◌≤◌, Bool,
 use Rattle.std.specs.Prelude.{Option, Some}
 use Rattle.std.proofs.lemmas.List.{take_all, take-append-le, take-append-drop, length-drop}
 use Rattle.mp_replies.specs.Words.{Setup}
-use Rattle.mp_replies.specs.State.{opening}
+use Rattle.mp_replies.specs.State.{Files, opening}
 use Rattle.mp_replies.specs.Output.{reports}
 use Rattle.mp_session.specs.Feeding.{Holding, nothing, lines_left}
 use Rattle.mp_session.specs.Pieces.{IsReadOf, IsPieceOf}
 use Rattle.mp_session.specs.Sessions.{Held}
-use Rattle.mp_session.specs.Serving.{HasReports, HasFront, Advances, IsLeftOf, IsUnderWay}
+use Rattle.mp_session.specs.Serving.{HasReports, HasFront, AreQuiet, Advances, IsLeftOf, IsUnderWay}
 use Rattle.mp_session.specs.declared.top.Piece.{Piece}
 use Rattle.mp_session.specs.declared.top.Piece.TheVariants.{End, Within, PastLimit}
 use Rattle.mp_session.proofs.RunLemmas.{front_longer}
@@ -88,6 +88,15 @@ front_of_piece setup input left taken holding session refused first now room pie
     let l = u.left_is bytes e in
     subst (λ (r : List (List ℕ)). HasFront setup r first room later_now) (sym (lines_of_piece left taken u.ran holding bytes piece count l f))
     (front (drop count l.rest))
+
+-- where all lines have no report, so have those up to the piece's end
+pub quiet_piece : (setup : Setup) (files : Files) (input left : Option (List ℕ)) (taken : ℕ) (holding : Holding) (session : Held) (refused : Bool) (first now : Option (List ℕ)) (room : ℕ) (piece : List ℕ) (count : ℕ) {P : Type 0}
+    → (u : IsUnderWay setup input left taken holding session refused first room now) → IsFrontOf left piece count
+    → ((later : List ℕ) → AreQuiet setup files (u.ran ++ lines_left holding (piece ++ later)) → P)
+    → (bytes : List ℕ) → input ≡ Some bytes → AreQuiet setup files (lines_left nothing bytes) → P
+quiet_piece setup files input left taken holding session refused first now room piece count u f then bytes e quiet =
+    let l = u.left_is bytes e in
+    then (drop count l.rest) (subst (AreQuiet setup files) (lines_of_piece left taken u.ran holding bytes piece count l f) quiet)
 
 -- the lines, once those that the piece ends were run
 lines_after : (left : Option (List ℕ)) (taken : ℕ) (ran more : List (List ℕ)) (holding new : Holding) (bytes piece : List ℕ) (count : ℕ) (l : IsLeftOf bytes left taken ran holding) → IsFrontOf left piece count

@@ -1,5 +1,5 @@
 -- What a run has done, and what its sink tells of it.
-use Rattle.std.specs.Prelude.{◌≡◌, ℕ, ◌+◌, ◌≤◌, Bool, List, ◌++◌, length, take, Option, Some}
+use Rattle.std.specs.Prelude.{◌≡◌, ℕ, ◌+◌, ◌≤◌, Bool, List, [], ◌++◌, length, take, Option, Some}
 use Rattle.mp_replies.specs.Words.{Setup}
 use Rattle.mp_replies.specs.State.{Files, opening}
 use Rattle.mp_replies.specs.Output.{reports, state_after, some_refused}
@@ -24,6 +24,10 @@ HasReports setup ran first room now =
 abbrev pub HasFront : Setup → List (List ℕ) → Option (List ℕ) → ℕ → Option (List ℕ) → Type 0
 HasFront setup all first room now =
     (files : Files) (before : List ℕ) → first ≡ Some before → length before + length (reports (opening setup) files all) ≤ room → TellsPrefix now before (reports (opening setup) files all)
+
+-- these lines have no report
+abbrev pub AreQuiet : Setup → Files → List (List ℕ) → Type 0
+AreQuiet setup files ran = reports (opening setup) files ran ≡ []
 
 -- More lines were run since old held what it holds: what was to come of these bytes and of any later ones is these
 -- lines, and what is to come now of the bytes left and the later ones.

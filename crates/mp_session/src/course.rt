@@ -2,10 +2,11 @@
 
 ghost use Rattle.std.specs.Prelude.{◌≡◌, ◌⊎◌, ℕ, ◌+◌, ◌-◌, ◌^◌, ◌<◌, ◌≤◌, min, List, [], ◌∷◌, ◌++◌, length, drop, Option, Some, IfOk, OnOk, OnErr, IsErrOf, IsTrue, false, true};
 ghost use Rattle.mp_outside.specs.Counts.{Rose};
+ghost use Rattle.mp_replies.specs.State.{Files};
 ghost use Rattle.mp_replies.specs.Words.{Setup};
 ghost use Rattle.mp_session.specs.Feeding.{nothing, lines_left};
 ghost use Rattle.mp_session.specs.Jobs.{setup_by};
-ghost use Rattle.mp_session.specs.Serving.{HasRun, HasReports, HasFront, Advances};
+ghost use Rattle.mp_session.specs.Serving.{HasRun, HasReports, HasFront, AreQuiet, Advances};
 
 use crate::feeds::Feed;
 use crate::sessions::{Session, Stop};
@@ -94,6 +95,9 @@ impl Course {
             → HasReports setup ran first (K.room out.old) (K.written out.old)
             → OnErr result (HasFront setup (ran ++ self.old.feed.kept ∷ []) first (K.room out.old) (K.written out.new)) }
 
+        // Lines without a report leave the sink alone.
+        ensures quiet { (setup : Setup) (files : Files) (ran : List (List ℕ)) → HasRun setup ran self.old.session self.old.refused
+            → AreQuiet setup files (ran ++ self.old.feed.kept ∷ []) → out.new ≡ out.old }
         ensures flushed { OnOk result ((K.flushed out.new ≡ true) ⊎ (out.new ≡ out.old)) }
         ensures room { K.room out.new ≡ K.room out.old }
         ensures faults { K.faults out.old ≤ K.faults out.new }
@@ -139,6 +143,8 @@ impl Course {
             → HasReports setup ran first (K.room out.old) (K.written out.old)
             → OnErr result ((later : List ℕ) → HasFront setup (ran ++ lines_left self.old.feed (bytes.now ++ later)) first (K.room out.old) (K.written out.new)) }
 
+        ensures quiet { (setup : Setup) (files : Files) (ran : List (List ℕ)) (later : List ℕ) → HasRun setup ran self.old.session self.old.refused
+            → AreQuiet setup files (ran ++ lines_left self.old.feed (bytes.now ++ later)) → out.new ≡ out.old }
         ensures flushed { OnOk result ((K.flushed out.new ≡ true) ⊎ (out.new ≡ out.old)) }
         ensures room { K.room out.new ≡ K.room out.old }
         ensures faults { K.faults out.old ≤ K.faults out.new }
@@ -176,6 +182,8 @@ impl Course {
             → HasReports setup ran first (K.room out.old) (K.written out.old)
             → OnErr result ((later : List ℕ) → HasFront setup (ran ++ lines_left self.old.feed (piece.now ++ later)) first (K.room out.old) (K.written out.new)) }
 
+        ensures quiet { (setup : Setup) (files : Files) (ran : List (List ℕ)) (later : List ℕ) → HasRun setup ran self.old.session self.old.refused
+            → AreQuiet setup files (ran ++ lines_left self.old.feed (piece.now ++ later)) → out.new ≡ out.old }
         ensures flushed { OnOk result ((K.flushed out.new ≡ true) ⊎ (out.new ≡ out.old)) }
         ensures room { K.room out.new ≡ K.room out.old }
         ensures faults { K.faults out.old ≤ K.faults out.new }
@@ -213,6 +221,8 @@ impl Course {
             → HasReports setup ran first (K.room out.old) (K.written out.old)
             → OnErr result (HasFront setup (ran ++ lines_left self.old.feed []) first (K.room out.old) (K.written out.new)) }
 
+        ensures quiet { (setup : Setup) (files : Files) (ran : List (List ℕ)) → HasRun setup ran self.old.session self.old.refused
+            → AreQuiet setup files (ran ++ lines_left self.old.feed []) → out.new ≡ out.old }
         ensures flushed { OnOk result ((K.flushed out.new ≡ true) ⊎ (out.new ≡ out.old)) }
         ensures room { K.room out.new ≡ K.room out.old }
         ensures faults { K.faults out.old ≤ K.faults out.new }

@@ -9,7 +9,7 @@ ghost use Rattle.mp_replies.specs.Words.{Setup, job};
 ghost use Rattle.mp_session.specs.Feeding.{nothing, lines_left};
 ghost use Rattle.mp_session.specs.Jobs.{setup_by};
 ghost use Rattle.mp_session.specs.Pieces.{IsPieceOf, IsReadOf, taken_by};
-ghost use Rattle.mp_session.specs.Serving.{TellsPrefix, HasReports, HasFront};
+ghost use Rattle.mp_session.specs.Serving.{TellsPrefix, HasReports, HasFront, AreQuiet};
 ghost use Rattle.mp_session.specs.Statuses.{is_whole, ran, status_by};
 ghost use Rattle.mp_session.specs.declared.top.TheConstants.{INPUT_LIMIT, PIECE};
 
@@ -75,6 +75,10 @@ pub fn serve<R: Threads, H: Shelf, S: Source, K: Sink, G: Gate>(
     ensures front { (files : Files) (bytes before : List ℕ) → S.left input.old ≡ Some bytes → K.written out.old ≡ Some before
         → length before + length (output (map string_bytes words.now) files bytes) ≤ K.room out.old
         → TellsPrefix (K.written out.new) before (output (map string_bytes words.now) files bytes) }
+
+    // Where nothing is to be written, nothing is done with the sink, however the run ended.
+    ensures quiet { (files : Files) (bytes : List ℕ) → S.left input.old ≡ Some bytes
+        → output (map string_bytes words.now) files bytes ≡ [] → out.new ≡ out.old }
 
     // To the end of the input: whether some line was refused, that nothing is left, and that it was no longer than the
     // limit.
@@ -171,6 +175,8 @@ fn run_session<R: Threads, H: Shelf, S: Source, K: Sink, G: Gate>(
     ensures within { (bytes : List ℕ) → S.left input.old ≡ Some bytes → OnOk result (length bytes ≤ limit) }
     ensures past { (bytes : List ℕ) → S.left input.old ≡ Some bytes → IsErrOf result Halt.InputLimit → limit < length bytes }
 
+    ensures quiet { (files : Files) (bytes : List ℕ) → S.left input.old ≡ Some bytes
+        → AreQuiet (setup_by settings) files (lines_left nothing bytes) → out.new ≡ out.old }
     ensures flushed { OnOk result ((K.flushed out.new ≡ true) ⊎ (out.new ≡ out.old)) }
     ensures shelf { H.faults shelf.new ≡ H.faults shelf.old }
     ensures input_limit { IsErrOf result Halt.InputLimit → S.given input.old + limit < S.given input.new }

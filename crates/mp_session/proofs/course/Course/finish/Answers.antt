@@ -2,7 +2,7 @@ use Rattle.std.proofs.Common.{◌≡◌, ℕ, List, ◌∷◌, [], ◌++◌, tru
 use Rattle.std.specs.Prelude.{OnOk, OnErr}
 use Rattle.std.proofs.lemmas.Bool.Decides.{nat_tests}
 use Rattle.mp_session.specs.Feeding.{lines_left}
-use Rattle.mp_session.specs.Serving.{HasRun, HasReports, HasFront}
+use Rattle.mp_session.specs.Serving.{HasRun, HasReports, HasFront, AreQuiet}
 use Rattle.mp_session.proofs.RunLemmas.{last_line}
 use Rattle.mp_session.proofs.course.Course.finish.Given as given
 use Rattle.mp_session.proofs.course.Course.finish.Goals as goal
@@ -16,6 +16,10 @@ pub returns-clause-run : goal.returns-clause-run
 returns-clause-run g c = λ setup ran run.
     subst (λ (ls : List (List ℕ)). OnOk c.run_line.result (HasRun setup (ran ++ ls) c.run_line.new.self.session c.run_line.new.self.refused)) (sym (the_last g c))
     (c.run_line.ensures.run setup ran run)
+
+pub returns-clause-quiet : goal.returns-clause-quiet
+returns-clause-quiet g c = λ setup files ran run quiet.
+    c.run_line.ensures.quiet setup files ran run (subst (λ (ls : List (List ℕ)). AreQuiet setup files (ran ++ ls)) (the_last g c) quiet)
 
 pub returns-clause-told : goal.returns-clause-told
 returns-clause-told g c = λ setup ran first run told.

@@ -1,6 +1,6 @@
 use Rattle.std.proofs.Common.{◌≡◌, ◌∙◌, sym, true, false}
 use Rattle.mp_session.specs.Feeding.{has_lf}
-use Rattle.mp_session.proofs.RunLemmas.{on_err, front_fed, advances_line, advances_part}
+use Rattle.mp_session.proofs.RunLemmas.{on_err, front_fed, advances_line, advances_part, quiet_fed}
 use Rattle.mp_session.proofs.course.Course.run_front.Goals as goal
 
 pub returns-in_err-run_line-clause-front : goal.returns-in_err-run_line-clause-front
@@ -10,6 +10,18 @@ returns-in_err-run_line-clause-front g c = λ setup ran first run told.
     on_err c.from_residual.result (λ later.
     front_fed setup ran c.args.self.now.feed c.feed-fed.new.self c.args.bytes.now later first _ _ e.was_cut some e.held
     (c.in_err-run_line.ensures.front setup ran first run told))
+
+pub returns-in_err-run_line-clause-quiet : goal.returns-in_err-run_line-clause-quiet
+returns-in_err-run_line-clause-quiet g c = λ setup files ran later run quiet.
+    let e = c.feed-fed.ensures in
+    let some : has_lf c.args.bytes.now ≡ true = sym e.whole ∙ c.if-fed.true in
+    c.run_line.ensures.quiet setup files ran run (quiet_fed setup files ran c.args.self.now.feed c.feed-fed.new.self c.args.bytes.now later e.was_cut some e.held quiet)
+
+pub returns-in_ok-run_line-clause-quiet : goal.returns-in_ok-run_line-clause-quiet
+returns-in_ok-run_line-clause-quiet g c = λ setup files ran later run quiet.
+    let e = c.feed-fed.ensures in
+    let some : has_lf c.args.bytes.now ≡ true = sym e.whole ∙ c.if-fed.true in
+    c.run_line.ensures.quiet setup files ran run (quiet_fed setup files ran c.args.self.now.feed c.feed-fed.new.self c.args.bytes.now later e.was_cut some e.held quiet)
 
 pub returns-in_ok-run_line-clause-advances : goal.returns-in_ok-run_line-clause-advances
 returns-in_ok-run_line-clause-advances g c = λ setup ran first run told.

@@ -3,7 +3,7 @@ use Rattle.mp_replies.specs.Step.{after, answer}
 use Rattle.mp_replies.specs.Output.{reply}
 use Rattle.mp_session.specs.Answers.{kind_of, is_refused}
 use Rattle.mp_session.specs.Sessions.{StandsFor}
-use Rattle.mp_session.proofs.RunLemmas.{has_run_more, has_reports_more, front_of_reports, front_of_line}
+use Rattle.mp_session.proofs.RunLemmas.{has_run_more, has_reports_more, front_of_reports, front_of_line, quiet_line}
 use Rattle.mp_session.proofs.course.Course.run_line.Goals as goal
 
 pub returns-in-Err-Memory-clause-front : goal.returns-in-Err-Memory-clause-front
@@ -14,6 +14,16 @@ returns-in-Err-clause-front g c = λ setup ran first run told.
     front_of_line setup ran c.args.self.now.feed.kept c.as_slice.result.now c.args.self.now.session c.args.self.now.refused first (g.K.Sink.written c.args.out.now) (g.K.Sink.written c.report.new.out) (g.K.Sink.room c.args.out.now) run told
     (λ state files h. c.as_slice.ensures ∙ (c.in-Ok.ensures.text state files h ∙ ap (λ line. reply state line files) c.line.ensures.kept))
     c.in-Err.ensures.prefix
+
+pub returns-in-Err-clause-quiet : goal.returns-in-Err-clause-quiet
+returns-in-Err-clause-quiet g c = λ setup files ran run quiet.
+    (c.report.ensures.quiet (quiet_line setup files ran c.args.self.now.feed.kept c.as_slice.result.now c.args.self.now.session c.args.self.now.refused run
+    (λ state files h. c.as_slice.ensures ∙ (c.in-Ok.ensures.text state files h ∙ ap (λ line. reply state line files) c.line.ensures.kept)) quiet)).1
+
+pub returns-clause-quiet : goal.returns-clause-quiet
+returns-clause-quiet g c = λ setup files ran run quiet.
+    (c.report.ensures.quiet (quiet_line setup files ran c.args.self.now.feed.kept c.as_slice.result.now c.args.self.now.session c.args.self.now.refused run
+    (λ state files h. c.as_slice.ensures ∙ (c.in-Ok.ensures.text state files h ∙ ap (λ line. reply state line files) c.line.ensures.kept)) quiet)).1
 
 pub returns-clause-run : goal.returns-clause-run
 returns-clause-run g c = λ setup ran run.
