@@ -5,10 +5,13 @@ use crate::{
     CalmShelf, CalmSink, CalmSource, DiskShelf, Failed, Gate, LoopSource, MemShelf, MemSink,
     MemSource, OpenGate, Shelf, ShelfAnswer, Sink, Source, StdSink, StdSource,
 };
-use std::alloc::{AllocError, Global};
+use std::alloc::{AllocError, Allocator, Global};
+use std::cell::RefCell;
+use std::fmt::Display;
+use std::io::{BufRead, ErrorKind, Lines, Print};
 use std::test::Fail;
 use std::thread::{Threads, join};
-use std::{fs, process};
+use std::{fs, io, process};
 
 // All that was left, or `None` where a read failed or the source gives too much.
 fn read_to_end<S: Source>(alloc: Global, source: &mut S) -> Result<Option<Vec<u8>>, AllocError>
@@ -57,10 +60,6 @@ fn fetch<H: Shelf>(
     limit: u64,
 ) -> Result<Vec<u8>, ShelfAnswer> {
     shelf.fetch(alloc, name, limit)
-}
-
-fn pass_twice<R: Threads + Sync, G: Gate>(rt: &R, gate: &G) {
-    join(rt, || gate.pass(0, 0), || gate.pass(1, 1));
 }
 
 #[test]
@@ -200,16 +199,106 @@ fn a_shelf_on_disk_gives_its_files(rt: HostRuntime) -> Result<(), Fail> {
     Ok(())
 }
 
+// A runtime whose standard input holds bytes.
+#[derive(Drop)]
+struct Keyboard {
+    typed: &'static [u8],
+}
+
+impl Input for Keyboard {
+    type Reader = &'static [u8];
+
+    fn read_line<A: Allocator + Clone>(&self, buf: &mut String<A>) -> io::Result<usize> {
+        self.reader().read_line(buf)
+    }
+
+    fn lines<A: Allocator>(&self, alloc: A) -> Lines<&'static [u8], A> {
+        self.reader().lines(alloc)
+    }
+
+    fn reader(&self) -> &'static [u8] {
+        self.typed
+    }
+}
+
+// Tests run with nothing on the system's standard input.
 #[test]
-fn the_standard_streams_are_reached(rt: HostRuntime) -> Result<(), Fail> {
-    let all = read_to_end(rt.alloc(), &mut StdSource::new(&rt)?)?;
-    assert!(rt; all.is_some());
-    let line = b"a line on standard output\n";
-    assert_eq!(rt; write_and_flush(&mut StdSink::new(&rt)?, line)?, line.len());
+fn standard_input_is_read_to_its_end(rt: HostRuntime) -> Result<(), Fail> {
+    let alloc = rt.alloc();
+    let keyboard = Keyboard {
+        typed: b"matrix profile",
+    };
+    let typed = read_to_end(alloc, &mut StdSource::new(&keyboard)?)?.ok_or("a read failed")?;
+    assert_eq!(rt; typed.as_slice(), b"matrix profile".as_slice());
+    let none = read_to_end(alloc, &mut StdSource::new(&rt)?)?.ok_or("a read failed")?;
+    assert!(rt; none.is_empty());
     Ok(())
 }
 
+// A runtime that prints on paper, four bytes at a time, until it is full.
+#[derive(Drop)]
+struct Paper {
+    printed: RefCell<Vec<u8>>,
+    room: usize,
+}
+
+impl Print for Paper {
+    fn print<D: Display + Drop>(&self, _value: D) -> io::Result<()> {
+        Err(ErrorKind::Unsupported.into())
+    }
+
+    fn println<D: Display + Drop>(&self, _value: D) -> io::Result<()> {
+        Err(ErrorKind::Unsupported.into())
+    }
+
+    fn write_all(&self, _bytes: &[u8]) -> io::Result<()> {
+        Err(ErrorKind::Unsupported.into())
+    }
+
+    fn write_some(&self, bytes: &[u8]) -> io::Result<usize> {
+        let Ok(mut printed) = self.printed.try_borrow_mut() else {
+            return Err(ErrorKind::ResourceBusy.into());
+        };
+        let count = bytes.len().min(4);
+        if printed.len().saturating_add(count) > self.room {
+            return Err(ErrorKind::StorageFull.into());
+        }
+        printed.extend_from_slice(&bytes[..count])?;
+        Ok(count)
+    }
+}
+
 #[test]
-fn a_gate_is_passed_by_two_threads(rt: HostRuntime) {
-    pass_twice(&rt, &OpenGate);
+fn standard_output_takes_bytes(rt: HostRuntime) -> Result<(), Fail> {
+    let line = b"a line on standard output\n";
+    assert_eq!(rt; write_and_flush(&mut StdSink::new(&rt)?, line)?, line.len());
+
+    let paper = Paper {
+        printed: RefCell::new(Vec::new(rt.alloc())),
+        room: 8,
+    };
+    let mut sink = StdSink::new(&paper)?;
+    assert_eq!(rt; write_and_flush(&mut sink, b"012345")?, 4);
+    assert_eq!(rt; write_and_flush(&mut sink, b"45")?, 2);
+    assert!(rt; write_and_flush(&mut sink, b"6789").is_err());
+    assert_eq!(rt; write_and_flush(&mut sink, b"67")?, 2);
+    let printed = paper.printed.into_inner();
+    assert_eq!(rt; printed.as_slice(), b"01234567".as_slice());
+    Ok(())
+}
+
+fn pass_often<G: Gate>(gate: &G, worker: u32) {
+    for piece in 0..10_000 {
+        gate.pass(worker, piece);
+    }
+}
+
+fn pass_side_by_side<R: Threads + Sync, G: Gate>(rt: &R, gate: &G) {
+    join(rt, || pass_often(gate, 0), || pass_often(gate, 1));
+}
+
+// With a gate that makes its workers wait, this test doesn't end in time.
+#[test]
+fn an_open_gate_holds_nobody_up(rt: HostRuntime) {
+    pass_side_by_side(&rt, &OpenGate);
 }
