@@ -1,5 +1,7 @@
 -- What a part stands for: columns of nearest windows.
-use Rattle.std.specs.Prelude.{◌≡◌, ℕ, List, [], ◌∷◌, All, length, replicate, slice_index_or, slice_set, Option, Some, None}
+use Rattle.std.specs.Prelude.{◌≡◌, ℕ, List, [], ◌∷◌, All, length, replicate, slice_index_or, slice_set, Option, Some}
+use Rattle.std.specs.Prelude.{None}
+use Rattle.std.specs.List.{range_with_len}
 use Rattle.std.specs.Simd.Lanes.{zip2}
 use Rattle.mp_nums.specs.declared.nearest.Near.{Near}
 use Rattle.mp_nums.specs.Near.{nearer_of}
@@ -39,3 +41,7 @@ offered column i found = slice_set column i (nearer_of (slice_index_or column i 
 abbrev pub merged_over : (Value → Value → Value) → Value → (ℕ → Value) → List ℕ → Value
 merged_over merged unit value [] = unit
 merged_over merged unit value (k ∷ ks) = merged (value k) (merged_over merged unit value ks)
+
+-- of the pieces with a number below the count
+abbrev pub merged_below : (Value → Value → Value) → Value → (ℕ → Value) → ℕ → Value
+merged_below merged unit value count = merged_over merged unit value (range_with_len 0 count)

@@ -5,11 +5,13 @@
 mod columns;
 mod kernels;
 mod laws;
+mod order;
 mod parts;
 mod profiles;
 mod slots;
 
 pub use kernels::Kernel;
 pub use laws::parts_can_move;
+pub use order::run_in_order;
 pub use parts::Part;
 pub use profiles::Profile;
