@@ -4,4 +4,9 @@ pub mod Distance
 pub mod Least
 pub mod Profile
 pub mod Laws
+pub mod SeriesLaws
+pub mod DistanceLaws
+pub mod LeastLaws
+pub mod NearestLaws
+pub mod ColumnLaws
 pub mod Examples

@@ -6,6 +6,7 @@ ghost use Rattle.mp_defs.specs.Examples.{
   ExtremeEntries,
   MissingEntries,
   ShortSeries,
+  JoinedEntries,
 };
 
 /// The entries of 1 2 3 1 2 3 at window length 3.
@@ -31,4 +32,9 @@ pub fn missing_entries()
 /// A series that is shorter than the window has no windows.
 pub fn short_series_has_no_windows()
     ensures { ShortSeries }
+{}
+
+/// The nearest windows of one series in another, without an exclusion zone.
+pub fn joined_entries()
+    ensures { JoinedEntries }
 {}

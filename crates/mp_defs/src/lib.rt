@@ -7,8 +7,12 @@ mod examples;
 mod laws;
 
 pub use examples::{
-    extreme_entries, missing_entries, plain_entries, short_series_has_no_windows, tied_entries,
+    extreme_entries, joined_entries, missing_entries, plain_entries, short_series_has_no_windows,
+    tied_entries,
 };
 pub use laws::{
-    distance_is_of_free_windows, distance_is_symmetric, entries_are_nearest, least_is_first,
+    columns_are_by_choice, columns_have_places, distance_grows_by_one_sample,
+    distance_is_of_free_windows, distance_is_symmetric, entries_are_nearest,
+    entries_are_of_both_sides, least_grows_by_one_candidate, least_is_first, nearest_is_by_choice,
+    series_are_of_samples, zone_is_mutual,
 };

@@ -1,14 +1,16 @@
 -- What becomes of columns that go together when one of them changes.
-use Rattle.std.proofs.Common.{◌≡◌, ℕ, zero, suc, ◌+◌, ◌<◌, ◌≤◌, [], ◌∷◌, ◌++◌, length, get_or, set, refl, sym, ap, ◌∙◌, arith}
+use Rattle.std.proofs.Common.{◌≡◌, ℕ, zero, suc, ◌+◌, ◌<◌, ◌≤◌, [], ◌∷◌, ◌++◌, length, get_or, set, refl, sym, ap, ◌∙◌}
+use Rattle.std.proofs.Common.{arith}
 use Rattle.std.specs.Prelude.{Option, Some, None}
 use Rattle.std.specs.Simd.Lanes.{zip2}
 use Rattle.std.proofs.lemmas.List.{ext_get_or, length-set, length_push}
 use Rattle.std.proofs.lemmas.Simd.{length-zip2, get_or-zip2}
 use Rattle.mp_nums.specs.declared.nearest.Near.{Near}
 use Rattle.mp_nums.specs.Near.{nearer_of}
+use Rattle.mp_nums.specs.NearLaws.{nearer_commutes, nearer_associates, nearer_repeats}
 use Rattle.mp_partial.specs.Values.{Column, merged_column, empty_column, offered}
 use Rattle.mp_partial.specs.Profiled.{IsProfile}
-use Rattle.mp_partial.specs.MergeLaws.{nearer_commutes, nearer_associates, nearer_repeats, zip_commutes, zip_associates, zip_repeats}
+use Rattle.mp_partial.specs.MergeLaws.{zip_commutes, zip_associates, zip_repeats}
 
 -- ---- one column
 
@@ -18,49 +20,65 @@ pub record IsMergedBelow (old other : Column) (i : ℕ) (new : Column) : Type 0 
   pub before : (k : ℕ) → k < i → get_or new k None ≡ nearer_of (get_or old k None) (get_or other k None)
   pub from : (k : ℕ) → i ≤ k → get_or new k None ≡ get_or old k None
 
-pub merged_when_all : (old other new : Column) (i : ℕ) → length other ≡ length old → i ≡ length old → IsMergedBelow old other i new → new ≡ merged_column old other
+pub merged_when_all : (old other new : Column) (i : ℕ) → length other ≡ length old → i ≡ length old
+    → IsMergedBelow old other i new → new ≡ merged_column old other
 merged_when_all old other new i l e h =
     ext_get_or None new (merged_column old other) (h.places ∙ sym (length-zip2 nearer_of old other (sym l)))
-    (λ k lt. h.before k (omega (arith, h.places)) ∙ sym (get_or-zip2 nearer_of old other k None None None (omega (arith, h.places)) (omega (arith, h.places))))
+    (λ k lt. h.before k (omega (arith, h.places))
+    ∙ sym (get_or-zip2 nearer_of old other k None None None (omega (arith, h.places)) (omega (arith, h.places))))
 
 -- ---- columns that go together
 
-set_zip_first : (f : Option Near → Option Near → Option Near) → (xs ys : Column) (i : ℕ) (x : Option Near) → length ys ≡ length xs → i < length xs → zip2 f (set xs i x) ys ≡ set (zip2 f xs ys) i (f x (get_or ys i None))
+set_zip_first : (f : Option Near → Option Near → Option Near) → (xs ys : Column) (i : ℕ) (x : Option Near)
+    → length ys ≡ length xs → i < length xs → zip2 f (set xs i x) ys ≡ set (zip2 f xs ys) i (f x (get_or ys i None))
 set_zip_first f [] ys i x l lt = refl
 set_zip_first f (a ∷ xs) [] i x l lt = absurd (omega arith)
 set_zip_first f (a ∷ xs) (b ∷ ys) zero x l lt = refl
-set_zip_first f (a ∷ xs) (b ∷ ys) (suc i) x l lt = ap (λ zs. f a b ∷ zs) (set_zip_first f xs ys i x (omega arith) (omega arith))
+set_zip_first f (a ∷ xs) (b ∷ ys) (suc i) x l lt =
+    ap (λ zs. f a b ∷ zs) (set_zip_first f xs ys i x (omega arith) (omega arith))
 
-set_zip_last : (f : Option Near → Option Near → Option Near) → (xs ys : Column) (i : ℕ) (y : Option Near) → length ys ≡ length xs → i < length xs → zip2 f xs (set ys i y) ≡ set (zip2 f xs ys) i (f (get_or xs i None) y)
+set_zip_last : (f : Option Near → Option Near → Option Near) → (xs ys : Column) (i : ℕ) (y : Option Near)
+    → length ys ≡ length xs → i < length xs → zip2 f xs (set ys i y) ≡ set (zip2 f xs ys) i (f (get_or xs i None) y)
 set_zip_last f [] ys i y l lt = absurd (omega arith)
 set_zip_last f (a ∷ xs) [] i y l lt = absurd (omega arith)
 set_zip_last f (a ∷ xs) (b ∷ ys) zero y l lt = refl
-set_zip_last f (a ∷ xs) (b ∷ ys) (suc i) y l lt = ap (λ zs. f a b ∷ zs) (set_zip_last f xs ys i y (omega arith) (omega arith))
+set_zip_last f (a ∷ xs) (b ∷ ys) (suc i) y l lt =
+    ap (λ zs. f a b ∷ zs) (set_zip_last f xs ys i y (omega arith) (omega arith))
 
 -- what is found on one side is found among both
-pub offered_first : (left right : Column) (i : ℕ) (found : Near) → length right ≡ length left → i < length left → merged_column (offered left i found) right ≡ offered (merged_column left right) i found
+pub offered_first : (left right : Column) (i : ℕ) (found : Near) → length right ≡ length left → i < length left
+    → merged_column (offered left i found) right ≡ offered (merged_column left right) i found
 offered_first left right i found l lt =
-    let swapped : nearer_of (nearer_of (get_or left i None) (Some found)) (get_or right i None) ≡ nearer_of (nearer_of (get_or left i None) (get_or right i None)) (Some found) =
+    let swapped : nearer_of (nearer_of (get_or left i None) (Some found)) (get_or right i None)
+    ≡ nearer_of (nearer_of (get_or left i None) (get_or right i None)) (Some found) =
     nearer_associates (get_or left i None) (Some found) (get_or right i None)
     ∙ ap (nearer_of (get_or left i None)) (nearer_commutes (Some found) (get_or right i None))
     ∙ sym (nearer_associates (get_or left i None) (get_or right i None) (Some found)) in
     set_zip_first nearer_of left right i (nearer_of (get_or left i None) (Some found)) l lt
-    ∙ ap (set (merged_column left right) i) (swapped ∙ ap (λ x. nearer_of x (Some found)) (sym (get_or-zip2 nearer_of left right i None None None lt (omega arith))))
+    ∙ ap (set (merged_column left right) i)
+    (swapped ∙ ap (λ x. nearer_of x (Some found))
+    (sym (get_or-zip2 nearer_of left right i None None None lt (omega arith))))
 
-pub offered_last : (left right : Column) (i : ℕ) (found : Near) → length right ≡ length left → i < length left → merged_column left (offered right i found) ≡ offered (merged_column left right) i found
+pub offered_last : (left right : Column) (i : ℕ) (found : Near) → length right ≡ length left → i < length left
+    → merged_column left (offered right i found) ≡ offered (merged_column left right) i found
 offered_last left right i found l lt =
     set_zip_last nearer_of left right i (nearer_of (get_or right i None) (Some found)) l lt
-    ∙ ap (set (merged_column left right) i) (sym (nearer_associates (get_or left i None) (get_or right i None) (Some found)) ∙ ap (λ x. nearer_of x (Some found)) (sym (get_or-zip2 nearer_of left right i None None None lt (omega arith))))
+    ∙ ap (set (merged_column left right) i)
+    (sym (nearer_associates (get_or left i None) (get_or right i None) (Some found))
+    ∙ ap (λ x. nearer_of x (Some found))
+    (sym (get_or-zip2 nearer_of left right i None None None lt (omega arith))))
 
 -- what doesn't change one side doesn't change both
-pub covered_first : (all left right : Column) (i : ℕ) (found : Near) → IsProfile all left right → i < length all → offered left i found ≡ left → offered all i found ≡ all
+pub covered_first : (all left right : Column) (i : ℕ) (found : Near) → IsProfile all left right → i < length all
+    → offered left i found ≡ left → offered all i found ≡ all
 covered_first all left right i found h lt e =
     ap (λ column. offered column i found) h.lesser
     ∙ sym (offered_first left right i found (h.right_is ∙ sym h.left_is) (omega (arith, h.left_is)))
     ∙ ap (λ column. merged_column column right) e
     ∙ sym h.lesser
 
-pub covered_last : (all left right : Column) (i : ℕ) (found : Near) → IsProfile all left right → i < length all → offered right i found ≡ right → offered all i found ≡ all
+pub covered_last : (all left right : Column) (i : ℕ) (found : Near) → IsProfile all left right → i < length all
+    → offered right i found ≡ right → offered all i found ≡ all
 covered_last all left right i found h lt e =
     ap (λ column. offered column i found) h.lesser
     ∙ sym (offered_last left right i found (h.right_is ∙ sym h.left_is) (omega (arith, h.left_is)))
@@ -70,7 +88,8 @@ covered_last all left right i found h lt e =
 offered_has : (column : Column) (i : ℕ) (found : Near) → length (offered column i found) ≡ length column
 offered_has column i found = length-set column i (nearer_of (get_or column i None) (Some found))
 
-pub profile_offered_first : (all left right all' left' : Column) (i : ℕ) (found : Near) → IsProfile all left right → i < length all → all' ≡ offered all i found → left' ≡ offered left i found → IsProfile all' left' right
+pub profile_offered_first : (all left right all' left' : Column) (i : ℕ) (found : Near) → IsProfile all left right
+    → i < length all → all' ≡ offered all i found → left' ≡ offered left i found → IsProfile all' left' right
 profile_offered_first all left right all' left' i found h lt e f = record {
   left_is = ap length f ∙ offered_has left i found ∙ h.left_is ∙ sym (ap length e ∙ offered_has all i found);
   right_is = h.right_is ∙ sym (ap length e ∙ offered_has all i found);
@@ -79,7 +98,8 @@ profile_offered_first all left right all' left' i found h lt e f = record {
       ∙ ap (λ column. merged_column column right) (sym f);
 }
 
-pub profile_offered_last : (all left right all' right' : Column) (i : ℕ) (found : Near) → IsProfile all left right → i < length all → all' ≡ offered all i found → right' ≡ offered right i found → IsProfile all' left right'
+pub profile_offered_last : (all left right all' right' : Column) (i : ℕ) (found : Near) → IsProfile all left right
+    → i < length all → all' ≡ offered all i found → right' ≡ offered right i found → IsProfile all' left right'
 profile_offered_last all left right all' right' i found h lt e f = record {
   left_is = h.left_is ∙ sym (ap length e ∙ offered_has all i found);
   right_is = ap length f ∙ offered_has right i found ∙ h.right_is ∙ sym (ap length e ∙ offered_has all i found);
@@ -93,31 +113,39 @@ profile_offered_last all left right all' right' i found h lt e f = record {
 merged_empty : (size : ℕ) → merged_column (empty_column size) (empty_column size) ≡ empty_column size
 merged_empty size = zip_repeats nearer_of nearer_repeats (empty_column size)
 
-pub empty_profile : (size : ℕ) (all left right : Column) → all ≡ empty_column size → left ≡ empty_column size → right ≡ empty_column size → IsProfile all left right
+pub empty_profile : (size : ℕ) (all left right : Column) → all ≡ empty_column size → left ≡ empty_column size
+    → right ≡ empty_column size → IsProfile all left right
 empty_profile size all left right e f g = record {
   left_is = ap length f ∙ sym (ap length e);
   right_is = ap length g ∙ sym (ap length e);
-  lesser = e ∙ sym (merged_empty size) ∙ ap (λ column. merged_column column (empty_column size)) (sym f) ∙ ap (merged_column left) (sym g);
+  lesser = e ∙ sym (merged_empty size) ∙ ap (λ column. merged_column column (empty_column size)) (sym f)
+      ∙ ap (merged_column left) (sym g);
 }
 
-merged_push : (xs ys : Column) → length ys ≡ length xs → merged_column (xs ++ None ∷ []) (ys ++ None ∷ []) ≡ merged_column xs ys ++ None ∷ []
+merged_push : (xs ys : Column) → length ys ≡ length xs
+    → merged_column (xs ++ None ∷ []) (ys ++ None ∷ []) ≡ merged_column xs ys ++ None ∷ []
 merged_push [] [] l = refl
 merged_push [] (y ∷ ys) l = absurd (omega arith)
 merged_push (x ∷ xs) [] l = absurd (omega arith)
 merged_push (x ∷ xs) (y ∷ ys) l = ap (λ zs. nearer_of x y ∷ zs) (merged_push xs ys (omega arith))
 
-pub profile_grown : (all left right all' left' right' : Column) → IsProfile all left right → all' ≡ all ++ None ∷ [] → left' ≡ left ++ None ∷ [] → right' ≡ right ++ None ∷ [] → IsProfile all' left' right'
+pub profile_grown : (all left right all' left' right' : Column) → IsProfile all left right → all' ≡ all ++ None ∷ []
+    → left' ≡ left ++ None ∷ [] → right' ≡ right ++ None ∷ [] → IsProfile all' left' right'
 profile_grown all left right all' left' right' h e f g = record {
   left_is = ap length f ∙ length_push left None ∙ ap (λ n. n + 1) h.left_is ∙ sym (ap length e ∙ length_push all None);
-  right_is = ap length g ∙ length_push right None ∙ ap (λ n. n + 1) h.right_is ∙ sym (ap length e ∙ length_push all None);
-  lesser = e ∙ ap (λ column. column ++ None ∷ []) h.lesser ∙ sym (merged_push left right (h.right_is ∙ sym h.left_is)) ∙ ap (λ column. merged_column column (right ++ None ∷ [])) (sym f) ∙ ap (merged_column left') (sym g);
+  right_is = ap length g ∙ length_push right None ∙ ap (λ n. n + 1) h.right_is
+      ∙ sym (ap length e ∙ length_push all None);
+  lesser = e ∙ ap (λ column. column ++ None ∷ []) h.lesser ∙ sym (merged_push left right (h.right_is ∙ sym h.left_is))
+      ∙ ap (λ column. merged_column column (right ++ None ∷ [])) (sym f) ∙ ap (merged_column left') (sym g);
 }
 
 -- the lesser of two and two is the lesser of the lesser
-crossed : (a b c d : Column) → merged_column (merged_column a b) (merged_column c d) ≡ merged_column (merged_column a c) (merged_column b d)
+crossed : (a b c d : Column) → merged_column (merged_column a b) (merged_column c d)
+    ≡ merged_column (merged_column a c) (merged_column b d)
 crossed a b c d =
     associates a b (merged_column c d)
-    ∙ ap (merged_column a) (sym (associates b c d) ∙ ap (λ column. merged_column column d) (commutes b c) ∙ associates c b d)
+    ∙ ap (merged_column a) (sym (associates b c d) ∙ ap (λ column. merged_column column d) (commutes b c)
+    ∙ associates c b d)
     ∙ sym (associates a c (merged_column b d))
   where
     associates : (a b c : Column) → merged_column (merged_column a b) c ≡ merged_column a (merged_column b c)
@@ -129,11 +157,16 @@ crossed a b c d =
 merged_has : (a b : Column) → length b ≡ length a → length (merged_column a b) ≡ length a
 merged_has a b l = length-zip2 nearer_of a b (sym l)
 
-pub profile_merged : (all left right all₂ left₂ right₂ all' left' right' : Column) → IsProfile all left right → IsProfile all₂ left₂ right₂ → length all₂ ≡ length all
-    → all' ≡ merged_column all all₂ → left' ≡ merged_column left left₂ → right' ≡ merged_column right right₂ → IsProfile all' left' right'
+pub profile_merged : (all left right all₂ left₂ right₂ all' left' right' : Column) → IsProfile all left right
+    → IsProfile all₂ left₂ right₂ → length all₂ ≡ length all
+    → all' ≡ merged_column all all₂ → left' ≡ merged_column left left₂ → right' ≡ merged_column right right₂
+    → IsProfile all' left' right'
 profile_merged all left right all₂ left₂ right₂ all' left' right' h k l e f g = record {
-  left_is = ap length f ∙ merged_has left left₂ (k.left_is ∙ l ∙ sym h.left_is) ∙ h.left_is ∙ sym (ap length e ∙ merged_has all all₂ l);
-  right_is = ap length g ∙ merged_has right right₂ (k.right_is ∙ l ∙ sym h.right_is) ∙ h.right_is ∙ sym (ap length e ∙ merged_has all all₂ l);
-  lesser = e ∙ ap (λ column. merged_column column all₂) h.lesser ∙ ap (merged_column (merged_column left right)) k.lesser ∙ crossed left right left₂ right₂
+  left_is = ap length f ∙ merged_has left left₂ (k.left_is ∙ l ∙ sym h.left_is) ∙ h.left_is
+      ∙ sym (ap length e ∙ merged_has all all₂ l);
+  right_is = ap length g ∙ merged_has right right₂ (k.right_is ∙ l ∙ sym h.right_is) ∙ h.right_is
+      ∙ sym (ap length e ∙ merged_has all all₂ l);
+  lesser = e ∙ ap (λ column. merged_column column all₂) h.lesser
+      ∙ ap (merged_column (merged_column left right)) k.lesser ∙ crossed left right left₂ right₂
       ∙ ap (λ column. merged_column column (merged_column right right₂)) (sym f) ∙ ap (merged_column left') (sym g);
 }

@@ -1,14 +1,14 @@
 -- The row of a window, as far as it has been compared.
 use Rattle.std.proofs.Common.{◌≡◌, ℕ, ◌+◌, Bool, true, false, List, refl, sym, ap, ◌∙◌, subst}
 use Rattle.std.specs.Prelude.{Some, None, ◌&&◌, nat_lt, if◌then◌else◌, length}
-use Rattle.std.proofs.lemmas.List.{length-map}
 use Rattle.mp_nums.specs.Near.{nearer_of}
 use Rattle.mp_nums.specs.declared.samples.Sample.{Sample}
-use Rattle.mp_defs.specs.Series.{Series, reading_of, series_of}
+use Rattle.mp_defs.specs.Series.{Series, series_of}
 use Rattle.mp_defs.specs.Window.{windows, is_allowed}
 use Rattle.mp_defs.specs.Distance.{distance}
 use Rattle.mp_defs.specs.Least.{near_at}
-use Rattle.mp_defs.proofs.LeastLaws.{near_zero}
+use Rattle.mp_defs.specs.SeriesLaws.{series_are_of_samples}
+use Rattle.mp_defs.specs.LeastLaws.{grows_by_one_candidate}
 use Rattle.mp_plain.specs.declared.profiles.Row.{Row}
 use Rattle.mp_plain.proofs.Steps.{nearest_below, nearest_skips, nearest_misses, nearest_takes, nearest_offers}
 
@@ -19,26 +19,33 @@ pub record IsRowBelow (m : ℕ) (a : Series) (i n : ℕ) (row : Row) : Type 0 wh
   pub right : row.right ≡ nearest_below m (λ j. is_allowed m i j && nat_lt i j) a i a n
 
 pub row_begins : (m : ℕ) (a : Series) (i : ℕ) → IsRowBelow m a i 0 record { all = None; left = None; right = None }
-row_begins m a i = record { all = sym (near_zero _); left = sym (near_zero _); right = sym (near_zero _) }
+row_begins m a i = record {
+  all = sym (grows_by_one_candidate.no_candidates _);
+  left = sym (grows_by_one_candidate.no_candidates _);
+  right = sym (grows_by_one_candidate.no_candidates _);
+}
 
 and_false : (p q : Bool) → p ≡ false → (p && q) ≡ false
 and_false p q e = rw e refl
 
-pub row_skips : (m : ℕ) (a : Series) (i n : ℕ) (row : Row) → IsRowBelow m a i n row → is_allowed m i n ≡ false → IsRowBelow m a i (n + 1) row
+pub row_skips : (m : ℕ) (a : Series) (i n : ℕ) (row : Row) → IsRowBelow m a i n row → is_allowed m i n ≡ false
+    → IsRowBelow m a i (n + 1) row
 row_skips m a i n row h e = record {
   all = nearest_skips _ _ _ _ _ _ _ h.all e;
   left = nearest_skips _ _ _ _ _ _ _ h.left (and_false _ _ e);
   right = nearest_skips _ _ _ _ _ _ _ h.right (and_false _ _ e);
 }
 
-pub row_misses : (m : ℕ) (a : Series) (i n : ℕ) (row : Row) → IsRowBelow m a i n row → distance m a i a n ≡ None → IsRowBelow m a i (n + 1) row
+pub row_misses : (m : ℕ) (a : Series) (i n : ℕ) (row : Row) → IsRowBelow m a i n row → distance m a i a n ≡ None
+    → IsRowBelow m a i (n + 1) row
 row_misses m a i n row h e = record {
   all = nearest_misses _ _ _ _ _ _ _ h.all e;
   left = nearest_misses _ _ _ _ _ _ _ h.left e;
   right = nearest_misses _ _ _ _ _ _ _ h.right e;
 }
 
-pub row_takes : (m : ℕ) (a : Series) (i n : ℕ) (old new : Row) (d : ℕ) → IsRowBelow m a i n old → is_allowed m i n ≡ true → distance m a i a n ≡ Some d
+pub row_takes : (m : ℕ) (a : Series) (i n : ℕ) (old new : Row) (d : ℕ) → IsRowBelow m a i n old
+    → is_allowed m i n ≡ true → distance m a i a n ≡ Some d
     → new.all ≡ nearer_of old.all (Some (near_at n d))
     → new.left ≡ (if nat_lt n i then nearer_of old.left (Some (near_at n d)) else old.left)
     → new.right ≡ (if nat_lt i n then nearer_of old.right (Some (near_at n d)) else old.right)
@@ -52,5 +59,7 @@ row_takes m a i n old new d h e f all left right = record {
 }
 
 -- below the number of windows the row is whole
-pub row_ends : (m : ℕ) (samples : List Sample) (i n : ℕ) (row : Row) → IsRowBelow m (series_of samples) i n row → n ≡ windows (length samples) m → IsRowBelow m (series_of samples) i (windows (length (series_of samples)) m) row
-row_ends m samples i n row h e = subst (λ k. IsRowBelow m (series_of samples) i k row) (e ∙ ap (λ k. windows k m) (sym (length-map samples reading_of))) h
+pub row_ends : (m : ℕ) (samples : List Sample) (i n : ℕ) (row : Row) → IsRowBelow m (series_of samples) i n row
+    → n ≡ windows (length samples) m → IsRowBelow m (series_of samples) i (windows (length (series_of samples)) m) row
+row_ends m samples i n row h e =
+    subst (λ k. IsRowBelow m (series_of samples) i k row) (e ∙ sym (series_are_of_samples.windows_are m samples)) h

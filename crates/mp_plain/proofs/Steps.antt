@@ -1,5 +1,6 @@
 -- One more sample of a distance, and one more window of a least.
-use Rattle.std.proofs.Common.{◌≡◌, ℕ, zero, suc, ◌+◌, ◌-◌, ◌*◌, ◌^◌, ◌<◌, ◌≤◌, List, [], ◌∷◌, ◌++◌, get_or, refl, arith, add-one, mul-le-mul, ap, ◌∙◌, sym, Bool, true, false}
+use Rattle.std.proofs.Common.{◌≡◌, ℕ, zero, suc, ◌+◌, ◌-◌, ◌*◌, ◌^◌, ◌<◌, ◌≤◌, List, [], ◌∷◌, ◌++◌, get_or, refl, arith}
+use Rattle.std.proofs.Common.{add-one, mul-le-mul, ap, ◌∙◌, sym, Bool, true, false}
 use Rattle.std.specs.Prelude.{Option, Some, None, ℤ, ◌-ℤ◌, unsigned_abs, FitsSigned, if◌then◌else◌}
 use Rattle.std.specs.Int.{w32}
 use Rattle.std.specs.Option.{option_map}
@@ -14,9 +15,9 @@ use Rattle.mp_defs.specs.Series.{Series, reading_of, series_of, number_at}
 use Rattle.mp_defs.specs.Distance.{square_gap, square_between, plus, distance}
 use Rattle.mp_defs.specs.Least.{near, near_at, at_distance, candidate}
 use Rattle.mp_defs.specs.Profile.{column}
-use Rattle.mp_defs.proofs.Distances.{distance_zero, distance_more}
-use Rattle.mp_defs.proofs.LeastLaws.{near_more}
-use Rattle.mp_defs.proofs.Places.{number_at_place}
+use Rattle.mp_defs.specs.SeriesLaws.{series_are_of_samples}
+use Rattle.mp_defs.specs.DistanceLaws.{grows_by_one_sample}
+use Rattle.mp_defs.specs.LeastLaws.{grows_by_one_candidate}
 use Rattle.mp_plain.specs.Square.{square}
 
 -- ---- options
@@ -30,28 +31,35 @@ none_some e = cc
 -- ---- samples
 
 -- the squared difference of two samples, by their places
-pub square_at_places : (a : List Sample) (i : ℕ) (b : List Sample) (j : ℕ) → square_between (number_at (series_of a) i) (number_at (series_of b) j) ≡ square_between (reading_of (get_or a i Missing)) (reading_of (get_or b j Missing))
-square_at_places a i b j = rw (number_at_place a i, number_at_place b j) refl
+pub square_at_places : (a : List Sample) (i : ℕ) (b : List Sample) (j : ℕ)
+    → square_between (number_at (series_of a) i) (number_at (series_of b) j)
+    ≡ square_between (reading_of (get_or a i Missing)) (reading_of (get_or b j Missing))
+square_at_places a i b j = rw (series_are_of_samples.numbers a i, series_are_of_samples.numbers b j) refl
 
 -- ---- distances
 
 -- the next two samples are there
-pub distance_takes : (m : ℕ) (a : Series) (i : ℕ) (b : Series) (j : ℕ) (sum d : ℕ) → distance m a i b j ≡ Some sum → square_between (number_at a (i + m)) (number_at b (j + m)) ≡ Some d → distance (m + 1) a i b j ≡ Some (sum + d)
-distance_takes m a i b j sum d e f = rw (distance_more m a i b j, e, f) refl
+pub distance_takes : (m : ℕ) (a : Series) (i : ℕ) (b : Series) (j : ℕ) (sum d : ℕ) → distance m a i b j ≡ Some sum
+    → square_between (number_at a (i + m)) (number_at b (j + m)) ≡ Some d → distance (m + 1) a i b j ≡ Some (sum + d)
+distance_takes m a i b j sum d e f = rw (grows_by_one_sample.one_more m a i b j, e, f) refl
 
 plus_none : (x : Option ℕ) → plus x None ≡ None
 plus_none None = refl
 plus_none (Some x) = refl
 
-distance_stays_none : (k : ℕ) (m : ℕ) (a : Series) (i : ℕ) (b : Series) (j : ℕ) → distance m a i b j ≡ None → distance (m + k) a i b j ≡ None
+distance_stays_none : (k : ℕ) (m : ℕ) (a : Series) (i : ℕ) (b : Series) (j : ℕ) → distance m a i b j ≡ None
+    → distance (m + k) a i b j ≡ None
 distance_stays_none zero m a i b j e = let z : m + zero ≡ m = omega arith in rw z e
-distance_stays_none (suc k) m a i b j e = let z : m + suc k ≡ m + k + 1 = omega arith in rw (z, distance_more (m + k) a i b j, distance_stays_none k m a i b j e) refl
+distance_stays_none (suc k) m a i b j e = let z : m + suc k ≡ m + k + 1 = omega arith in
+    rw (z, grows_by_one_sample.one_more (m + k) a i b j, distance_stays_none k m a i b j e) refl
 
 -- one of the next two samples is missing
-pub distance_ends : (m n : ℕ) (a : Series) (i : ℕ) (b : Series) (j : ℕ) → m < n → square_between (number_at a (i + m)) (number_at b (j + m)) ≡ None → distance n a i b j ≡ None
+pub distance_ends : (m n : ℕ) (a : Series) (i : ℕ) (b : Series) (j : ℕ) → m < n
+    → square_between (number_at a (i + m)) (number_at b (j + m)) ≡ None → distance n a i b j ≡ None
 distance_ends m n a i b j lt e =
     let z : n ≡ m + 1 + (n - (m + 1)) = omega arith in
-    let d : distance (m + 1) a i b j ≡ None = rw (distance_more m a i b j, e) (plus_none (distance m a i b j)) in
+    let d : distance (m + 1) a i b j ≡ None =
+    rw (grows_by_one_sample.one_more m a i b j, e) (plus_none (distance m a i b j)) in
     rw z (distance_stays_none (n - (m + 1)) (m + 1) a i b j d)
 
 -- a square that was found is the distance's number
@@ -75,22 +83,30 @@ gap_small x y p q = omega (arith, ints)
 square_gap_small : (x y : ℤ) → FitsSigned w32 x → FitsSigned w32 y → square_gap x y ≤ 2 ^ 64
 square_gap_small x y p q = mul-le-mul (gap_small x y p q) (gap_small x y p q)
 
-square_small : (p q : Option ℤ) (d : ℕ) → ((x : ℤ) → p ≡ Some x → FitsSigned w32 x) → ((x : ℤ) → q ≡ Some x → FitsSigned w32 x) → square_between p q ≡ Some d → d ≤ 2 ^ 64
+square_small : (p q : Option ℤ) (d : ℕ) → ((x : ℤ) → p ≡ Some x → FitsSigned w32 x)
+    → ((x : ℤ) → q ≡ Some x → FitsSigned w32 x) → square_between p q ≡ Some d → d ≤ 2 ^ 64
 square_small None q d h k e = absurd (none_some e)
 square_small (Some x) None d h k e = absurd (none_some e)
-square_small (Some x) (Some y) d h k e = let same : square_gap x y ≡ d = cc in rw (← same) (square_gap_small x y (h x refl) (k y refl))
+square_small (Some x) (Some y) d h k e = let same : square_gap x y ≡ d = cc in
+    rw (← same) (square_gap_small x y (h x refl) (k y refl))
 
-plus_small : (p q : Option ℕ) (d s t : ℕ) → ((x : ℕ) → p ≡ Some x → x ≤ s) → ((x : ℕ) → q ≡ Some x → x ≤ t) → plus p q ≡ Some d → d ≤ s + t
+plus_small : (p q : Option ℕ) (d s t : ℕ) → ((x : ℕ) → p ≡ Some x → x ≤ s) → ((x : ℕ) → q ≡ Some x → x ≤ t)
+    → plus p q ≡ Some d → d ≤ s + t
 plus_small None q d s t h k e = absurd (none_some e)
 plus_small (Some x) None d s t h k e = absurd (none_some e)
 plus_small (Some x) (Some y) d s t h k e = let same : x + y ≡ d = cc in omega (arith, h x refl, k y refl)
 
 -- each of the m squares is at most 2 ^ 64
-pub distance_small : (m : ℕ) (a : Series) (i : ℕ) (b : Series) (j : ℕ) (d : ℕ) → HasWords a → HasWords b → distance m a i b j ≡ Some d → d ≤ m * 2 ^ 64
-distance_small zero a i b j d h k e = let same : 0 ≡ d = some_same (sym (distance_zero a i b j) ∙ e) in omega arith
+pub distance_small : (m : ℕ) (a : Series) (i : ℕ) (b : Series) (j : ℕ) (d : ℕ) → HasWords a → HasWords b
+    → distance m a i b j ≡ Some d → d ≤ m * 2 ^ 64
+distance_small zero a i b j d h k e =
+    let same : 0 ≡ d = some_same (sym (grows_by_one_sample.no_samples a i b j) ∙ e) in omega arith
 distance_small (suc m) a i b j d h k e =
-    let sum : plus (distance m a i b j) (square_between (number_at a (i + m)) (number_at b (j + m))) ≡ Some d = sym (distance_more m a i b j) ∙ rw add-one e in
-    let small : d ≤ m * 2 ^ 64 + 2 ^ 64 = plus_small _ _ d (m * 2 ^ 64) (2 ^ 64) (λ x f. distance_small m a i b j x h k f) (λ x f. square_small _ _ x (h (i + m)) (k (j + m)) f) sum in
+    let sum : plus (distance m a i b j) (square_between (number_at a (i + m)) (number_at b (j + m))) ≡ Some d =
+    sym (grows_by_one_sample.one_more m a i b j) ∙ rw add-one e in
+    let small : d ≤ m * 2 ^ 64 + 2 ^ 64 =
+    plus_small _ _ d (m * 2 ^ 64) (2 ^ 64) (λ x f. distance_small m a i b j x h k f)
+    (λ x f. square_small _ _ x (h (i + m)) (k (j + m)) f) sum in
     omega arith
 
 -- ---- the nearest window
@@ -104,12 +120,14 @@ nearer_of_none None = refl
 nearer_of_none (Some a) = refl
 
 -- the next candidate is none
-pub near_skips : (c : ℕ → Option Near) (n : ℕ) (best : Option Near) → best ≡ near c n → c n ≡ None → best ≡ near c (n + 1)
-near_skips c n best e f = rw (near_more c n, f, ← e) (sym (nearer_of_none best))
+pub near_skips : (c : ℕ → Option Near) (n : ℕ) (best : Option Near) → best ≡ near c n → c n ≡ None
+    → best ≡ near c (n + 1)
+near_skips c n best e f = rw (grows_by_one_candidate.one_more c n, f, ← e) (sym (nearer_of_none best))
 
 -- the next candidate is there
-pub near_takes : (c : ℕ → Option Near) (n : ℕ) (best : Option Near) (found : Near) → best ≡ near c n → c n ≡ Some found → nearer_of best (Some found) ≡ near c (n + 1)
-near_takes c n best found e f = rw (near_more c n, f, e) refl
+pub near_takes : (c : ℕ → Option Near) (n : ℕ) (best : Option Near) (found : Near) → best ≡ near c n
+    → c n ≡ Some found → nearer_of best (Some found) ≡ near c (n + 1)
+near_takes c n best found e f = rw (grows_by_one_candidate.one_more c n, f, e) refl
 
 candidate_not : (may : Bool) (j : ℕ) (d : Option ℕ) → may ≡ false → (if may then at_distance j d else None) ≡ None
 candidate_not may j d e = rw e refl
@@ -118,31 +136,46 @@ candidate_none : (may : Bool) (j : ℕ) (d : Option ℕ) → d ≡ None → (if 
 candidate_none true j d e = rw e refl
 candidate_none false j d e = refl
 
-candidate_some : (may : Bool) (j : ℕ) (d : Option ℕ) (x : ℕ) → may ≡ true → d ≡ Some x → (if may then at_distance j d else None) ≡ Some (near_at j x)
+candidate_some : (may : Bool) (j : ℕ) (d : Option ℕ) (x : ℕ) → may ≡ true → d ≡ Some x
+    → (if may then at_distance j d else None) ≡ Some (near_at j x)
 candidate_some may j d x e f = rw (e, f) refl
 
 -- the next window may not be chosen
-pub nearest_skips : (m : ℕ) (may : ℕ → Bool) (a : Series) (i : ℕ) (b : Series) (n : ℕ) (best : Option Near) → best ≡ nearest_below m may a i b n → may n ≡ false → best ≡ nearest_below m may a i b (n + 1)
-nearest_skips m may a i b n best e f = near_skips (candidate may (λ j. distance m a i b j)) n best e (candidate_not (may n) n (distance m a i b n) f)
+pub nearest_skips : (m : ℕ) (may : ℕ → Bool) (a : Series) (i : ℕ) (b : Series) (n : ℕ) (best : Option Near)
+    → best ≡ nearest_below m may a i b n → may n ≡ false → best ≡ nearest_below m may a i b (n + 1)
+nearest_skips m may a i b n best e f = near_skips (candidate may (λ j. distance m a i b j)) n best e
+    (candidate_not (may n) n (distance m a i b n) f)
 
 -- the next window has no distance
-pub nearest_misses : (m : ℕ) (may : ℕ → Bool) (a : Series) (i : ℕ) (b : Series) (n : ℕ) (best : Option Near) → best ≡ nearest_below m may a i b n → distance m a i b n ≡ None → best ≡ nearest_below m may a i b (n + 1)
-nearest_misses m may a i b n best e f = near_skips (candidate may (λ j. distance m a i b j)) n best e (candidate_none (may n) n (distance m a i b n) f)
+pub nearest_misses : (m : ℕ) (may : ℕ → Bool) (a : Series) (i : ℕ) (b : Series) (n : ℕ) (best : Option Near)
+    → best ≡ nearest_below m may a i b n → distance m a i b n ≡ None → best ≡ nearest_below m may a i b (n + 1)
+nearest_misses m may a i b n best e f = near_skips (candidate may (λ j. distance m a i b j)) n best e
+    (candidate_none (may n) n (distance m a i b n) f)
 
 -- the next window may be chosen and has a distance
-pub nearest_takes : (m : ℕ) (may : ℕ → Bool) (a : Series) (i : ℕ) (b : Series) (n : ℕ) (best : Option Near) (d : ℕ) → best ≡ nearest_below m may a i b n → may n ≡ true → distance m a i b n ≡ Some d → nearer_of best (Some (near_at n d)) ≡ nearest_below m may a i b (n + 1)
-nearest_takes m may a i b n best d e f g = near_takes (candidate may (λ j. distance m a i b j)) n best (near_at n d) e (candidate_some (may n) n (distance m a i b n) d f g)
+pub nearest_takes : (m : ℕ) (may : ℕ → Bool) (a : Series) (i : ℕ) (b : Series) (n : ℕ) (best : Option Near) (d : ℕ)
+    → best ≡ nearest_below m may a i b n → may n ≡ true → distance m a i b n ≡ Some d
+    → nearer_of best (Some (near_at n d)) ≡ nearest_below m may a i b (n + 1)
+nearest_takes m may a i b n best d e f g =
+    near_takes (candidate may (λ j. distance m a i b j)) n best (near_at n d) e
+    (candidate_some (may n) n (distance m a i b n) d f g)
 
-offers_by : (m : ℕ) (may : ℕ → Bool) (a : Series) (i : ℕ) (b : Series) (n : ℕ) (best : Option Near) (d : ℕ) (t : Bool) → best ≡ nearest_below m may a i b n → distance m a i b n ≡ Some d → may n ≡ t → (if t then nearer_of best (Some (near_at n d)) else best) ≡ nearest_below m may a i b (n + 1)
+offers_by : (m : ℕ) (may : ℕ → Bool) (a : Series) (i : ℕ) (b : Series) (n : ℕ) (best : Option Near) (d : ℕ) (t : Bool)
+    → best ≡ nearest_below m may a i b n → distance m a i b n ≡ Some d → may n ≡ t
+    → (if t then nearer_of best (Some (near_at n d)) else best) ≡ nearest_below m may a i b (n + 1)
 offers_by m may a i b n best d true e f t = nearest_takes m may a i b n best d e t f
 offers_by m may a i b n best d false e f t = nearest_skips m may a i b n best e t
 
 -- the next window has a distance, and the test tells whether it may be chosen
-pub nearest_offers : (m : ℕ) (may : ℕ → Bool) (a : Series) (i : ℕ) (b : Series) (n : ℕ) (best : Option Near) (d : ℕ) → best ≡ nearest_below m may a i b n → distance m a i b n ≡ Some d → (if may n then nearer_of best (Some (near_at n d)) else best) ≡ nearest_below m may a i b (n + 1)
+pub nearest_offers : (m : ℕ) (may : ℕ → Bool) (a : Series) (i : ℕ) (b : Series) (n : ℕ) (best : Option Near) (d : ℕ)
+    → best ≡ nearest_below m may a i b n → distance m a i b n ≡ Some d
+    → (if may n then nearer_of best (Some (near_at n d)) else best) ≡ nearest_below m may a i b (n + 1)
 nearest_offers m may a i b n best d e f = offers_by m may a i b n best d (may n) e f refl
 
 -- ---- columns
 
 -- one entry more
-pub column_more : (f : ℕ → Option Near) (n : ℕ) (old new : List (Option Near)) (last : Option Near) → old ≡ column f n → new ≡ old ++ last ∷ [] → last ≡ f n → new ≡ column f (n + 1)
-column_more f n old new last e more is = let z : 0 + n ≡ n = omega arith in more ∙ rw (map-range_with_len_more f 0 n n z, e, is) refl
+pub column_more : (f : ℕ → Option Near) (n : ℕ) (old new : List (Option Near)) (last : Option Near) → old ≡ column f n
+    → new ≡ old ++ last ∷ [] → last ≡ f n → new ≡ column f (n + 1)
+column_more f n old new last e more is =
+    let z : 0 + n ≡ n = omega arith in more ∙ rw (map-range_with_len_more f 0 n n z, e, is) refl

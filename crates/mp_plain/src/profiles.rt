@@ -3,8 +3,8 @@
 ghost use Rattle.std.specs.Prelude.{◌≡◌, ◌≢◌, ◌+◌, ◌<◌, ◌≤◌, nat_lt, if◌then◌else◌, length, IfOk, Some, []};
 ghost use Rattle.mp_nums.specs.Near.{nearer_of};
 ghost use Rattle.mp_defs.specs.Series.{series_of};
-ghost use Rattle.mp_defs.specs.Window.{windows};
-ghost use Rattle.mp_defs.specs.Profile.{entry, left_entry, right_entry, column};
+ghost use Rattle.mp_defs.specs.Window.{is_allowed};
+ghost use Rattle.mp_defs.specs.Profile.{entry, left_entry, right_entry, matrix_profile};
 
 use crate::distances::distance;
 use mp_nums::{Items, Memory, Near, Sample, Slot, Slots};
@@ -46,9 +46,9 @@ impl Row {
     fn of(samples: &[Sample], m: u32, i: u64) -> Row
         requires shortest { 1 ≤ m }
         requires window { i + m ≤ length samples.now }
-        ensures all { result.all ≡ entry m (series_of samples.now) i }
-        ensures left { result.left ≡ left_entry m (series_of samples.now) i }
-        ensures right { result.right ≡ right_entry m (series_of samples.now) i }
+        ensures all { result.all ≡ entry (is_allowed m) m (series_of samples.now) i }
+        ensures left { result.left ≡ left_entry (is_allowed m) m (series_of samples.now) i }
+        ensures right { result.right ≡ right_entry (is_allowed m) m (series_of samples.now) i }
     {
         let mut row = Row {
             all: None,
@@ -98,12 +98,9 @@ pub fn profile(alloc: Global, samples: &[Sample], m: u32) -> Result<Columns, Mem
     requires shortest { MIN_WINDOW ≤ m }
     requires longest { m ≤ MAX_WINDOW }
     requires samples { length samples.now ≤ MAX_SAMPLES }
-    ensures all { let count = windows (length samples.now) m in
-        IfOk result (λ c. c.all.items ≡ column (entry m (series_of samples.now)) count) }
-    ensures left { let count = windows (length samples.now) m in
-        IfOk result (λ c. c.left.items ≡ column (left_entry m (series_of samples.now)) count) }
-    ensures right { let count = windows (length samples.now) m in
-        IfOk result (λ c. c.right.items ≡ column (right_entry m (series_of samples.now)) count) }
+    ensures all { IfOk result (λ c. c.all.items ≡ (matrix_profile m (series_of samples.now)).all) }
+    ensures left { IfOk result (λ c. c.left.items ≡ (matrix_profile m (series_of samples.now)).left) }
+    ensures right { IfOk result (λ c. c.right.items ≡ (matrix_profile m (series_of samples.now)).right) }
 {
     let count = windows(samples.len() as u64, m);
     let mut columns = Columns {

@@ -2,7 +2,7 @@
 use Rattle.std.specs.Prelude.{ℕ, ◌+◌, true, nat_lt, List, [], ◌∷◌, ◌++◌, length, map, slice_set, if◌then◌else◌, Option, Some, None, Result, Ok, Err}
 use Rattle.mp_nums.specs.declared.nearest.Near.{Near}
 use Rattle.mp_defs.specs.Series.{Series}
-use Rattle.mp_defs.specs.Profile.{entry, left_entry, right_entry, column, windows_of}
+use Rattle.mp_defs.specs.Profile.{matrix_profile}
 use Rattle.mp_replies.specs.declared.causes.Cause.{Cause}
 use Rattle.mp_replies.specs.declared.causes.Cause.TheVariants.{Sample, Full}
 use Rattle.mp_replies.specs.SampleText.{sample_of}
@@ -79,7 +79,7 @@ pub data Answer : Type 0 where
 
 -- the profile of a series
 abbrev pub columns_of : ℕ → Series → Answer
-columns_of m a = Columns 0 (column (entry m a) (windows_of m a)) (column (left_entry m a) (windows_of m a)) (column (right_entry m a) (windows_of m a))
+columns_of m a = let p = matrix_profile m a in Columns 0 p.all p.left p.right
 
 -- from the state after the line
 abbrev pub command_answer : State → Command → Answer

@@ -1,46 +1,63 @@
--- The tiles of a series make its profile.
-use Rattle.std.proofs.Common.{◌≡◌, ℕ, ◌+◌, ◌<◌, List, [], ◌∷◌, length, Bool, true, false, refl, sym, ap, ◌∙◌, arith}
+-- Tiles make the profile.
+use Rattle.std.proofs.Common.{◌≡◌, ℕ, ◌+◌, ◌<◌, List, [], ◌∷◌, length, get_or, Bool, true, false, refl, sym, ap, ◌∙◌}
+use Rattle.std.proofs.Common.{arith, subst}
 use Rattle.std.specs.Prelude.{Option, ◌&&◌, ◌||◌, nat_lt, if◌then◌else◌, map, count_by}
 use Rattle.std.specs.List.{range_with_len}
 use Rattle.std.specs.Int.{abs_diff}
 use Rattle.std.proofs.lemmas.Bool.Decides.{nat_tests}
 use Rattle.std.proofs.lemmas.List.Sums.{sum_by-append}
+use Rattle.std.proofs.lemmas.List.FromFn.{fill_by_all}
 use Rattle.mp_nums.specs.declared.nearest.Near.{Near}
 use Rattle.mp_defs.specs.Series.{Series}
 use Rattle.mp_defs.specs.Window.{excl, is_allowed}
-use Rattle.mp_defs.specs.Profile.{entry, left_entry, right_entry, windows_of}
+use Rattle.mp_defs.specs.Profile.{profile, matrix_profile, windows_of}
+use Rattle.mp_defs.specs.ColumnLaws.{columns_by_choice}
+use Rattle.mp_defs.specs.NearestLaws.{zone_is_mutual}
 use Rattle.mp_partial.specs.Values.{Value, merged_columns, empty_columns, merged_over}
 use Rattle.mp_tiles.specs.declared.cuts.Tile.{Tile}
 use Rattle.mp_tiles.specs.Pairs.{has_pair}
-use Rattle.mp_tiles.specs.Cutting.{tile_at, own_tiles}
-use Rattle.mp_tiles.specs.Among.{value_among, entry_among, left_among, right_among}
-use Rattle.mp_tiles.specs.Laws.{profile_value, TilesMakeTheProfile}
-use Rattle.mp_tiles.proofs.TileLemmas.{tiles_count, pairs_once}
-use Rattle.mp_tiles.proofs.AmongLemmas.{entry_or, nearest_or, nearest_same, nearest_none, column_same, column_both, column_of_none}
+use Rattle.mp_tiles.specs.Cutting.{own_tiles}
+use Rattle.mp_tiles.specs.Among.{either_way, profile_among, columns_value}
+use Rattle.mp_tiles.specs.Laws.{HoldEachOnce, no_tile, tiles_value, TilesMakeTheProfile}
+use Rattle.mp_tiles.proofs.TileLemmas.{pairs_once}
+use Rattle.mp_tiles.proofs.AmongLemmas.{or_pairs, and_either}
 
--- ---- values among more pairs
+-- ---- profiles by tests
 
-same_value : (a b c a' b' c' : List (Option Near)) → a ≡ a' → b ≡ b' → c ≡ c' → ◌≡◌ {A = Value} (a ∷ b ∷ c ∷ []) (a' ∷ b' ∷ c' ∷ [])
+same_value : (a b c a' b' c' : List (Option Near)) → a ≡ a' → b ≡ b' → c ≡ c'
+    → ◌≡◌ {A = Value} (a ∷ b ∷ c ∷ []) (a' ∷ b' ∷ c' ∷ [])
 same_value a b c a' b' c' e f g = cc
 
-value_same : (p q : ℕ → ℕ → Bool) (m : ℕ) (a : Series) → ((i j : ℕ) → i < windows_of m a → j < windows_of m a → p i j ≡ q i j) → value_among p m a ≡ value_among q m a
+value_same : (p q : ℕ → ℕ → Bool) (m : ℕ) (a : Series)
+    → ((i j : ℕ) → i < windows_of m a → j < windows_of m a → p i j ≡ q i j)
+    → columns_value (profile p m a) ≡ columns_value (profile q m a)
 value_same p q m a same = same_value _ _ _ _ _ _
-    (column_same (entry_among p m a) (entry_among q m a) (windows_of m a)
-    (λ x lt. nearest_same (λ j. p j x || p x j) (λ j. q j x || q x j) m a x (λ j below. ap (λ t. t || p x j) (same j x below lt) ∙ ap (λ t. q j x || t) (same x j lt below))))
-    (column_same (left_among p m a) (left_among q m a) (windows_of m a) (λ x lt. nearest_same (λ j. p j x) (λ j. q j x) m a x (λ j below. same j x below lt)))
-    (column_same (right_among p m a) (right_among q m a) (windows_of m a) (λ x lt. nearest_same (λ j. p x j) (λ j. q x j) m a x (λ j below. same x j lt below)))
+    (columns_by_choice.same m p q a a same)
+    (columns_by_choice.same m (λ i j. p i j && nat_lt j i) (λ i j. q i j && nat_lt j i) a a
+    (λ i j lt lt'. ap (λ t. t && nat_lt j i) (same i j lt lt')))
+    (columns_by_choice.same m (λ i j. p i j && nat_lt i j) (λ i j. q i j && nat_lt i j) a a
+    (λ i j lt lt'. ap (λ t. t && nat_lt i j) (same i j lt lt')))
 
-value_or : (p q : ℕ → ℕ → Bool) (m : ℕ) (a : Series) → value_among (λ i j. p i j || q i j) m a ≡ merged_columns (value_among p m a) (value_among q m a)
-value_or p q m a = same_value _ _ _ _ _ _
-    (column_both (entry_among p m a) (entry_among q m a) (entry_among (λ i j. p i j || q i j) m a) (windows_of m a) (λ x lt. entry_or p q m a x))
-    (column_both (left_among p m a) (left_among q m a) (left_among (λ i j. p i j || q i j) m a) (windows_of m a) (λ x lt. nearest_or (λ j. p j x) (λ j. q j x) m a x))
-    (column_both (right_among p m a) (right_among q m a) (right_among (λ i j. p i j || q i j) m a) (windows_of m a) (λ x lt. nearest_or (λ j. p x j) (λ j. q x j) m a x))
+value_either : (p q : ℕ → ℕ → Bool) (m : ℕ) (a : Series)
+    → columns_value (profile (λ i j. p i j || q i j) m a)
+    ≡ merged_columns (columns_value (profile p m a)) (columns_value (profile q m a))
+value_either p q m a = same_value _ _ _ _ _ _
+    (columns_by_choice.either m p q a a)
+    (columns_by_choice.same m (λ i j. (p i j || q i j) && nat_lt j i)
+    (λ i j. (p i j && nat_lt j i) || (q i j && nat_lt j i)) a a
+    (λ i j _ _. sym (and_either (p i j) (q i j) (nat_lt j i)))
+    ∙ columns_by_choice.either m (λ i j. p i j && nat_lt j i) (λ i j. q i j && nat_lt j i) a a)
+    (columns_by_choice.same m (λ i j. (p i j || q i j) && nat_lt i j)
+    (λ i j. (p i j && nat_lt i j) || (q i j && nat_lt i j)) a a
+    (λ i j _ _. sym (and_either (p i j) (q i j) (nat_lt i j)))
+    ∙ columns_by_choice.either m (λ i j. p i j && nat_lt i j) (λ i j. q i j && nat_lt i j) a a)
 
-value_none : (p : ℕ → ℕ → Bool) (m : ℕ) (a : Series) → ((i j : ℕ) → p i j ≡ false) → value_among p m a ≡ empty_columns 3 (windows_of m a)
+value_none : (p : ℕ → ℕ → Bool) (m : ℕ) (a : Series) → ((i j : ℕ) → p i j ≡ false)
+    → columns_value (profile p m a) ≡ empty_columns 3 (windows_of m a)
 value_none p m a none = same_value _ _ _ _ _ _
-    (column_of_none (entry_among p m a) (windows_of m a) (λ x lt. nearest_none (λ j. p j x || p x j) m a x (λ j below. ap (λ t. t || p x j) (none j x) ∙ none x j)))
-    (column_of_none (left_among p m a) (windows_of m a) (λ x lt. nearest_none (λ j. p j x) m a x (λ j below. none j x)))
-    (column_of_none (right_among p m a) (windows_of m a) (λ x lt. nearest_none (λ j. p x j) m a x (λ j below. none x j)))
+    (columns_by_choice.none m p a a (λ i j _ _. none i j))
+    (columns_by_choice.none m (λ i j. p i j && nat_lt j i) a a (λ i j _ _. ap (λ t. t && nat_lt j i) (none i j)))
+    (columns_by_choice.none m (λ i j. p i j && nat_lt i j) a a (λ i j _ _. ap (λ t. t && nat_lt i j) (none i j)))
 
 -- ---- the pairs of some tiles
 
@@ -52,48 +69,71 @@ one_more : (t : Bool) (n : ℕ) → nat_lt 0 ((if t then 1 else 0) + n) ≡ (t |
 one_more true n = grind (arith, nat_tests)
 one_more false n = grind (arith, nat_tests)
 
-count_cons : (p : Tile → Bool) (x : Tile) (xs : List Tile) → count_by p (x ∷ xs) ≡ (if p x then 1 else 0) + count_by p xs
+count_cons : (p : Tile → Bool) (x : Tile) (xs : List Tile)
+    → count_by p (x ∷ xs) ≡ (if p x then 1 else 0) + count_by p xs
 count_cons p x xs = omega (arith, sum_by-append (λ y. if p y then 1 else 0) (x ∷ []) xs)
 
 some_more : (t : Tile) (ts : List Tile) (i j : ℕ) → (has_pair t i j || some_has ts i j) ≡ some_has (t ∷ ts) i j
-some_more t ts i j = sym (ap (nat_lt 0) (count_cons (λ u. has_pair u i j) t ts) ∙ one_more (has_pair t i j) (count_by (λ u. has_pair u i j) ts))
+some_more t ts i j =
+    sym (ap (nat_lt 0) (count_cons (λ u. has_pair u i j) t ts)
+    ∙ one_more (has_pair t i j) (count_by (λ u. has_pair u i j) ts))
 
--- the values of some tiles together are the value among their pairs
+either_more : (t : Tile) (ts : List Tile) (i j : ℕ)
+    → (either_way (has_pair t) i j || either_way (some_has ts) i j) ≡ either_way (some_has (t ∷ ts)) i j
+either_more t ts i j =
+    or_pairs (has_pair t i j) (some_has ts i j) (has_pair t j i) (some_has ts j i)
+    ∙ ap (λ p. p || (has_pair t j i || some_has ts j i)) (some_more t ts i j)
+    ∙ ap (λ p. some_has (t ∷ ts) i j || p) (some_more t ts j i)
+
+-- the values of some tiles together are the profile of their pairs
 tiles_together : (tile : ℕ → Tile) (m : ℕ) (a : Series) (ks : List ℕ)
-    → merged_over merged_columns (empty_columns 3 (windows_of m a)) (λ k. value_among (has_pair (tile k)) m a) ks ≡ value_among (some_has (map tile ks)) m a
-tiles_together tile m a [] = sym (value_none (some_has []) m a (λ i j. refl))
+    → merged_over merged_columns (empty_columns 3 (windows_of m a))
+    (λ k. columns_value (profile_among (has_pair (tile k)) m a)) ks
+    ≡ columns_value (profile_among (some_has (map tile ks)) m a)
+tiles_together tile m a [] = sym (value_none (either_way (some_has [])) m a (λ i j. refl))
 tiles_together tile m a (k ∷ ks) =
-    ap (merged_columns (value_among (has_pair (tile k)) m a)) (tiles_together tile m a ks)
-    ∙ sym (value_or (has_pair (tile k)) (some_has (map tile ks)) m a)
-    ∙ value_same (λ i j. has_pair (tile k) i j || some_has (map tile ks) i j) (some_has (map tile (k ∷ ks))) m a (λ i j _ _. some_more (tile k) (map tile ks) i j)
+    let here = has_pair (tile k) in
+    let there = some_has (map tile ks) in
+    ap (merged_columns (columns_value (profile_among here m a))) (tiles_together tile m a ks)
+    ∙ sym (value_either (either_way here) (either_way there) m a)
+    ∙ value_same (λ i j. either_way here i j || either_way there i j) (either_way (some_has (map tile (k ∷ ks)))) m a
+    (λ i j _ _. either_more (tile k) (map tile ks) i j)
 
--- ---- the allowed pairs
+-- ---- the pairs that may be compared
 
 once_or_not : (t : Bool) (n : ℕ) → n ≡ (if t then 1 else 0) → nat_lt 0 n ≡ t
 once_or_not true n e = rw e refl
 once_or_not false n e = rw e refl
 
-allowed_first : (e i j : ℕ) → nat_lt (i + e) j ≡ (nat_lt e (abs_diff j i) && nat_lt i j)
-allowed_first e i j = grind (arith, nat_tests)
-
-allowed_last : (e i j : ℕ) → nat_lt (i + e) j ≡ (nat_lt e (abs_diff i j) && nat_lt i j)
-allowed_last e i j = grind (arith, nat_tests)
-
-allowed_both : (e i j : ℕ) → (nat_lt (j + e) i || nat_lt (i + e) j) ≡ nat_lt e (abs_diff i j)
-allowed_both e i j = grind (arith, nat_tests)
-
-profile_among : (m : ℕ) (a : Series) → value_among (λ i j. nat_lt (i + excl m) j) m a ≡ profile_value m a
-profile_among m a = same_value _ _ _ _ _ _
-    (column_same (entry_among (λ i j. nat_lt (i + excl m) j) m a) (entry m a) (windows_of m a) (λ x lt. nearest_same (λ j. nat_lt (j + excl m) x || nat_lt (x + excl m) j) (is_allowed m x) m a x (λ j below. allowed_both (excl m) x j)))
-    (column_same (left_among (λ i j. nat_lt (i + excl m) j) m a) (left_entry m a) (windows_of m a) (λ x lt. nearest_same (λ j. nat_lt (j + excl m) x) (λ j. is_allowed m x j && nat_lt j x) m a x (λ j below. allowed_first (excl m) j x)))
-    (column_same (right_among (λ i j. nat_lt (i + excl m) j) m a) (right_entry m a) (windows_of m a) (λ x lt. nearest_same (λ j. nat_lt (x + excl m) j) (λ j. is_allowed m x j && nat_lt x j) m a x (λ j below. allowed_last (excl m) x j)))
+-- windows that may be compared are a pair from one side or the other
+one_side : (t u : Bool) (i j : ℕ) → t ≡ u → (i ≡ j → t ≡ false) → ((nat_lt i j && t) || (nat_lt j i && u)) ≡ t
+one_side t u i j e h = grind (arith, nat_tests)
 
 pub make_the_profile : TilesMakeTheProfile
-make_the_profile m width a pos =
-    let w = windows_of m a in
-    let ks = range_with_len 0 (length (own_tiles w (excl m) width)) in
-    tiles_together (tile_at (excl m + 1) w width) m a ks
-    ∙ ap (λ n. value_among (some_has (map (tile_at (excl m + 1) w width) (range_with_len 0 n))) m a) (tiles_count (excl m + 1) w width)
-    ∙ value_same (some_has (own_tiles w (excl m) width)) (λ i j. nat_lt (i + excl m) j) m a
-    (λ i j _ lt. once_or_not (nat_lt (i + excl m) j) (count_by (λ t. has_pair t i j) (own_tiles w (excl m) width)) (pairs_once w (excl m) width pos i j lt))
-    ∙ profile_among m a
+make_the_profile may irreflexive symmetric m a tiles once =
+    let tile : ℕ → Tile = λ k. get_or tiles k no_tile in
+    let has = λ (i j : ℕ) (lt : j < windows_of m a). once_or_not (nat_lt i j && may i j)
+    (count_by (λ t. has_pair t i j) tiles) (once i j lt) in
+    tiles_together tile m a (range_with_len 0 (length tiles))
+    ∙ ap (λ ts. columns_value (profile_among (some_has ts) m a))
+    (sym (fill_by_all tile tiles (length tiles) no_tile refl (λ k lt. refl)))
+    ∙ value_same (either_way (some_has tiles)) may m a
+    (λ i j lt lt'.
+    ap (λ p. p || some_has tiles j i) (has i j lt') ∙ ap (λ p. (nat_lt i j && may i j) || p) (has j i lt)
+    ∙ one_side (may i j) (may j i) i j (symmetric i j) (λ e. subst (λ (k : ℕ). may i k ≡ false) e (irreflexive i)))
+
+-- ---- today's cut
+
+outside_zone : (e i j : ℕ) → nat_lt (i + e) j ≡ (nat_lt i j && nat_lt e (abs_diff i j))
+outside_zone e i j = grind (arith, nat_tests)
+
+own_tiles_hold_each_once : (m w width : ℕ) → 0 < width → HoldEachOnce (is_allowed m) w (own_tiles w (excl m) width)
+own_tiles_hold_each_once m w width pos i j lt =
+    pairs_once w (excl m) width pos i j lt ∙ ap (λ t. if t then 1 else 0) (outside_zone (excl m) i j)
+
+pub own_tiles_make_the_profile : (m width : ℕ) (a : Series) (tiles : List Tile) → 0 < width
+    → tiles ≡ own_tiles (windows_of m a) (excl m) width → tiles_value m a tiles ≡ columns_value (matrix_profile m a)
+own_tiles_make_the_profile m width a tiles pos e =
+    ap (tiles_value m a) e
+    ∙ make_the_profile (is_allowed m) (zone_is_mutual.irreflexive m) (zone_is_mutual.symmetric m) m a
+    (own_tiles (windows_of m a) (excl m) width) (own_tiles_hold_each_once m (windows_of m a) width pos)

@@ -1,13 +1,14 @@
 -- Running sums: one place more, one place on, and the distance that they give.
-use Rattle.std.proofs.Common.{◌≡◌, ℕ, zero, suc, ◌+◌, ◌-◌, ◌*◌, ◌^◌, ◌<◌, ◌≤◌, List, get_or, Bool, true, false, refl, sym, ap, ◌∙◌, arith, add-one, below_more, subst}
+use Rattle.std.proofs.Common.{◌≡◌, ℕ, zero, suc, ◌+◌, ◌-◌, ◌*◌, ◌^◌, ◌<◌, ◌≤◌, List, get_or, Bool, true, false, refl}
+use Rattle.std.proofs.Common.{sym, ap, ◌∙◌, arith, add-one, below_more, subst}
 use Rattle.std.specs.Prelude.{Option, Some, None, ℤ, pos, ◌==◌, if◌then◌else◌}
 use Rattle.std.proofs.lemmas.Bool.Decides.{nat_tests}
 use Rattle.mp_nums.specs.declared.samples.Sample.{Sample}
 use Rattle.mp_nums.specs.declared.samples.Sample.TheVariants.{Missing}
 use Rattle.mp_defs.specs.Series.{Series, reading_of, series_of, number_at}
 use Rattle.mp_defs.specs.Distance.{square_gap, square_between, plus, distance}
-use Rattle.mp_defs.proofs.Distances.{distance_zero, distance_more}
-use Rattle.mp_defs.proofs.Places.{number_at_place}
+use Rattle.mp_defs.specs.SeriesLaws.{series_are_of_samples}
+use Rattle.mp_defs.specs.DistanceLaws.{grows_by_one_sample}
 use Rattle.mp_tiles.specs.Sums.{filled, gap, square_at, total, gaps_from, IsSum}
 
 total_zero : (f : ℕ → ℕ → ℕ) (i j : ℕ) → total f 0 i j ≡ 0
@@ -64,26 +65,54 @@ both_there : (t : Bool) (s q : ℕ) → plus (if t then Some s else None) (Some 
 both_there true s q = refl
 both_there false s q = refl
 
-one_more : (g s : ℕ) (x y : Option ℤ) → plus (where_none g s) (square_between x y) ≡ where_none (g + (gap x + gap y)) (s + square_gap (filled x) (filled y))
-one_more g s None y = plus_none (where_none g s) ∙ sym (not_none (g + (1 + gap y)) (more_test g (1 + gap y) (omega arith)) (s + square_gap (pos 0) (filled y)))
-one_more g s (Some x) None = plus_none (where_none g s) ∙ sym (not_none (g + (0 + 1)) (more_test g (0 + 1) (omega arith)) (s + square_gap x (pos 0)))
-one_more g s (Some x) (Some y) = both_there (g == 0) s (square_gap x y) ∙ ap (λ t. if t then Some (s + square_gap x y) else None) (sym (same_test g (0 + 0) (omega arith)))
+one_more : (g s : ℕ) (x y : Option ℤ) → plus (where_none g s) (square_between x y)
+    ≡ where_none (g + (gap x + gap y)) (s + square_gap (filled x) (filled y))
+one_more g s None y =
+    plus_none (where_none g s) ∙ sym (not_none (g + (1 + gap y)) (more_test g (1 + gap y) (omega arith))
+    (s + square_gap (pos 0) (filled y)))
+one_more g s (Some x) None =
+    plus_none (where_none g s) ∙ sym (not_none (g + (0 + 1)) (more_test g (0 + 1) (omega arith))
+    (s + square_gap x (pos 0)))
+one_more g s (Some x) (Some y) =
+    both_there (g == 0) s (square_gap x y)
+    ∙ ap (λ t. if t then Some (s + square_gap x y) else None) (sym (same_test g (0 + 0) (omega arith)))
 
-distance_by_sums : (n : ℕ) (a : Series) (i : ℕ) (b : Series) (j : ℕ) → distance n a i b j ≡ (if total (gaps_at a b) n i j == 0 then Some (total (square_at a b) n i j) else None)
-distance_by_sums zero a i b j = rw (distance_zero a i b j, total_zero (gaps_at a b) i j, total_zero (square_at a b) i j) refl
+distance_by_sums : (n : ℕ) (a : Series) (i : ℕ) (b : Series) (j : ℕ)
+    → distance n a i b j ≡ (if total (gaps_at a b) n i j == 0 then Some (total (square_at a b) n i j) else None)
+distance_by_sums zero a i b j =
+    rw (grows_by_one_sample.no_samples a i b j, total_zero (gaps_at a b) i j, total_zero (square_at a b) i j) refl
 distance_by_sums (suc n) a i b j =
     let one : n + 1 ≡ suc n = omega arith in
     subst (λ k. distance k a i b j ≡ where_none (total (gaps_at a b) k i j) (total (square_at a b) k i j)) one
-    (rw (distance_more n a i b j, distance_by_sums n a i b j, total_more (gaps_at a b) n i j, total_more (square_at a b) n i j)
+    (rw (
+      grows_by_one_sample.one_more n a i b j,
+      distance_by_sums n a i b j,
+      total_more
+          (gaps_at a b) n i j,
+      total_more (square_at a b) n i j,
+    )
     (one_more (total (gaps_at a b) n i j) (total (square_at a b) n i j) (number_at a (i + n)) (number_at b (j + n))))
 
 -- the gaps of both windows
 gaps_of_both : (a b : Series) (n i j : ℕ) → total (gaps_at a b) n i j ≡ gaps_from a n i + gaps_from b n j
-gaps_of_both a b zero i j = rw (total_zero (gaps_at a b) i j, total_zero (λ k _. gap (number_at a k)) i i, total_zero (λ k _. gap (number_at b k)) j j) refl
+gaps_of_both a b zero i j =
+    rw (
+      total_zero (gaps_at a b) i j,
+      total_zero (λ k _. gap (number_at a k)) i i,
+      total_zero
+          (λ k _. gap (number_at b k)) j j,
+    ) refl
 gaps_of_both a b (suc n) i j =
     let one : n + 1 ≡ suc n = omega arith in
     subst (λ k. total (gaps_at a b) k i j ≡ gaps_from a k i + gaps_from b k j) one
-    (omega (arith, gaps_of_both a b n i j, total_more (gaps_at a b) n i j, total_more (λ k _. gap (number_at a k)) n i i, total_more (λ k _. gap (number_at b k)) n j j))
+    (omega (
+      arith,
+      gaps_of_both a b n i j,
+      total_more (gaps_at a b) n i j,
+      total_more
+          (λ k _. gap (number_at a k)) n i i,
+      total_more (λ k _. gap (number_at b k)) n j j,
+    ))
 
 -- ---- gaps of a window that moves on
 
@@ -98,29 +127,37 @@ pub gaps_few : (a : Series) (n i : ℕ) → gaps_from a n i ≤ n
 gaps_few a zero i = rw no_gaps (omega arith)
 gaps_few a (suc n) i =
     let one : n + 1 ≡ suc n = omega arith in
-    subst (λ k. gaps_from a k i ≤ k) one (omega (arith, total_more (λ k _. gap (number_at a k)) n i i, gap_small (number_at a (i + n)), gaps_few a n i))
+    subst (λ k. gaps_from a k i ≤ k) one
+    (omega (arith, total_more (λ k _. gap (number_at a k)) n i i, gap_small (number_at a (i + n)), gaps_few a n i))
 
 pub gap_few : (x : Option ℤ) (g : ℕ) → g ≡ gap x → g ≤ 1
 gap_few x g e = omega (arith, gap_small x, e)
 
-gap_there : (samples : List Sample) (i : ℕ) → gap (reading_of (get_or samples i Missing)) ≡ gap (number_at (series_of samples) i)
-gap_there samples i = rw (number_at_place samples i) refl
+gap_there : (samples : List Sample) (i : ℕ)
+    → gap (reading_of (get_or samples i Missing)) ≡ gap (number_at (series_of samples) i)
+gap_there samples i = rw (series_are_of_samples.numbers samples i) refl
 
 -- with one more sample
-pub gaps_more : (samples : List Sample) (n i g : ℕ) → g ≡ gap (reading_of (get_or samples (i + n) Missing)) → gaps_from (series_of samples) n i + g ≡ gaps_from (series_of samples) (n + 1) i
-gaps_more samples n i g e = omega (arith, total_more (λ k _. gap (number_at (series_of samples) k)) n i i, e ∙ gap_there samples (i + n))
+pub gaps_more : (samples : List Sample) (n i g : ℕ) → g ≡ gap (reading_of (get_or samples (i + n) Missing))
+    → gaps_from (series_of samples) n i + g ≡ gaps_from (series_of samples) (n + 1) i
+gaps_more samples n i g e =
+    omega (arith, total_more (λ k _. gap (number_at (series_of samples) k)) n i i, e ∙ gap_there samples (i + n))
 
 -- without the first one
-pub gaps_less : (samples : List Sample) (n i g : ℕ) → g ≡ gap (reading_of (get_or samples i Missing)) → gaps_from (series_of samples) n (i + 1) + g ≡ gaps_from (series_of samples) (n + 1) i
-gaps_less samples n i g e = omega (arith, total_on (λ k _. gap (number_at (series_of samples) k)) n i i, e ∙ gap_there samples i)
+pub gaps_less : (samples : List Sample) (n i g : ℕ) → g ≡ gap (reading_of (get_or samples i Missing))
+    → gaps_from (series_of samples) n (i + 1) + g ≡ gaps_from (series_of samples) (n + 1) i
+gaps_less samples n i g e =
+    omega (arith, total_on (λ k _. gap (number_at (series_of samples) k)) n i i, e ∙ gap_there samples i)
 
 -- ---- the sum of two windows that move on
 
-pub square_there : (a : List Sample) (i j square : ℕ) → square ≡ square_gap (filled (reading_of (get_or a i Missing))) (filled (reading_of (get_or a j Missing)))
+pub square_there : (a : List Sample) (i j square : ℕ)
+    → square ≡ square_gap (filled (reading_of (get_or a i Missing))) (filled (reading_of (get_or a j Missing)))
     → square ≡ square_at (series_of a) (series_of a) i j
-square_there a i j square e = rw (e, number_at_place a i, number_at_place a j) refl
+square_there a i j square e = rw (e, series_are_of_samples.numbers a i, series_are_of_samples.numbers a j) refl
 
-pub square_of : (a : List Sample) (i j : ℕ) (x y : ℤ) (square : ℕ) → square ≡ square_gap x y → x ≡ filled (number_at (series_of a) i) → y ≡ filled (number_at (series_of a) j)
+pub square_of : (a : List Sample) (i j : ℕ) (x y : ℤ) (square : ℕ) → square ≡ square_gap x y
+    → x ≡ filled (number_at (series_of a) i) → y ≡ filled (number_at (series_of a) j)
     → square ≡ square_at (series_of a) (series_of a) i j
 square_of a i j x y square e f g = rw (e, f, g) refl
 
@@ -131,33 +168,43 @@ sum_of_none a i j = record {
 }
 
 -- with one more sample of each
-pub sum_more : (a : List Sample) (i j n sum square : ℕ) → IsSum a i j n sum → square ≡ square_at (series_of a) (series_of a) (i + n) (j + n) → square < 2 ^ 64
+pub sum_more : (a : List Sample) (i j n sum square : ℕ) → IsSum a i j n sum
+    → square ≡ square_at (series_of a) (series_of a) (i + n) (j + n) → square < 2 ^ 64
     → IsSum a i j (n + 1) (sum + square)
 sum_more a i j n sum square h e lt = record {
   sum_is = rw (total_more (square_at (series_of a) (series_of a)) n i j, ← h.sum_is, ← e) refl;
-  small = below_more (λ k. square_at (series_of a) (series_of a) (i + k) (j + k) ≤ 2 ^ 64) n h.small (subst (λ s. s ≤ 2 ^ 64) e (omega (arith, lt)));
+  small = below_more (λ k. square_at (series_of a) (series_of a) (i + k) (j + k) ≤ 2 ^ 64) n h.small
+      (subst (λ s. s ≤ 2 ^ 64) e (omega (arith, lt)));
 }
 
 -- what stands at the first places of both is in the sum
-pub square_within : (a : List Sample) (i j n sum square : ℕ) → IsSum a i j (n + 1) sum → square ≡ square_at (series_of a) (series_of a) i j → square ≤ sum
-square_within a i j n sum square h e = omega (arith, total_on (square_at (series_of a) (series_of a)) n i j, h.sum_is, e)
+pub square_within : (a : List Sample) (i j n sum square : ℕ) → IsSum a i j (n + 1) sum
+    → square ≡ square_at (series_of a) (series_of a) i j → square ≤ sum
+square_within a i j n sum square h e =
+    omega (arith, total_on (square_at (series_of a) (series_of a)) n i j, h.sum_is, e)
 
 -- without the first sample of each
-pub sum_less : (a : List Sample) (i j n sum square : ℕ) → IsSum a i j (n + 1) sum → square ≡ square_at (series_of a) (series_of a) i j → IsSum a (i + 1) (j + 1) n (sum - square)
+pub sum_less : (a : List Sample) (i j n sum square : ℕ) → IsSum a i j (n + 1) sum
+    → square ≡ square_at (series_of a) (series_of a) i j → IsSum a (i + 1) (j + 1) n (sum - square)
 sum_less a i j n sum square h e = record {
   sum_is = omega (arith, total_on (square_at (series_of a) (series_of a)) n i j, h.sum_is, e);
-  small = λ k lt. let here : i + (k + 1) ≡ i + 1 + k = omega arith in let there : j + (k + 1) ≡ j + 1 + k = omega arith in
+  small = λ k lt. let here : i + (k + 1) ≡ i + 1 + k = omega arith in let there : j + (k + 1) ≡ j + 1 + k =
+      omega arith in
       subst (λ p. square_at (series_of a) (series_of a) p (j + 1 + k) ≤ 2 ^ 64) here
-      (subst (λ q. square_at (series_of a) (series_of a) (i + (k + 1)) q ≤ 2 ^ 64) there (h.small (k + 1) (omega (arith, lt))));
+      (subst (λ q. square_at (series_of a) (series_of a) (i + (k + 1)) q ≤ 2 ^ 64) there
+      (h.small (k + 1) (omega (arith, lt))));
 }
 
 pub sum_is_small : (a : List Sample) (i j n sum : ℕ) → IsSum a i j n sum → sum ≤ n * 2 ^ 64
-sum_is_small a i j n sum h = subst (λ s. s ≤ n * 2 ^ 64) (sym h.sum_is) (total_small (square_at (series_of a) (series_of a)) n i j h.small)
+sum_is_small a i j n sum h =
+    subst (λ s. s ≤ n * 2 ^ 64) (sym h.sum_is) (total_small (square_at (series_of a) (series_of a)) n i j h.small)
 
 -- the sum is the distance where neither window has a gap, and else there is none
-pub distance_there : (a : List Sample) (i j n sum gaps : ℕ) → IsSum a i j n sum → gaps ≡ gaps_from (series_of a) n i + gaps_from (series_of a) n j
+pub distance_there : (a : List Sample) (i j n sum gaps : ℕ) → IsSum a i j n sum
+    → gaps ≡ gaps_from (series_of a) n i + gaps_from (series_of a) n j
     → (if gaps == 0 then Some sum else None) ≡ distance n (series_of a) i (series_of a) j
 distance_there a i j n sum gaps h e = sym (
     distance_by_sums n (series_of a) i (series_of a) j
-    ∙ ap (λ g. if g == 0 then Some (total (square_at (series_of a) (series_of a)) n i j) else None) (gaps_of_both (series_of a) (series_of a) n i j ∙ sym e)
+    ∙ ap (λ g. if g == 0 then Some (total (square_at (series_of a) (series_of a)) n i j) else None)
+    (gaps_of_both (series_of a) (series_of a) n i j ∙ sym e)
     ∙ ap (λ s. if gaps == 0 then Some s else None) (sym h.sum_is))

@@ -1,23 +1,33 @@
--- What the tiles of a series give together.
-use Rattle.std.specs.Prelude.{◌≡◌, ℕ, ◌+◌, ◌<◌, [], ◌∷◌, length}
-use Rattle.std.specs.List.{range_with_len}
+-- What tiles give together.
+use Rattle.std.specs.Prelude.{◌≡◌, ℕ, ◌<◌, List, length, slice_index_or, Bool, ◌&&◌, nat_lt, count_by, if◌then◌else◌}
 use Rattle.mp_defs.specs.Series.{Series}
-use Rattle.mp_defs.specs.Window.{excl}
-use Rattle.mp_defs.specs.Profile.{entry, left_entry, right_entry, column, windows_of}
-use Rattle.mp_partial.specs.Values.{Value, merged_columns, empty_columns, merged_over}
+use Rattle.mp_defs.specs.Profile.{profile, windows_of}
+use Rattle.mp_defs.specs.Laws.{IsIrreflexive, IsSymmetric}
+use Rattle.mp_partial.specs.Values.{Value, merged_columns, empty_columns, merged_below}
+use Rattle.mp_tiles.specs.declared.cuts.Tile.{Tile}
 use Rattle.mp_tiles.specs.Pairs.{has_pair}
-use Rattle.mp_tiles.specs.Cutting.{tile_at, own_tiles}
-use Rattle.mp_tiles.specs.Among.{value_among}
+use Rattle.mp_tiles.specs.Among.{profile_among, columns_value}
 
--- the profile of a series, as the value of a part
-abbrev pub profile_value : ℕ → Series → Value
-profile_value m a = column (entry m a) (windows_of m a) ∷ column (left_entry m a) (windows_of m a) ∷ column (right_entry m a) (windows_of m a) ∷ []
+-- of w windows each two that may be compared are a pair of exactly one of the tiles, and no others are a pair of any
+abbrev pub HoldEachOnce : (ℕ → ℕ → Bool) → ℕ → List Tile → Type 0
+HoldEachOnce may w tiles = (i j : ℕ) → j < w
+    → count_by (λ t. has_pair t i j) tiles ≡ (if nat_lt i j && may i j then 1 else 0)
 
--- the value of tile k of a series, each tile so wide
-abbrev pub own_tile_value : ℕ → ℕ → Series → ℕ → Value
-own_tile_value m width a k = value_among (has_pair (tile_at (excl m + 1) (windows_of m a) width k)) m a
+-- what stands for a tile past the last one
+abbrev pub no_tile : Tile
+no_tile = record { first = 0; last = 0 }
 
--- the values of all tiles together are the profile, however wide the tiles are
+-- the value of a tile: the profile of its pairs
+abbrev pub tile_value : ℕ → Series → List Tile → ℕ → Value
+tile_value m a tiles k = columns_value (profile_among (has_pair (slice_index_or tiles k no_tile)) m a)
+
+-- the values of all tiles together
+abbrev pub tiles_value : ℕ → Series → List Tile → Value
+tiles_value m a tiles =
+    merged_below merged_columns (empty_columns 3 (windows_of m a)) (tile_value m a tiles) (length tiles)
+
+-- they are the profile, whatever tiles hold each pair once
 abbrev pub TilesMakeTheProfile : Type 0
-TilesMakeTheProfile = (m width : ℕ) (a : Series) → 0 < width
-    → merged_over merged_columns (empty_columns 3 (windows_of m a)) (own_tile_value m width a) (range_with_len 0 (length (own_tiles (windows_of m a) (excl m) width))) ≡ profile_value m a
+TilesMakeTheProfile = (may : ℕ → ℕ → Bool) → IsIrreflexive may → IsSymmetric may → (m : ℕ) (a : Series)
+    (tiles : List Tile) → HoldEachOnce may (windows_of m a) tiles
+    → tiles_value m a tiles ≡ columns_value (profile may m a)

@@ -4,5 +4,5 @@ pub mod Sums
 pub mod Plain
 pub mod Among
 pub mod Scanning
-pub mod Pieces
 pub mod Laws
+pub mod Pieces

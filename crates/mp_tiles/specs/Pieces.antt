@@ -1,21 +1,47 @@
--- Tiles as pieces, and that their values have the places of the series.
-use Rattle.std.proofs.Common.{◌≡◌, ℕ, zero, suc, List, [], ◌∷◌, length, Bool, refl, sym, ap, ◌∙◌, arith}
+-- The tiles of a series as the pieces of a kernel.
+use Rattle.std.proofs.Common.{◌≡◌, ℕ, zero, suc, ◌≤◌, List, ◌∷◌, [], length, Bool, refl, sym, ◌∙◌, arith}
 use Rattle.std.specs.Prelude.{All}
-use Rattle.std.proofs.lemmas.List.{length-map}
-use Rattle.std.proofs.lemmas.List.FromFn.{length-map-range_with_len}
 use Rattle.mp_nums.specs.declared.samples.Sample.{Sample}
-use Rattle.mp_defs.specs.Series.{reading_of, series_of}
-use Rattle.mp_defs.specs.Window.{windows}
-use Rattle.mp_defs.specs.Profile.{windows_of}
-use Rattle.mp_partial.specs.Values.{Column, HasColumns}
-use Rattle.mp_tiles.specs.declared.cuts.Tile.{Tile}
+use Rattle.mp_series.specs.declared.limits.TheConstants.{MIN_WINDOW, MAX_WINDOW, MAX_SAMPLES}
+use Rattle.mp_defs.specs.Series.{Series, series_of}
+use Rattle.mp_defs.specs.Window.{windows, excl}
+use Rattle.mp_defs.specs.Profile.{windows_of, entry, left_entry, right_entry, profile}
+use Rattle.mp_defs.specs.SeriesLaws.{series_are_of_samples}
+use Rattle.mp_defs.specs.ColumnLaws.{columns_have_places}
+use Rattle.mp_partial.specs.Values.{Column, Value, HasColumns, merged_columns, empty_columns, merged_below}
 use Rattle.mp_partial.specs.Profiled.{Profiled}
+use Rattle.mp_tiles.specs.declared.cuts.Tile.{Tile}
+use Rattle.mp_tiles.specs.Pairs.{IsTileOf}
+use Rattle.mp_tiles.specs.Among.{either_way, columns_value}
+use Rattle.mp_tiles.specs.Laws.{tile_value}
 use Rattle.mp_tiles.specs.Scanning.{HasPlaces}
-use Rattle.mp_tiles.specs.Among.{entry_among, left_among, right_among, all_column, left_column, right_column, value_among}
 
--- what stands for a tile past the last one
-abbrev pub no_tile : Tile
-no_tile = record { first = 0; last = 0 }
+-- what is seen of the kernel: the samples, the length of a window, and the tiles
+pub record OwnTiling : Type 0 where
+  pub samples : List Sample
+  pub m : ℕ
+  pub tiles : List Tile
+
+-- what its fields keep to
+pub record IsOwnTiling (samples : List Sample) (m : ℕ) (tiles : List Tile) : Type 0 where
+  pub shortest : MIN_WINDOW ≤ m
+  pub longest : m ≤ MAX_WINDOW
+  pub few : length samples ≤ MAX_SAMPLES
+  pub each : All (IsTileOf (windows (length samples) m) (excl m)) tiles
+
+-- the number of windows
+abbrev pub own_size : OwnTiling → ℕ
+own_size own = windows (length own.samples) own.m
+
+-- the value of piece k: the profile of the pairs of tile k
+abbrev pub own_value : OwnTiling → ℕ → Value
+own_value own k = tile_value own.m (series_of own.samples) own.tiles k
+
+-- the values of all pieces together
+abbrev pub own_together : OwnTiling → Value
+own_together own = merged_below merged_columns (empty_columns 3 (own_size own)) (own_value own) (length own.tiles)
+
+-- ---- values have the places of the series
 
 all_three : (P : Column → Type 0) (a b c : Column) → P a → P b → P c → All P (a ∷ b ∷ c ∷ [])
 all_three P a b c p q r zero d lt = p
@@ -23,19 +49,28 @@ all_three P a b c p q r (suc zero) d lt = q
 all_three P a b c p q r (suc (suc zero)) d lt = r
 all_three P a b c p q r (suc (suc (suc k))) d lt = absurd (omega (arith, lt))
 
-pub value_has_columns : (pairs : ℕ → ℕ → Bool) (m : ℕ) (samples : List Sample) → HasColumns 3 (windows (length samples) m) (value_among pairs m (series_of samples))
-value_has_columns pairs m samples =
-    let a = series_of samples in
-    let w = windows_of m a in
-    let same : w ≡ windows (length samples) m = ap (λ n. windows n m) (length-map samples reading_of) in
+profile_columns : (may : ℕ → ℕ → Bool) (m : ℕ) (a : Series) (w : ℕ) → windows_of m a ≡ w
+    → HasColumns 3 w (columns_value (profile may m a))
+profile_columns may m a w same =
+    let p = profile may m a in
     record {
       columns = refl;
-      places = all_three (λ column. length column ≡ windows (length samples) m) (all_column pairs m a) (left_column pairs m a) (right_column pairs m a)
-          (length-map-range_with_len (entry_among pairs m a) 0 w ∙ same) (length-map-range_with_len (left_among pairs m a) 0 w ∙ same) (length-map-range_with_len (right_among pairs m a) 0 w ∙ same);
+      places = all_three (λ column. length column ≡ w) p.all p.left p.right
+          (columns_have_places.count (entry may m a) (windows_of m a) ∙ same)
+          (columns_have_places.count (left_entry may m a) (windows_of m a) ∙ same)
+          (columns_have_places.count (right_entry may m a) (windows_of m a) ∙ same);
     }
 
-pub profile_has_columns : (w : ℕ) (p : Profiled) → HasPlaces w p → HasColumns 3 (length p.all) (p.all ∷ p.left ∷ p.right ∷ [])
+pub value_has_columns : (pairs : ℕ → ℕ → Bool) (m : ℕ) (samples : List Sample)
+    → HasColumns 3 (windows (length samples) m) (columns_value (profile (either_way pairs) m (series_of samples)))
+value_has_columns pairs m samples =
+    profile_columns (either_way pairs) m (series_of samples) (windows (length samples) m)
+    (series_are_of_samples.windows_are m samples)
+
+pub profile_has_columns : (w : ℕ) (p : Profiled) → HasPlaces w p
+    → HasColumns 3 (length p.all) (p.all ∷ p.left ∷ p.right ∷ [])
 profile_has_columns w p h = record {
   columns = refl;
-  places = all_three (λ column. length column ≡ length p.all) p.all p.left p.right refl (h.left ∙ sym h.all) (h.right ∙ sym h.all);
+  places = all_three (λ column. length column ≡ length p.all) p.all p.left p.right refl (h.left ∙ sym h.all)
+      (h.right ∙ sym h.all);
 }

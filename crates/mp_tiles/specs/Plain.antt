@@ -13,7 +13,8 @@ pub record IsPlain (rest i : ℕ) (a : Series) (window : PlainWindow) : Type 0 w
 
 -- the windows from start on
 abbrev pub ArePlain : ℕ → ℕ → Series → List PlainWindow → Type 0
-ArePlain rest start a windows = (k : ℕ) (other : PlainWindow) → k < length windows → IsPlain rest (start + k) a (slice_index_or windows k other)
+ArePlain rest start a windows =
+    (k : ℕ) (other : PlainWindow) → k < length windows → IsPlain rest (start + k) a (slice_index_or windows k other)
 
 -- how many of the samples from row and from column on are missing
 pub record AreGaps (a : Series) (rest row column : ℕ) (gaps : Gaps) : Type 0 where

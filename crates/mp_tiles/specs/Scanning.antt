@@ -1,11 +1,12 @@
 -- What a scan makes of a profile, pair by pair.
-use Rattle.std.specs.Prelude.{◌≡◌, ℕ, ◌+◌, Bool, ◌&&◌, nat_le, nat_lt, length, slice_index_or, slice_set, Option, None}
+use Rattle.std.specs.Prelude.{◌≡◌, ℕ, ◌+◌, Bool, ◌&&◌, nat_le, nat_lt, length, slice_index_or, slice_set}
+use Rattle.std.specs.Prelude.{Option, None}
 use Rattle.mp_nums.specs.declared.nearest.Near.{Near}
 use Rattle.mp_nums.specs.Near.{nearer_of}
 use Rattle.mp_defs.specs.Series.{Series}
 use Rattle.mp_partial.specs.Values.{Column, merged_column}
 use Rattle.mp_partial.specs.Profiled.{Profiled}
-use Rattle.mp_tiles.specs.Among.{all_column, left_column, right_column}
+use Rattle.mp_tiles.specs.Among.{profile_among}
 
 -- the pairs on the diagonals from first on and before end
 abbrev pub on_diagonals : ℕ → ℕ → ℕ → ℕ → Bool
@@ -23,9 +24,9 @@ pub record HasPlaces (w : ℕ) (p : Profiled) : Type 0 where
 
 -- the new profile is the old one with what these pairs give
 pub record IsScanned (pairs : ℕ → ℕ → Bool) (m : ℕ) (a : Series) (old new : Profiled) : Type 0 where
-  pub all : new.all ≡ merged_column old.all (all_column pairs m a)
-  pub left : new.left ≡ merged_column old.left (left_column pairs m a)
-  pub right : new.right ≡ merged_column old.right (right_column pairs m a)
+  pub all : new.all ≡ merged_column old.all (profile_among pairs m a).all
+  pub left : new.left ≡ merged_column old.left (profile_among pairs m a).left
+  pub right : new.right ≡ merged_column old.right (profile_among pairs m a).right
   pub spare : new.spare ≡ old.spare
 
 -- place i takes a window that may be there

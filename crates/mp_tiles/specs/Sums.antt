@@ -1,5 +1,6 @@
 -- Sums along a diagonal, in which a missing sample counts as 0.
-use Rattle.std.specs.Prelude.{◌≡◌, ℕ, zero, suc, ◌+◌, ◌^◌, ◌<◌, ◌≤◌, length, slice_index_or, ℤ, pos, List, Option, Some, None}
+use Rattle.std.specs.Prelude.{◌≡◌, ℕ, zero, suc, ◌+◌, ◌^◌, ◌<◌, ◌≤◌, length, slice_index_or, ℤ, pos, List, Option, Some}
+use Rattle.std.specs.Prelude.{None}
 use Rattle.mp_nums.specs.declared.samples.Sample.{Sample}
 use Rattle.mp_defs.specs.Series.{Series, series_of, number_at}
 use Rattle.mp_defs.specs.Distance.{square_gap}
@@ -32,4 +33,6 @@ pub record IsSum (samples : List Sample) (i j n sum : ℕ) : Type 0 where
 
 -- the sums of the diagonals from first on at a row, of those that have such a row among so many windows
 abbrev pub AreSums : List Sample → ℕ → ℕ → ℕ → ℕ → List ℕ → Type 0
-AreSums samples count rest first row sums = (t x : ℕ) → t < length sums → row + first + t < count → IsSum samples row (row + first + t) rest (slice_index_or sums t x)
+AreSums samples count rest first row sums =
+    (t x : ℕ) → t < length sums → row + first + t < count
+    → IsSum samples row (row + first + t) rest (slice_index_or sums t x)

@@ -1,8 +1,9 @@
-//! What the tiles of a series give together, as the contract of a function that does nothing.
+//! What tiles give together, as the contract of a function that does nothing.
 
 ghost use Rattle.mp_tiles.specs.Laws.{TilesMakeTheProfile};
 
-/// The values of all tiles, merged from a unit, are the matrix profile, however wide the tiles are.
+/// By any test of pairs that compares no window with itself and of two windows each with the other, the values of tiles
+/// that hold each pair exactly once, merged from a unit, are the profile.
 pub fn tiles_make_the_profile()
     ensures { TilesMakeTheProfile }
 {}

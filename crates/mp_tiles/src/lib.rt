@@ -4,6 +4,7 @@
 
 mod cuts;
 mod diagonals;
+mod kernels;
 mod laws;
 mod scans;
 #[cfg(test)]
@@ -11,5 +12,6 @@ mod tests;
 mod windows;
 
 pub use cuts::{Cut, MAX_TILE, Tile, cut_own};
+pub use kernels::{OwnTiles, profile};
 pub use laws::tiles_make_the_profile;
 pub use scans::scan_own;

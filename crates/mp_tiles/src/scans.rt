@@ -5,7 +5,7 @@ ghost use Rattle.mp_defs.specs.Series.{series_of};
 ghost use Rattle.mp_defs.specs.Window.{windows, excl};
 ghost use Rattle.mp_partial.specs.Values.{HasColumns, merged_column};
 ghost use Rattle.mp_tiles.specs.Pairs.{has_pair, IsTileOf};
-ghost use Rattle.mp_tiles.specs.Among.{all_column, left_column, right_column};
+ghost use Rattle.mp_tiles.specs.Among.{profile_among};
 ghost use Rattle.mp_tiles.specs.Sums.{AreSums};
 ghost use Rattle.mp_tiles.specs.Plain.{ArePlain, AreGaps};
 ghost use Rattle.mp_tiles.specs.Scanning.{in_block, on_diagonals, HasPlaces, IsScanned};
@@ -150,11 +150,11 @@ pub fn scan_own(samples: &[Sample], m: u32, tile: &Tile, into: &mut Profile)
     requires tile { IsTileOf (windows (length samples.now) m) (excl m) tile.now }
     requires places { length into.old.all ≡ windows (length samples.now) m }
     ensures all { into.new.all
-        ≡ merged_column into.old.all (all_column (has_pair tile.now) m (series_of samples.now)) }
+        ≡ merged_column into.old.all (profile_among (has_pair tile.now) m (series_of samples.now)).all }
     ensures left { into.new.left
-        ≡ merged_column into.old.left (left_column (has_pair tile.now) m (series_of samples.now)) }
+        ≡ merged_column into.old.left (profile_among (has_pair tile.now) m (series_of samples.now)).left }
     ensures right { into.new.right
-        ≡ merged_column into.old.right (right_column (has_pair tile.now) m (series_of samples.now)) }
+        ≡ merged_column into.old.right (profile_among (has_pair tile.now) m (series_of samples.now)).right }
     ensures places { length into.new.all ≡ length into.old.all }
     ensures is_value { HasColumns 3 (length into.new.all) (into.new.all ∷ into.new.left ∷ into.new.right ∷ []) }
     ensures spare { into.new.spare ≡ into.old.spare }

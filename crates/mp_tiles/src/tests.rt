@@ -1,15 +1,8 @@
-ghost use Rattle.std.specs.Prelude.{◌≡◌, ◌≤◌, All, IfOk, length, slice_index_or, vec_len};
-ghost use Rattle.mp_series.specs.declared.limits.TheConstants.{MAX_SAMPLES, MAX_WINDOW, MIN_WINDOW};
-ghost use Rattle.mp_defs.specs.Series.{series_of};
-ghost use Rattle.mp_defs.specs.Window.{windows as windows_in, excl as zone};
-ghost use Rattle.mp_tiles.specs.Pairs.{has_pair, IsTileOf};
-ghost use Rattle.mp_tiles.specs.Among.{value_among};
-ghost use Rattle.mp_tiles.specs.Pieces.{no_tile, value_has_columns};
+ghost use Rattle.std.specs.Prelude.{◌≡◌, IfOk, vec_len};
 
-use crate::{Cut, MAX_TILE, Tile, cut_own, scan_own};
+use crate::{Tile, cut_own, profile};
 use mp_nums::{Memory, Near, Sample, Slot, Slots, Sq};
-use mp_partial::{Kernel, Part, Profile};
-use mp_series::{MAX_SAMPLES, MAX_WINDOW, MIN_WINDOW, excl, windows};
+use mp_partial::{Part, Profile};
 use std::alloc::Global;
 use std::test::Fail;
 
@@ -41,73 +34,6 @@ fn merge_with_unit<P: Part>(alloc: Global, part: &mut P) -> Result<(), Memory> {
     other.clear();
     part.merge(&other);
     Ok(())
-}
-
-/// The tiles of a series as the pieces of a kernel.
-#[derive(Drop)]
-struct Tiles<'a> {
-    samples: &'a [Sample],
-    m: u32,
-    cut: Cut,
-    ghost shortest: { MIN_WINDOW ≤ m },
-    ghost longest: { m ≤ MAX_WINDOW },
-    ghost few: { length samples.now ≤ MAX_SAMPLES },
-    ghost each: { All (IsTileOf (windows_in (length samples.now) m) (zone m)) cut },
-}
-
-impl<'a> Kernel for Tiles<'a> {
-    type Out = Profile;
-
-    ghost size_of = { λ tiles. windows_in (length tiles.samples.now) tiles.m };
-
-    ghost pieces_of = { λ tiles. length tiles.cut };
-
-    ghost value_of = { λ tiles piece.
-        value_among (has_pair (slice_index_or tiles.cut piece no_tile)) tiles.m (series_of tiles.samples.now) };
-
-    ghost has_values = { λ tiles piece _.
-        value_has_columns (has_pair (slice_index_or tiles.cut piece no_tile)) tiles.m tiles.samples.now };
-
-    fn size(&self) -> u64 {
-        windows(self.samples.len() as u64, self.m)
-    }
-
-    fn pieces(&self) -> u64 {
-        self.cut.count()
-    }
-
-    fn run(&self, piece: u64, into: &mut Profile) {
-        scan_own(self.samples, self.m, &self.cut.tile(piece), into);
-    }
-}
-
-/// Runs each piece of a kernel, through the bound.
-fn run_each<K: Kernel>(kernel: &K, into: &mut K::Out)
-    requires { K.Out.size_of into.old ≡ K.size_of kernel.now }
-    ensures { K.Out.size_of into.new ≡ K.Out.size_of into.old }
-{
-    for piece in 0..kernel.pieces() {
-        kernel.run(piece, into);
-    }
-}
-
-/// The profile of the samples, tile by tile.
-fn profile(alloc: Global, samples: &[Sample], m: u32, tile: u32) -> Result<Profile, Memory>
-    requires shortest { MIN_WINDOW ≤ m }
-    requires longest { m ≤ MAX_WINDOW }
-    requires samples { length samples.now ≤ MAX_SAMPLES }
-    requires least { 1 ≤ tile }
-    requires greatest { tile ≤ MAX_TILE }
-{
-    let count = windows(samples.len() as u64, m);
-    let tiles = Tiles {
-        samples,
-        m,
-        cut: cut_own(count, excl(m), tile),
-    };
-    let mut profile: Profile = unit(alloc, tiles.size())?;
-    run_each(&tiles, &mut profile);
-    Ok(profile)
 }
 
 /// A series of few numbers, so that many distances are equal, in which about one sample in eight is missing.

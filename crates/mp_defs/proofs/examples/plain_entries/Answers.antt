@@ -5,4 +5,4 @@ use Rattle.mp_defs.proofs.examples.plain_entries.Goals as goal
 
 pub returns : goal.returns
 unfolding near distance
-returns c = record { all_is = refl; left_is = refl; right_is = refl }
+returns c = refl

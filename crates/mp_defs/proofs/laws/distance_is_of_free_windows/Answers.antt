@@ -1,4 +1,4 @@
-use Rattle.mp_defs.proofs.Distances.{of_free_windows}
+use Rattle.mp_defs.specs.DistanceLaws.{of_free_windows}
 use Rattle.mp_defs.proofs.laws.distance_is_of_free_windows.Goals as goal
 
 pub returns : goal.returns

@@ -1,4 +1,4 @@
-use Rattle.mp_defs.proofs.Distances.{symmetric}
+use Rattle.mp_defs.specs.DistanceLaws.{symmetric}
 use Rattle.mp_defs.proofs.laws.distance_is_symmetric.Goals as goal
 
 pub returns : goal.returns

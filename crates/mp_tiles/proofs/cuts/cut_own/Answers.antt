@@ -6,10 +6,13 @@ use Rattle.mp_tiles.proofs.cuts.cut_own.Goals as goal
 
 pub returns-clause-each : goal.returns-clause-each
 returns-clause-each c =
-    subst (All (IsTileOf c.args.w c.args.excl)) (sym (same_tiles c.args.w c.args.excl c.from.result c.saturating_add-first.result c.max.result c.requires.windows (omega arith) c.saturating_add-first.ensures c.max.ensures))
+    subst (All (IsTileOf c.args.w c.args.excl))
+    (sym (same_tiles c.args.w c.args.excl c.from.result c.saturating_add-first.result c.max.result
+    c.requires.windows (omega arith) c.saturating_add-first.ensures c.max.ensures))
     (are_tiles c.args.w c.args.excl c.from.result (omega arith))
 
 pub returns-clause-pairs : goal.returns-clause-pairs
 returns-clause-pairs c i j lt =
-    ap (count_by (λ t. has_pair t i j)) (same_tiles c.args.w c.args.excl c.from.result c.saturating_add-first.result c.max.result c.requires.windows (omega arith) c.saturating_add-first.ensures c.max.ensures)
+    ap (count_by (λ t. has_pair t i j)) (same_tiles c.args.w c.args.excl c.from.result c.saturating_add-first.result
+    c.max.result c.requires.windows (omega arith) c.saturating_add-first.ensures c.max.ensures)
     ∙ pairs_once c.args.w c.args.excl c.from.result (omega arith) i j lt

@@ -15,5 +15,6 @@ loop-k-preserved c =
     let here : c.loop-k.k ≡ 0 + c.loop-k.k = omega arith in
     let a = series_of c.args.of.now.samples.now in
     sum_more _ _ _ _ _ _ c.loop-k.invariant
-    (square_there _ c.loop-k.k (c.args.diagonal + c.loop-k.k) _ (c.from-sum.ensures ∙ c.sample_square.ensures) ∙ ap (λ p. square_at a a p (c.args.diagonal + c.loop-k.k)) here)
+    (square_there _ c.loop-k.k (c.args.diagonal + c.loop-k.k) _ (c.from-sum.ensures ∙ c.sample_square.ensures)
+    ∙ ap (λ p. square_at a a p (c.args.diagonal + c.loop-k.k)) here)
     (omega arith)

@@ -11,7 +11,10 @@ invariant-loop-t l =
     record {
       places : length l.sums ≡ length l.initial.sums;
       profile : HasPlaces l.of.count l.into;
-      scanned : IsScanned (in_block l.first (l.first + l.t) l.row (l.row + ROWS)) (l.of.rest + 1) (series_of a) l.initial.into l.into;
-      done : (q x : ℕ) → q < l.t → l.row + ROWS + l.first + q < l.of.count → IsSum a (l.row + ROWS) (l.row + ROWS + l.first + q) l.of.rest (get_or l.sums q x);
-      left : (q x : ℕ) → l.t ≤ q → q < length l.sums → l.row + l.first + q < l.of.count → IsSum a l.row (l.row + l.first + q) l.of.rest (get_or l.sums q x);
+      scanned : IsScanned (in_block l.first (l.first + l.t) l.row (l.row + ROWS)) (l.of.rest + 1)
+          (series_of a) l.initial.into l.into;
+      done : (q x : ℕ) → q < l.t → l.row + ROWS + l.first + q < l.of.count
+          → IsSum a (l.row + ROWS) (l.row + ROWS + l.first + q) l.of.rest (get_or l.sums q x);
+      left : (q x : ℕ) → l.t ≤ q → q < length l.sums → l.row + l.first + q < l.of.count
+          → IsSum a l.row (l.row + l.first + q) l.of.rest (get_or l.sums q x);
     }

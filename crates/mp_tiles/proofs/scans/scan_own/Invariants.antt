@@ -9,5 +9,6 @@ abbrev pub invariant-loop-k : goal.invariant-loop-k
 invariant-loop-k l = record {
   places : length l.sums ≡ STRIP;
   profile : HasPlaces (windows (length l.samples) l.m) l.into;
-  scanned : IsScanned (on_diagonals l.tile.first (min (l.tile.first + l.k * STRIP) (l.tile.last + 1))) l.m (series_of l.samples) l.initial.into l.into;
+  scanned : IsScanned (on_diagonals l.tile.first (min (l.tile.first + l.k * STRIP) (l.tile.last + 1))) l.m
+      (series_of l.samples) l.initial.into l.into;
 }

@@ -13,7 +13,8 @@ invariant-loop-block l =
     record {
       places : length l.sums ≡ length l.initial.sums;
       profile : HasPlaces l.of.count l.into;
-      scanned : IsScanned (in_block l.first (l.first + length l.initial.sums) 0 row) (l.of.rest + 1) (series_of a) l.initial.into l.into;
+      scanned : IsScanned (in_block l.first (l.first + length l.initial.sums) 0 row) (l.of.rest + 1)
+          (series_of a) l.initial.into l.into;
       sums : AreSums a l.of.count l.of.rest l.first row l.sums;
       gaps : row + l.first < l.of.count → AreGaps (series_of a) l.of.rest row (row + l.first) l.gaps;
     }

@@ -7,7 +7,18 @@ pub loop-k-init : goal.loop-k-init
 loop-k-init c = sym (no_gaps (series_of c.args.of.now.samples.now) c.args.start)
 
 pub overflow_add-gaps : goal.overflow_add-gaps
-overflow_add-gaps c = omega (arith, c.loop-k.invariant, gaps_few (series_of c.args.of.now.samples.now) c.loop-k.k c.args.start, c.args.of.now.short, gap_few _ _ c.gap-gaps.ensures)
+overflow_add-gaps c =
+    omega (
+      arith,
+      c.loop-k.invariant,
+      gaps_few
+          (series_of c.args.of.now.samples.now) c.loop-k.k c.args.start,
+      c.args.of.now.short,
+      gap_few _ _
+          c.gap-gaps.ensures,
+    )
 
 pub loop-k-preserved : goal.loop-k-preserved
-loop-k-preserved c = ap (λ n. n + c.gap-gaps.result) c.loop-k.invariant ∙ gaps_more c.args.of.now.samples.now c.loop-k.k c.args.start c.gap-gaps.result c.gap-gaps.ensures
+loop-k-preserved c =
+    ap (λ n. n + c.gap-gaps.result) c.loop-k.invariant
+    ∙ gaps_more c.args.of.now.samples.now c.loop-k.k c.args.start c.gap-gaps.result c.gap-gaps.ensures

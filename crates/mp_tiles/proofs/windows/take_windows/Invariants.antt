@@ -9,5 +9,6 @@ abbrev pub invariant-loop-k : goal.invariant-loop-k
 invariant-loop-k l = record {
   gaps : l.gaps ≡ gaps_from (series_of l.of.samples.now) l.of.rest (l.start + l.k);
   places : length l.plain ≡ length l.initial.plain;
-  taken : (q : ℕ) (other : PlainWindow) → q < l.k → IsPlain l.of.rest (l.start + q) (series_of l.of.samples.now) (get_or l.plain q other);
+  taken : (q : ℕ) (other : PlainWindow) → q < l.k
+      → IsPlain l.of.rest (l.start + q) (series_of l.of.samples.now) (get_or l.plain q other);
 }

@@ -5,4 +5,5 @@ use Rattle.mp_partial.proofs.profiles.ProfilePart.clear.Goals as goal
 
 pub invariant_of-self : goal.invariant_of-self
 invariant_of-self c =
-    empty_profile _ _ _ _ c.clear.ensures.items (c.clear-2.ensures.items ∙ ap empty_column c.self.invariant.left_is) (c.clear-3.ensures.items ∙ ap empty_column c.self.invariant.right_is)
+    empty_profile _ _ _ _ c.clear.ensures.items (c.clear-2.ensures.items ∙ ap empty_column c.self.invariant.left_is)
+    (c.clear-3.ensures.items ∙ ap empty_column c.self.invariant.right_is)

@@ -11,12 +11,16 @@ loop-j-init c = row_begins _ _ _
 
 pub loop-j-preserved : goal.loop-j-preserved
 loop-j-preserved c =
-    let is_below : Row → Type 0 = λ row. IsRowBelow c.args.m (series_of c.args.samples.now) c.args.i (c.loop-j.j + 1) row in
+    let is_below : Row → Type 0 = λ row. IsRowBelow c.args.m (series_of c.args.samples.now) c.args.i
+    (c.loop-j.j + 1) row in
     let before = c.loop-j.invariant in
     elim c.if-allowed.branch [
       | then-allowed+in-Some w ↦ subst is_below (sym w.row-is)
-          (row_takes _ _ _ _ _ _ _ before (sym w.if-allowed.ensures) (distance_found _ _ w.in-Some.ensures.value) w.offer.ensures.all w.offer.ensures.left w.offer.ensures.right)
-      | then-allowed+in_default w ↦ subst is_below (sym w.row-is) (row_misses _ _ _ _ _ before (distance_missing _ w.in_default.ensures.value))
+          (row_takes _ _ _ _ _ _ _ before (sym w.if-allowed.ensures)
+          (distance_found _ _ w.in-Some.ensures.value) w.offer.ensures.all w.offer.ensures.left
+          w.offer.ensures.right)
+      | then-allowed+in_default w ↦ subst is_below (sym w.row-is)
+          (row_misses _ _ _ _ _ before (distance_missing _ w.in_default.ensures.value))
       | else-allowed w ↦ subst is_below (sym w.row-is) (row_skips _ _ _ _ _ before (sym w.if-allowed.ensures))
     ]
 

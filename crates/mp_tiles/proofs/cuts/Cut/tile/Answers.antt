@@ -15,5 +15,11 @@ overflow_add-first-2 c = omega (arith, ends_within _ _ _ _ _ c.self.invariant c.
 
 pub returns : goal.returns
 returns c =
-    let found : slice_get c.args.self.now c.args.k ≡ Some (tile_at c.self.inside.first c.self.inside.end c.self.inside.width c.args.k) = tile_found _ _ _ _ _ c.self.view_is c.requires in
-    found ∙ ap (λ last. Some (record { first = c.self.inside.first + c.args.k * c.self.inside.width; last = last - 1 })) (sym c.min.ensures)
+    let found : slice_get c.args.self.now c.args.k
+    ≡ Some (tile_at c.self.inside.first c.self.inside.end c.self.inside.width c.args.k) =
+    tile_found _ _ _ _ _ c.self.view_is c.requires in
+    found ∙ ap (λ last. Some (record {
+      first = c.self.inside.first + c.args.k * c.self.inside.width;
+      last =
+          last - 1;
+    })) (sym c.min.ensures)

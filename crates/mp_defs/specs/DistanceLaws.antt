@@ -1,27 +1,20 @@
--- One sample more, and what follows by induction.
+-- Why the laws of distances hold: one sample more, and what follows by induction.
 use Rattle.std.proofs.Common.{◌≡◌, ℕ, zero, suc, ◌+◌, Bool, true, false, refl, arith, add-one, ap, ◌∙◌, rules}
 use Rattle.std.specs.Prelude.{Option, Some, None, IsTrue, IsSome, is_some, ◌&&◌, ◌↔◌, ℤ, ◌-ℤ◌, unsigned_abs}
 use Rattle.std.proofs.lemmas.Int.{ints}
 use Rattle.mp_defs.specs.Series.{Series, number_at}
 use Rattle.mp_defs.specs.Window.{is_free}
 use Rattle.mp_defs.specs.Distance.{square_gap, square_between, plus, distance}
-use Rattle.mp_defs.specs.Laws.{DistanceIsOfFreeWindows, DistanceIsSymmetric}
+use Rattle.mp_defs.specs.Laws.{GrowsByOneSample, DistanceIsOfFreeWindows, DistanceIsSymmetric}
 
-pub distance_zero : (a : Series) (i : ℕ) (b : Series) (j : ℕ) → distance 0 a i b j ≡ Some 0
-unfolding distance
-distance_zero a i b j = refl
-
-pub distance_more : (m : ℕ) (a : Series) (i : ℕ) (b : Series) (j : ℕ) → distance (m + 1) a i b j ≡ plus (distance m a i b j) (square_between (number_at a (i + m)) (number_at b (j + m)))
-unfolding distance
-distance_more m a i b j = rw add-one refl
-
-pub free_zero : (a : Series) (i : ℕ) → is_free 0 a i ≡ true
-unfolding is_free
-free_zero a i = refl
-
-pub free_more : (m : ℕ) (a : Series) (i : ℕ) → is_free (m + 1) a i ≡ (is_free m a i && is_some (number_at a (i + m)))
-unfolding is_free
-free_more m a i = rw add-one refl
+pub grows_by_one_sample : GrowsByOneSample
+unfolding distance is_free
+grows_by_one_sample = record {
+  no_samples = λ a i b j. refl;
+  one_more = λ m a i b j. rw add-one refl;
+  free_at_first = λ a i. refl;
+  one_more_free = λ m a i. rw add-one refl;
+}
 
 -- ---- a distance is of free windows
 
@@ -42,7 +35,8 @@ and_pairs true false false y = refl
 and_pairs false q x y = refl
 
 -- the test that both windows are free
-pub distance_is_some : (m : ℕ) (a : Series) (i : ℕ) (b : Series) (j : ℕ) → is_some (distance m a i b j) ≡ (is_free m a i && is_free m b j)
+distance_is_some : (m : ℕ) (a : Series) (i : ℕ) (b : Series) (j : ℕ)
+    → is_some (distance m a i b j) ≡ (is_free m a i && is_free m b j)
 unfolding distance is_free
 distance_is_some zero a i b j = refl
 distance_is_some (suc m) a i b j =
@@ -70,4 +64,5 @@ square_same (Some x) (Some y) = ap Some (gap_same x y)
 pub symmetric : DistanceIsSymmetric
 unfolding distance
 symmetric zero a i b j = refl
-symmetric (suc m) a i b j = rw (symmetric m a i b j, square_same (number_at a (i + m)) (number_at b (j + m))) refl
+symmetric (suc m) a i b j =
+    rw (symmetric m a i b j, square_same (number_at a (i + m)) (number_at b (j + m))) refl

@@ -1,3 +1,0 @@
-pub mod LeastLaws
-pub mod Distances
-pub mod Places
