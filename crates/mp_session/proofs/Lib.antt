@@ -7,5 +7,4 @@ pub mod ReportLemmas
 pub mod RunLemmas
 pub mod ServeLemmas
 pub mod SessionLemmas
-pub mod TileRuns
 pub mod UnderWay

@@ -8,7 +8,6 @@ mod feeds;
 mod field;
 mod laws;
 mod numbers;
-mod profiles;
 mod reports;
 mod sessions;
 mod settings;
