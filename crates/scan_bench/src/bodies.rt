@@ -1,27 +1,18 @@
 //! The two ways to compute a profile.
 
-ghost use Rattle.std.specs.Prelude.{◌≡◌, ◌≤◌, length};
+ghost use Rattle.std.specs.Prelude.{◌≤◌, length};
 ghost use Rattle.mp_series.specs.declared.limits.TheConstants.{MAX_SAMPLES, MAX_WINDOW, MIN_WINDOW};
 ghost use Rattle.mp_tiles.specs.declared.cuts.TheConstants.{MAX_TILE};
 
 use crate::words::Words;
 use mp_nums::{Memory, Sample, Slot};
-use mp_partial::{Part, Profile};
-use mp_series::{excl, windows};
-use mp_tiles::{cut_own, scan_own};
 use std::alloc::Global;
 
 /// A number that tells two profiles apart, but for chance: that of the profile by tiles.
 pub fn sum_by_tiles(alloc: Global, words: &Words, samples: &[Sample]) -> Result<u128, Memory>
     requires { length samples.now ≤ MAX_SAMPLES }
 {
-    let (m, tile) = (words.window, words.tile);
-    let count = windows(samples.len() as u64, m);
-    let mut profile: Profile = Part::unit(alloc, count)?;
-    let cut = cut_own(count, excl(m), tile);
-    for k in 0..cut.count() {
-        scan_own(samples, m, &cut.tile(k), &mut profile);
-    }
+    let profile = mp_tiles::profile(alloc, samples, words.window, words.tile)?;
     Ok(sum_of_columns(profile.all(), profile.left(), profile.right()))
 }
 
