@@ -1,5 +1,5 @@
 -- Why columns have their places, and what a column of nearest windows is by which windows may be chosen.
-use Rattle.std.proofs.Common.{◌≡◌, ℕ, ◌<◌, get_or, refl, arith, ◌∙◌, sym, subst}
+use Rattle.std.proofs.Common.{◌≡◌, ℕ, ◌<◌, arith, ◌∙◌, sym, subst}
 use Rattle.std.specs.Prelude.{Option, None, ◌||◌, replicate}
 use Rattle.std.specs.List.{range_with_len}
 use Rattle.std.proofs.lemmas.List.{ext_get_or, get_or-replicate, length-replicate}
