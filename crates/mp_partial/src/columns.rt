@@ -4,7 +4,7 @@ ghost use Rattle.std.specs.Prelude.{◌≡◌, ◌+◌, ◌<◌, false, length, 
 ghost use Rattle.mp_nums.specs.Near.{nearer_of};
 ghost use Rattle.mp_partial.specs.Values.{empty_column, merged_column, offered};
 
-use mp_nums::{Items, Memory, Near, Slot, Slots, nearer};
+use mp_nums::{Items, Memory, Near, Slot, Slots, Sq, nearer};
 use std::alloc::Global;
 
 /// A column in which nothing was found.
@@ -74,6 +74,17 @@ fn offer(column: &mut Slots, place: u64, found: Near) -> bool
     ensures spare { column.new.spare ≡ column.old.spare }
 {
     offer_slot(&mut column.as_mut_slice()[place as usize], found)
+}
+
+/// Window `j` is found at this distance from window `i`: the slot at place `i` keeps the nearer of it and of what was
+/// found before.
+#[inline]
+pub fn offer_at(slots: &mut Slots, i: u64, j: u64, dist: Sq)
+    requires { i < length slots.old.items }
+    ensures offered { slots.new.items ≡ offered slots.old.items i (record { dist = dist; index = j }) }
+    ensures spare { slots.new.spare ≡ slots.old.spare }
+{
+    offer(slots, i, Near { dist, index: j });
 }
 
 /// Offers what was found on one side to this side and to both. Most is nearer to neither, and one look tells.

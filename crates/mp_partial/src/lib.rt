@@ -10,6 +10,7 @@ mod parts;
 mod profiles;
 mod slots;
 
+pub use columns::offer_at;
 pub use kernels::Kernel;
 pub use laws::parts_can_move;
 pub use order::run_in_order;
