@@ -1,11 +1,13 @@
-//! The matrix profile by comparing every pair of windows: the definitions as plain programs, which faster ones are
-//! tested against.
+//! The matrix profile and the AB-join by comparing every pair of windows: the definitions as plain programs, which
+//! faster ones are tested against.
 #![tactic(auto)]
 
 mod distances;
+mod joins;
 mod profiles;
 #[cfg(test)]
 mod tests;
 
 pub use distances::distance;
+pub use joins::join;
 pub use profiles::{Columns, profile};

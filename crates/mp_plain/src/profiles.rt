@@ -29,7 +29,7 @@ struct Row {
 }
 
 /// Keeps the nearer of the two.
-fn offer(best: &mut Slot, found: Near)
+pub(crate) fn offer(best: &mut Slot, found: Near)
     ensures { best.new ≡ nearer_of best.old (Some found) }
 {
     let is_nearer = match *best {
@@ -84,7 +84,7 @@ impl Row {
 }
 
 /// The empty list, with room for `count` slots.
-fn slots(alloc: Global, count: u64) -> Result<Slots, Memory>
+pub(crate) fn slots(alloc: Global, count: u64) -> Result<Slots, Memory>
     ensures items { IfOk result (λ slots. slots.items ≡ []) }
     ensures spare { IfOk result (λ slots. count ≤ slots.spare) }
 {
