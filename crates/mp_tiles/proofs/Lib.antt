@@ -1,5 +1,7 @@
 pub mod TileLemmas
+pub mod PairLemmas
 pub mod SumLemmas
-pub mod AmongLemmas
-pub mod ProfileLaws
 pub mod PlainLemmas
+pub mod BlockLemmas
+pub mod ProfileLaws
+pub mod JoinLaws

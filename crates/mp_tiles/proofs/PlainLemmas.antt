@@ -20,42 +20,44 @@ use Rattle.mp_tiles.proofs.SumLemmas.{square_of, sum_more, square_within, sum_le
 abbrev pub no_window : PlainWindow
 no_window = record { first = pos 0; last = pos 0; gaps = 0 }
 
-pub sum_at : (a : List Sample) (i j i' j' n sum : ℕ) → i ≡ i' → j ≡ j' → IsSum a i j n sum → IsSum a i' j' n sum
-sum_at a i j i' j' n sum e f h = subst (λ p. IsSum a p j' n sum) e (subst (λ q. IsSum a i q n sum) f h)
+pub sum_at : (a b : List Sample) (i j i' j' n sum : ℕ) → i ≡ i' → j ≡ j' → IsSum a b i j n sum → IsSum a b i' j' n sum
+sum_at a b i j i' j' n sum e f h = subst (λ p. IsSum a b p j' n sum) e (subst (λ q. IsSum a b i q n sum) f h)
 
 pub square_passed : (x y : ℤ) (square : ℕ) → FitsSigned w32 x → FitsSigned w32 y
     → square ≡ square_gap (to_z w32 (of_z w32 x)) (to_z w32 (of_z w32 y)) → square ≡ square_gap x y
 square_passed x y square f g e =
     e ∙ ap (λ z. square_gap z (to_z w32 (of_z w32 y))) (to_z-of_z w32 x f) ∙ ap (square_gap x) (to_z-of_z w32 y g)
 
--- ---- two windows of a series
+-- ---- two windows
 
 -- with the last samples
-pub whole_sum : (a : List Sample) (i j rest sum square : ℕ) (row column : PlainWindow) → IsSum a i j rest sum
-    → IsPlain rest i (series_of a) row → IsPlain rest j (series_of a) column
-    → square ≡ square_gap row.last column.last → square < 2 ^ 64 → IsSum a i j (rest + 1) (sum + square)
-whole_sum a i j rest sum square row column h p q e lt =
-    sum_more a i j rest sum square h (square_of a (i + rest) (j + rest) row.last column.last square e p.last q.last) lt
+pub whole_sum : (a b : List Sample) (i j rest sum square : ℕ) (row column : PlainWindow) → IsSum a b i j rest sum
+    → IsPlain rest i (series_of a) row → IsPlain rest j (series_of b) column
+    → square ≡ square_gap row.last column.last → square < 2 ^ 64 → IsSum a b i j (rest + 1) (sum + square)
+whole_sum a b i j rest sum square row column h p q e lt =
+    sum_more a b i j rest sum square h
+    (square_of a b (i + rest) (j + rest) row.last column.last square e p.last q.last) lt
 
-pub square_leaves : (a : List Sample) (i j rest whole square : ℕ) (row column : PlainWindow)
-    → IsSum a i j (rest + 1) whole → IsPlain rest i (series_of a) row → IsPlain rest j (series_of a) column
+pub square_leaves : (a b : List Sample) (i j rest whole square : ℕ) (row column : PlainWindow)
+    → IsSum a b i j (rest + 1) whole → IsPlain rest i (series_of a) row → IsPlain rest j (series_of b) column
     → square ≡ square_gap row.first column.first → square ≤ whole
-square_leaves a i j rest whole square row column h p q e =
-    square_within a i j rest whole square h (square_of a i j row.first column.first square e p.first q.first)
+square_leaves a b i j rest whole square row column h p q e =
+    square_within a b i j rest whole square h (square_of a b i j row.first column.first square e p.first q.first)
 
 -- without the first samples
-pub next_sum : (a : List Sample) (i j rest whole square : ℕ) (row column : PlainWindow) → IsSum a i j (rest + 1) whole
-    → IsPlain rest i (series_of a) row → IsPlain rest j (series_of a) column
-    → square ≡ square_gap row.first column.first → IsSum a (i + 1) (j + 1) rest (whole - square)
-next_sum a i j rest whole square row column h p q e =
-    sum_less a i j rest whole square h (square_of a i j row.first column.first square e p.first q.first)
+pub next_sum : (a b : List Sample) (i j rest whole square : ℕ) (row column : PlainWindow)
+    → IsSum a b i j (rest + 1) whole
+    → IsPlain rest i (series_of a) row → IsPlain rest j (series_of b) column
+    → square ≡ square_gap row.first column.first → IsSum a b (i + 1) (j + 1) rest (whole - square)
+next_sum a b i j rest whole square row column h p q e =
+    sum_less a b i j rest whole square h (square_of a b i j row.first column.first square e p.first q.first)
 
-pub whole_is_distance : (a : List Sample) (i j rest whole : ℕ) (row column : PlainWindow) (found : Option ℕ)
-    → IsSum a i j (rest + 1) whole → IsPlain rest i (series_of a) row → IsPlain rest j (series_of a) column
+pub whole_is_distance : (a b : List Sample) (i j rest whole : ℕ) (row column : PlainWindow) (found : Option ℕ)
+    → IsSum a b i j (rest + 1) whole → IsPlain rest i (series_of a) row → IsPlain rest j (series_of b) column
     → found ≡ (if row.gaps + column.gaps == 0 then Some whole else None)
-    → found ≡ distance (rest + 1) (series_of a) i (series_of a) j
-whole_is_distance a i j rest whole row column found h p q e =
-    e ∙ distance_there a i j (rest + 1) whole (row.gaps + column.gaps) h (omega (arith, p.gaps, q.gaps))
+    → found ≡ distance (rest + 1) (series_of a) i (series_of b) j
+whole_is_distance a b i j rest whole row column found h p q e =
+    e ∙ distance_there a b i j (rest + 1) whole (row.gaps + column.gaps) h (omega (arith, p.gaps, q.gaps))
 
 -- ---- windows that are taken one after another
 
@@ -127,9 +129,9 @@ part_is_plain rest start a windows from count i e plain le k other lt =
     (sym (get_or-take count (drop from windows) k other below ∙ get_or-drop from windows k other))
     (plain (from + k) other (omega (arith, below, le))))
 
-pub gaps_at : (a : Series) (rest row row' column column' : ℕ) (gaps : Gaps) → row ≡ row' → column ≡ column'
-    → AreGaps a rest row column gaps → AreGaps a rest row' column' gaps
-gaps_at a rest row row' column column' gaps e f h = record {
+pub gaps_at : (a b : Series) (rest row row' column column' : ℕ) (gaps : Gaps) → row ≡ row' → column ≡ column'
+    → AreGaps a b rest row column gaps → AreGaps a b rest row' column' gaps
+gaps_at a b rest row row' column column' gaps e f h = record {
   row_is = h.row_is ∙ ap (gaps_from a rest) e;
-  column_is = h.column_is ∙ ap (gaps_from a rest) f;
+  column_is = h.column_is ∙ ap (gaps_from b rest) f;
 }

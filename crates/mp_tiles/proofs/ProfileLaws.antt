@@ -1,12 +1,10 @@
 -- Tiles make the profile.
-use Rattle.std.proofs.Common.{◌≡◌, ℕ, ◌+◌, ◌<◌, List, [], ◌∷◌, length, get_or, Bool, true, false, refl, sym, ap, ◌∙◌}
+use Rattle.std.proofs.Common.{◌≡◌, ℕ, ◌+◌, ◌<◌, List, [], ◌∷◌, length, get_or, Bool, false, refl, sym, ap, ◌∙◌}
 use Rattle.std.proofs.Common.{arith, subst}
 use Rattle.std.specs.Prelude.{Option, ◌&&◌, ◌||◌, nat_lt, if◌then◌else◌, map, count_by}
 use Rattle.std.specs.List.{range_with_len}
 use Rattle.std.specs.Int.{abs_diff}
 use Rattle.std.proofs.lemmas.Bool.Decides.{nat_tests}
-use Rattle.std.proofs.lemmas.List.Sums.{sum_by-append}
-use Rattle.std.proofs.lemmas.List.FromFn.{fill_by_all}
 use Rattle.mp_nums.specs.declared.nearest.Near.{Near}
 use Rattle.mp_defs.specs.Series.{Series}
 use Rattle.mp_defs.specs.Window.{excl, is_allowed}
@@ -19,8 +17,9 @@ use Rattle.mp_tiles.specs.Pairs.{has_pair}
 use Rattle.mp_tiles.specs.Cutting.{own_tiles}
 use Rattle.mp_tiles.specs.Among.{either_way, profile_among, columns_value}
 use Rattle.mp_tiles.specs.Laws.{HoldEachOnce, no_tile, tiles_value, TilesMakeTheProfile}
-use Rattle.mp_tiles.proofs.TileLemmas.{pairs_once}
-use Rattle.mp_tiles.proofs.AmongLemmas.{or_pairs, and_either}
+use Rattle.mp_tiles.proofs.TileLemmas.{own_pairs_once}
+use Rattle.mp_tiles.proofs.PairLemmas.{some_has, some_more, once_or_not, tiles_by_number}
+use Rattle.mp_tiles.specs.OfferingLaws.{or_pairs, and_either}
 
 -- ---- profiles by tests
 
@@ -61,49 +60,28 @@ value_none p m a none = same_value _ _ _ _ _ _
 
 -- ---- the pairs of some tiles
 
--- some tile has the pair
-abbrev some_has : List Tile → ℕ → ℕ → Bool
-some_has tiles i j = nat_lt 0 (count_by (λ t. has_pair t i j) tiles)
-
-one_more : (t : Bool) (n : ℕ) → nat_lt 0 ((if t then 1 else 0) + n) ≡ (t || nat_lt 0 n)
-one_more true n = grind (arith, nat_tests)
-one_more false n = grind (arith, nat_tests)
-
-count_cons : (p : Tile → Bool) (x : Tile) (xs : List Tile)
-    → count_by p (x ∷ xs) ≡ (if p x then 1 else 0) + count_by p xs
-count_cons p x xs = omega (arith, sum_by-append (λ y. if p y then 1 else 0) (x ∷ []) xs)
-
-some_more : (t : Tile) (ts : List Tile) (i j : ℕ) → (has_pair t i j || some_has ts i j) ≡ some_has (t ∷ ts) i j
-some_more t ts i j =
-    sym (ap (nat_lt 0) (count_cons (λ u. has_pair u i j) t ts)
-    ∙ one_more (has_pair t i j) (count_by (λ u. has_pair u i j) ts))
-
 either_more : (t : Tile) (ts : List Tile) (i j : ℕ)
-    → (either_way (has_pair t) i j || either_way (some_has ts) i j) ≡ either_way (some_has (t ∷ ts)) i j
+    → (either_way (has_pair 0 t) i j || either_way (some_has 0 ts) i j) ≡ either_way (some_has 0 (t ∷ ts)) i j
 either_more t ts i j =
-    or_pairs (has_pair t i j) (some_has ts i j) (has_pair t j i) (some_has ts j i)
-    ∙ ap (λ p. p || (has_pair t j i || some_has ts j i)) (some_more t ts i j)
-    ∙ ap (λ p. some_has (t ∷ ts) i j || p) (some_more t ts j i)
+    or_pairs (has_pair 0 t i j) (some_has 0 ts i j) (has_pair 0 t j i) (some_has 0 ts j i)
+    ∙ ap (λ p. p || (has_pair 0 t j i || some_has 0 ts j i)) (some_more 0 t ts i j)
+    ∙ ap (λ p. some_has 0 (t ∷ ts) i j || p) (some_more 0 t ts j i)
 
 -- the values of some tiles together are the profile of their pairs
 tiles_together : (tile : ℕ → Tile) (m : ℕ) (a : Series) (ks : List ℕ)
     → merged_over merged_columns (empty_columns 3 (windows_of m a))
-    (λ k. columns_value (profile_among (has_pair (tile k)) m a)) ks
-    ≡ columns_value (profile_among (some_has (map tile ks)) m a)
-tiles_together tile m a [] = sym (value_none (either_way (some_has [])) m a (λ i j. refl))
+    (λ k. columns_value (profile_among (has_pair 0 (tile k)) m a)) ks
+    ≡ columns_value (profile_among (some_has 0 (map tile ks)) m a)
+tiles_together tile m a [] = sym (value_none (either_way (some_has 0 [])) m a (λ i j. refl))
 tiles_together tile m a (k ∷ ks) =
-    let here = has_pair (tile k) in
-    let there = some_has (map tile ks) in
+    let here = has_pair 0 (tile k) in
+    let there = some_has 0 (map tile ks) in
     ap (merged_columns (columns_value (profile_among here m a))) (tiles_together tile m a ks)
     ∙ sym (value_either (either_way here) (either_way there) m a)
-    ∙ value_same (λ i j. either_way here i j || either_way there i j) (either_way (some_has (map tile (k ∷ ks)))) m a
+    ∙ value_same (λ i j. either_way here i j || either_way there i j) (either_way (some_has 0 (map tile (k ∷ ks)))) m a
     (λ i j _ _. either_more (tile k) (map tile ks) i j)
 
 -- ---- the pairs that may be compared
-
-once_or_not : (t : Bool) (n : ℕ) → n ≡ (if t then 1 else 0) → nat_lt 0 n ≡ t
-once_or_not true n e = rw e refl
-once_or_not false n e = rw e refl
 
 -- windows that may be compared are a pair from one side or the other
 one_side : (t u : Bool) (i j : ℕ) → t ≡ u → (i ≡ j → t ≡ false) → ((nat_lt i j && t) || (nat_lt j i && u)) ≡ t
@@ -113,13 +91,13 @@ pub make_the_profile : TilesMakeTheProfile
 make_the_profile may irreflexive symmetric m a tiles once =
     let tile : ℕ → Tile = λ k. get_or tiles k no_tile in
     let has = λ (i j : ℕ) (lt : j < windows_of m a). once_or_not (nat_lt i j && may i j)
-    (count_by (λ t. has_pair t i j) tiles) (once i j lt) in
+    (count_by (λ t. has_pair 0 t i j) tiles) (once i j lt) in
     tiles_together tile m a (range_with_len 0 (length tiles))
-    ∙ ap (λ ts. columns_value (profile_among (some_has ts) m a))
-    (sym (fill_by_all tile tiles (length tiles) no_tile refl (λ k lt. refl)))
-    ∙ value_same (either_way (some_has tiles)) may m a
+    ∙ ap (λ ts. columns_value (profile_among (some_has 0 ts) m a))
+    (tiles_by_number tiles)
+    ∙ value_same (either_way (some_has 0 tiles)) may m a
     (λ i j lt lt'.
-    ap (λ p. p || some_has tiles j i) (has i j lt') ∙ ap (λ p. (nat_lt i j && may i j) || p) (has j i lt)
+    ap (λ p. p || some_has 0 tiles j i) (has i j lt') ∙ ap (λ p. (nat_lt i j && may i j) || p) (has j i lt)
     ∙ one_side (may i j) (may j i) i j (symmetric i j) (λ e. subst (λ (k : ℕ). may i k ≡ false) e (irreflexive i)))
 
 -- ---- today's cut
@@ -129,7 +107,7 @@ outside_zone e i j = grind (arith, nat_tests)
 
 own_tiles_hold_each_once : (m w width : ℕ) → 0 < width → HoldEachOnce (is_allowed m) w (own_tiles w (excl m) width)
 own_tiles_hold_each_once m w width pos i j lt =
-    pairs_once w (excl m) width pos i j lt ∙ ap (λ t. if t then 1 else 0) (outside_zone (excl m) i j)
+    own_pairs_once w (excl m) width pos i j lt ∙ ap (λ t. if t then 1 else 0) (outside_zone (excl m) i j)
 
 pub own_tiles_make_the_profile : (m width : ℕ) (a : Series) (tiles : List Tile) → 0 < width
     → tiles ≡ own_tiles (windows_of m a) (excl m) width → tiles_value m a tiles ≡ columns_value (matrix_profile m a)

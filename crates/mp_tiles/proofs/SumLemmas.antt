@@ -87,8 +87,7 @@ distance_by_sums (suc n) a i b j =
     (rw (
       grows_by_one_sample.one_more n a i b j,
       distance_by_sums n a i b j,
-      total_more
-          (gaps_at a b) n i j,
+      total_more (gaps_at a b) n i j,
       total_more (square_at a b) n i j,
     )
     (one_more (total (gaps_at a b) n i j) (total (square_at a b) n i j) (number_at a (i + n)) (number_at b (j + n))))
@@ -99,8 +98,7 @@ gaps_of_both a b zero i j =
     rw (
       total_zero (gaps_at a b) i j,
       total_zero (λ k _. gap (number_at a k)) i i,
-      total_zero
-          (λ k _. gap (number_at b k)) j j,
+      total_zero (λ k _. gap (number_at b k)) j j,
     ) refl
 gaps_of_both a b (suc n) i j =
     let one : n + 1 ≡ suc n = omega arith in
@@ -109,8 +107,7 @@ gaps_of_both a b (suc n) i j =
       arith,
       gaps_of_both a b n i j,
       total_more (gaps_at a b) n i j,
-      total_more
-          (λ k _. gap (number_at a k)) n i i,
+      total_more (λ k _. gap (number_at a k)) n i i,
       total_more (λ k _. gap (number_at b k)) n j j,
     ))
 
@@ -151,60 +148,61 @@ gaps_less samples n i g e =
 
 -- ---- the sum of two windows that move on
 
-pub square_there : (a : List Sample) (i j square : ℕ)
-    → square ≡ square_gap (filled (reading_of (get_or a i Missing))) (filled (reading_of (get_or a j Missing)))
-    → square ≡ square_at (series_of a) (series_of a) i j
-square_there a i j square e = rw (e, series_are_of_samples.numbers a i, series_are_of_samples.numbers a j) refl
+pub square_there : (a b : List Sample) (i j square : ℕ)
+    → square ≡ square_gap (filled (reading_of (get_or a i Missing))) (filled (reading_of (get_or b j Missing)))
+    → square ≡ square_at (series_of a) (series_of b) i j
+square_there a b i j square e = rw (e, series_are_of_samples.numbers a i, series_are_of_samples.numbers b j) refl
 
-pub square_of : (a : List Sample) (i j : ℕ) (x y : ℤ) (square : ℕ) → square ≡ square_gap x y
-    → x ≡ filled (number_at (series_of a) i) → y ≡ filled (number_at (series_of a) j)
-    → square ≡ square_at (series_of a) (series_of a) i j
-square_of a i j x y square e f g = rw (e, f, g) refl
+pub square_of : (a b : List Sample) (i j : ℕ) (x y : ℤ) (square : ℕ) → square ≡ square_gap x y
+    → x ≡ filled (number_at (series_of a) i) → y ≡ filled (number_at (series_of b) j)
+    → square ≡ square_at (series_of a) (series_of b) i j
+square_of a b i j x y square e f g = rw (e, f, g) refl
 
-pub sum_of_none : (a : List Sample) (i j : ℕ) → IsSum a i j 0 0
-sum_of_none a i j = record {
-  sum_is = sym (total_zero (square_at (series_of a) (series_of a)) i j);
+pub sum_of_none : (a b : List Sample) (i j : ℕ) → IsSum a b i j 0 0
+sum_of_none a b i j = record {
+  sum_is = sym (total_zero (square_at (series_of a) (series_of b)) i j);
   small = λ k lt. absurd (omega (arith, lt));
 }
 
 -- with one more sample of each
-pub sum_more : (a : List Sample) (i j n sum square : ℕ) → IsSum a i j n sum
-    → square ≡ square_at (series_of a) (series_of a) (i + n) (j + n) → square < 2 ^ 64
-    → IsSum a i j (n + 1) (sum + square)
-sum_more a i j n sum square h e lt = record {
-  sum_is = rw (total_more (square_at (series_of a) (series_of a)) n i j, ← h.sum_is, ← e) refl;
-  small = below_more (λ k. square_at (series_of a) (series_of a) (i + k) (j + k) ≤ 2 ^ 64) n h.small
+pub sum_more : (a b : List Sample) (i j n sum square : ℕ) → IsSum a b i j n sum
+    → square ≡ square_at (series_of a) (series_of b) (i + n) (j + n) → square < 2 ^ 64
+    → IsSum a b i j (n + 1) (sum + square)
+sum_more a b i j n sum square h e lt = record {
+  sum_is = rw (total_more (square_at (series_of a) (series_of b)) n i j, ← h.sum_is, ← e) refl;
+  small = below_more (λ k. square_at (series_of a) (series_of b) (i + k) (j + k) ≤ 2 ^ 64) n h.small
       (subst (λ s. s ≤ 2 ^ 64) e (omega (arith, lt)));
 }
 
 -- what stands at the first places of both is in the sum
-pub square_within : (a : List Sample) (i j n sum square : ℕ) → IsSum a i j (n + 1) sum
-    → square ≡ square_at (series_of a) (series_of a) i j → square ≤ sum
-square_within a i j n sum square h e =
-    omega (arith, total_on (square_at (series_of a) (series_of a)) n i j, h.sum_is, e)
+pub square_within : (a b : List Sample) (i j n sum square : ℕ) → IsSum a b i j (n + 1) sum
+    → square ≡ square_at (series_of a) (series_of b) i j → square ≤ sum
+square_within a b i j n sum square h e =
+    omega (arith, total_on (square_at (series_of a) (series_of b)) n i j, h.sum_is, e)
 
 -- without the first sample of each
-pub sum_less : (a : List Sample) (i j n sum square : ℕ) → IsSum a i j (n + 1) sum
-    → square ≡ square_at (series_of a) (series_of a) i j → IsSum a (i + 1) (j + 1) n (sum - square)
-sum_less a i j n sum square h e = record {
-  sum_is = omega (arith, total_on (square_at (series_of a) (series_of a)) n i j, h.sum_is, e);
-  small = λ k lt. let here : i + (k + 1) ≡ i + 1 + k = omega arith in let there : j + (k + 1) ≡ j + 1 + k =
-      omega arith in
-      subst (λ p. square_at (series_of a) (series_of a) p (j + 1 + k) ≤ 2 ^ 64) here
-      (subst (λ q. square_at (series_of a) (series_of a) (i + (k + 1)) q ≤ 2 ^ 64) there
+pub sum_less : (a b : List Sample) (i j n sum square : ℕ) → IsSum a b i j (n + 1) sum
+    → square ≡ square_at (series_of a) (series_of b) i j → IsSum a b (i + 1) (j + 1) n (sum - square)
+sum_less a b i j n sum square h e = record {
+  sum_is = omega (arith, total_on (square_at (series_of a) (series_of b)) n i j, h.sum_is, e);
+  small = λ k lt.
+      let here : i + (k + 1) ≡ i + 1 + k = omega arith in
+      let there : j + (k + 1) ≡ j + 1 + k = omega arith in
+      subst (λ p. square_at (series_of a) (series_of b) p (j + 1 + k) ≤ 2 ^ 64) here
+      (subst (λ q. square_at (series_of a) (series_of b) (i + (k + 1)) q ≤ 2 ^ 64) there
       (h.small (k + 1) (omega (arith, lt))));
 }
 
-pub sum_is_small : (a : List Sample) (i j n sum : ℕ) → IsSum a i j n sum → sum ≤ n * 2 ^ 64
-sum_is_small a i j n sum h =
-    subst (λ s. s ≤ n * 2 ^ 64) (sym h.sum_is) (total_small (square_at (series_of a) (series_of a)) n i j h.small)
+pub sum_is_small : (a b : List Sample) (i j n sum : ℕ) → IsSum a b i j n sum → sum ≤ n * 2 ^ 64
+sum_is_small a b i j n sum h =
+    subst (λ s. s ≤ n * 2 ^ 64) (sym h.sum_is) (total_small (square_at (series_of a) (series_of b)) n i j h.small)
 
 -- the sum is the distance where neither window has a gap, and else there is none
-pub distance_there : (a : List Sample) (i j n sum gaps : ℕ) → IsSum a i j n sum
-    → gaps ≡ gaps_from (series_of a) n i + gaps_from (series_of a) n j
-    → (if gaps == 0 then Some sum else None) ≡ distance n (series_of a) i (series_of a) j
-distance_there a i j n sum gaps h e = sym (
-    distance_by_sums n (series_of a) i (series_of a) j
-    ∙ ap (λ g. if g == 0 then Some (total (square_at (series_of a) (series_of a)) n i j) else None)
-    (gaps_of_both (series_of a) (series_of a) n i j ∙ sym e)
+pub distance_there : (a b : List Sample) (i j n sum gaps : ℕ) → IsSum a b i j n sum
+    → gaps ≡ gaps_from (series_of a) n i + gaps_from (series_of b) n j
+    → (if gaps == 0 then Some sum else None) ≡ distance n (series_of a) i (series_of b) j
+distance_there a b i j n sum gaps h e = sym (
+    distance_by_sums n (series_of a) i (series_of b) j
+    ∙ ap (λ g. if g == 0 then Some (total (square_at (series_of a) (series_of b)) n i j) else None)
+    (gaps_of_both (series_of a) (series_of b) n i j ∙ sym e)
     ∙ ap (λ s. if gaps == 0 then Some s else None) (sym h.sum_is))

@@ -1,4 +1,4 @@
--- The profile of some pairs of windows alone.
+-- What some pairs of windows alone give.
 use Rattle.std.specs.Prelude.{ℕ, Bool, ◌||◌, [], ◌∷◌}
 use Rattle.mp_defs.specs.Series.{Series}
 use Rattle.mp_defs.specs.Profile.{Columns, profile}

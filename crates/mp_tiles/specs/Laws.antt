@@ -1,7 +1,8 @@
 -- What tiles give together.
-use Rattle.std.specs.Prelude.{◌≡◌, ℕ, ◌<◌, List, length, slice_index_or, Bool, ◌&&◌, nat_lt, count_by, if◌then◌else◌}
+use Rattle.std.specs.Prelude.{◌≡◌, ℕ, ◌-◌, ◌<◌, List, [], ◌∷◌, length, slice_index_or, Bool, ◌&&◌, nat_lt}
+use Rattle.std.specs.Prelude.{count_by, if◌then◌else◌}
 use Rattle.mp_defs.specs.Series.{Series}
-use Rattle.mp_defs.specs.Profile.{profile, windows_of}
+use Rattle.mp_defs.specs.Profile.{windows_of, nearest_column, profile, ab_join}
 use Rattle.mp_defs.specs.Laws.{IsIrreflexive, IsSymmetric}
 use Rattle.mp_partial.specs.Values.{Value, merged_columns, empty_columns, merged_below}
 use Rattle.mp_tiles.specs.declared.cuts.Tile.{Tile}
@@ -11,7 +12,7 @@ use Rattle.mp_tiles.specs.Among.{profile_among, columns_value}
 -- of w windows each two that may be compared are a pair of exactly one of the tiles, and no others are a pair of any
 abbrev pub HoldEachOnce : (ℕ → ℕ → Bool) → ℕ → List Tile → Type 0
 HoldEachOnce may w tiles = (i j : ℕ) → j < w
-    → count_by (λ t. has_pair t i j) tiles ≡ (if nat_lt i j && may i j then 1 else 0)
+    → count_by (λ t. has_pair 0 t i j) tiles ≡ (if nat_lt i j && may i j then 1 else 0)
 
 -- what stands for a tile past the last one
 abbrev pub no_tile : Tile
@@ -19,7 +20,7 @@ no_tile = record { first = 0; last = 0 }
 
 -- the value of a tile: the profile of its pairs
 abbrev pub tile_value : ℕ → Series → List Tile → ℕ → Value
-tile_value m a tiles k = columns_value (profile_among (has_pair (slice_index_or tiles k no_tile)) m a)
+tile_value m a tiles k = columns_value (profile_among (has_pair 0 (slice_index_or tiles k no_tile)) m a)
 
 -- the values of all tiles together
 abbrev pub tiles_value : ℕ → Series → List Tile → Value
@@ -31,3 +32,25 @@ abbrev pub TilesMakeTheProfile : Type 0
 TilesMakeTheProfile = (may : ℕ → ℕ → Bool) → IsIrreflexive may → IsSymmetric may → (m : ℕ) (a : Series)
     (tiles : List Tile) → HoldEachOnce may (windows_of m a) tiles
     → tiles_value m a tiles ≡ columns_value (profile may m a)
+
+-- ---- from one series to another
+
+-- of wa windows of one series and wb of another each two are a pair of exactly one of the tiles
+abbrev pub HoldEveryPairOnce : ℕ → ℕ → List Tile → Type 0
+HoldEveryPairOnce wa wb tiles = (i j : ℕ) → i < wa → j < wb
+    → count_by (λ t. has_pair (wa - 1) t i j) tiles ≡ 1
+
+-- the value of a tile: for each window of a the nearest of those of b that make a pair with it
+abbrev pub join_tile_value : ℕ → Series → Series → List Tile → ℕ → Value
+join_tile_value m a b tiles k =
+    nearest_column (has_pair (windows_of m a - 1) (slice_index_or tiles k no_tile)) m a b ∷ []
+
+-- the values of all tiles together
+abbrev pub join_tiles_value : ℕ → Series → Series → List Tile → Value
+join_tiles_value m a b tiles =
+    merged_below merged_columns (empty_columns 1 (windows_of m a)) (join_tile_value m a b tiles) (length tiles)
+
+-- they are the AB-join, whatever tiles hold each pair once
+abbrev pub TilesMakeTheJoin : Type 0
+TilesMakeTheJoin = (m : ℕ) (a b : Series) (tiles : List Tile)
+    → HoldEveryPairOnce (windows_of m a) (windows_of m b) tiles → join_tiles_value m a b tiles ≡ ab_join m a b ∷ []

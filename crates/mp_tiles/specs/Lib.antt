@@ -2,7 +2,11 @@ pub mod Pairs
 pub mod Cutting
 pub mod Sums
 pub mod Plain
+pub mod Grids
 pub mod Among
 pub mod Scanning
+pub mod Offering
+pub mod TakenLaws
+pub mod OfferingLaws
 pub mod Laws
 pub mod Pieces

@@ -16,7 +16,7 @@ abbrev pub ArePlain : ℕ → ℕ → Series → List PlainWindow → Type 0
 ArePlain rest start a windows =
     (k : ℕ) (other : PlainWindow) → k < length windows → IsPlain rest (start + k) a (slice_index_or windows k other)
 
--- how many of the samples from row and from column on are missing
-pub record AreGaps (a : Series) (rest row column : ℕ) (gaps : Gaps) : Type 0 where
+-- how many of the samples from row on in a and from column on in b are missing
+pub record AreGaps (a b : Series) (rest row column : ℕ) (gaps : Gaps) : Type 0 where
   pub row_is : gaps.row ≡ gaps_from a rest row
-  pub column_is : gaps.column ≡ gaps_from a rest column
+  pub column_is : gaps.column ≡ gaps_from b rest column

@@ -1,20 +1,23 @@
--- What a scan makes of a profile, pair by pair.
+-- What a scan makes of what keeps the nearest windows.
 use Rattle.std.specs.Prelude.{◌≡◌, ℕ, ◌+◌, Bool, ◌&&◌, nat_le, nat_lt, length, slice_index_or, slice_set}
 use Rattle.std.specs.Prelude.{Option, None}
 use Rattle.mp_nums.specs.declared.nearest.Near.{Near}
 use Rattle.mp_nums.specs.Near.{nearer_of}
+use Rattle.mp_nums.specs.Listed.{Listed}
 use Rattle.mp_defs.specs.Series.{Series}
+use Rattle.mp_defs.specs.Profile.{nearest_column}
 use Rattle.mp_partial.specs.Values.{Column, merged_column}
 use Rattle.mp_partial.specs.Profiled.{Profiled}
 use Rattle.mp_tiles.specs.Among.{profile_among}
 
--- the pairs on the diagonals from first on and before end
+-- the column starts at least first and less than end behind its row
 abbrev pub on_diagonals : ℕ → ℕ → ℕ → ℕ → Bool
-on_diagonals first end i j = nat_le (i + first) j && nat_lt j (i + end)
+on_diagonals first end row column = nat_le (row + first) column && nat_lt column (row + end)
 
--- of these the pairs in the rows from top on and before bottom
+-- and the row is from top on and before bottom
 abbrev pub in_block : ℕ → ℕ → ℕ → ℕ → ℕ → ℕ → Bool
-in_block first end top bottom i j = on_diagonals first end i j && (nat_le top i && nat_lt i bottom)
+in_block first end top bottom row column =
+    on_diagonals first end row column && (nat_le top row && nat_lt row bottom)
 
 -- the profile has so many windows
 pub record HasPlaces (w : ℕ) (p : Profiled) : Type 0 where
@@ -27,6 +30,11 @@ pub record IsScanned (pairs : ℕ → ℕ → Bool) (m : ℕ) (a : Series) (old 
   pub all : new.all ≡ merged_column old.all (profile_among pairs m a).all
   pub left : new.left ≡ merged_column old.left (profile_among pairs m a).left
   pub right : new.right ≡ merged_column old.right (profile_among pairs m a).right
+  pub spare : new.spare ≡ old.spare
+
+-- the new slots of the windows of a are the old ones with what these pairs with windows of b give
+pub record IsJoined (pairs : ℕ → ℕ → Bool) (m : ℕ) (a b : Series) (old new : Listed (Option Near)) : Type 0 where
+  pub items : new.items ≡ merged_column old.items (nearest_column pairs m a b)
   pub spare : new.spare ≡ old.spare
 
 -- place i takes a window that may be there

@@ -26,13 +26,13 @@ total f (suc n) i j = total f n i j + f (i + n) (j + n)
 abbrev pub gaps_from : Series → ℕ → ℕ → ℕ
 gaps_from a n i = total (λ k _. gap (number_at a k)) n i i
 
--- the sum over the n samples from i on and those from j on
-pub record IsSum (samples : List Sample) (i j n sum : ℕ) : Type 0 where
-  pub sum_is : sum ≡ total (square_at (series_of samples) (series_of samples)) n i j
-  pub small : (k : ℕ) → k < n → square_at (series_of samples) (series_of samples) (i + k) (j + k) ≤ 2 ^ 64
+-- the sum over the n samples from i on in a and those from j on in b
+pub record IsSum (a b : List Sample) (i j n sum : ℕ) : Type 0 where
+  pub sum_is : sum ≡ total (square_at (series_of a) (series_of b)) n i j
+  pub small : (k : ℕ) → k < n → square_at (series_of a) (series_of b) (i + k) (j + k) ≤ 2 ^ 64
 
--- the sums of the diagonals from first on at a row, of those that have such a row among so many windows
-abbrev pub AreSums : List Sample → ℕ → ℕ → ℕ → ℕ → List ℕ → Type 0
-AreSums samples count rest first row sums =
-    (t x : ℕ) → t < length sums → row + first + t < count
-    → IsSum samples row (row + first + t) rest (slice_index_or sums t x)
+-- the sums at a row, without last samples, of the diagonals from first on, where both windows are there
+abbrev pub AreSums : List Sample → List Sample → ℕ → ℕ → ℕ → List ℕ → Type 0
+AreSums a b rest first row sums =
+    (t x : ℕ) → t < length sums → row + rest < length a → row + first + t + rest < length b
+    → IsSum a b row (row + first + t) rest (slice_index_or sums t x)

@@ -1,16 +1,18 @@
 //! The pairs of windows along a diagonal, by running sums.
 
-ghost use Rattle.std.specs.Prelude.{◌≡◌, ◌+◌, ◌-◌, ◌^◌, ◌<◌, ◌≤◌, ◌==◌, if◌then◌else◌, length, Some, None};
-ghost use Rattle.mp_defs.specs.Series.{reading_of, series_of};
-ghost use Rattle.mp_defs.specs.Distance.{square_gap};
-ghost use Rattle.mp_defs.specs.Least.{at_distance};
-ghost use Rattle.mp_tiles.specs.Sums.{filled, IsSum};
+ghost use Rattle.std.specs.Prelude.{◌≡◌, ℕ, ◌+◌, ◌-◌, ◌^◌, ◌<◌, ◌≤◌, ◌==◌, if◌then◌else◌, length, Some, None};
+ghost use Rattle.mp_defs.specs.Series.{Series, reading_of, series_of};
+ghost use Rattle.mp_defs.specs.Distance.{square_gap, distance as distance_of};
+ghost use Rattle.mp_defs.specs.Profile.{windows_of};
+ghost use Rattle.mp_tiles.specs.Pairs.{only};
+ghost use Rattle.mp_tiles.specs.Sums.{filled};
+ghost use Rattle.mp_tiles.specs.Grids.{row_series, column_series, window_length, IsSumIn};
 ghost use Rattle.mp_tiles.specs.Plain.{ArePlain};
-ghost use Rattle.mp_tiles.specs.Scanning.{in_block, HasPlaces, IsScanned, taken};
+ghost use Rattle.mp_tiles.specs.Scanning.{in_block};
 
-use crate::windows::{PlainWindow, Windows, number};
+use crate::offers::Offers;
+use crate::windows::{Grid, PlainWindow, number};
 use mp_nums::{Sample, Sq};
-use mp_partial::Profile;
 
 /// The squared difference of two numbers.
 #[inline]
@@ -28,15 +30,16 @@ fn sample_square(x: Sample, y: Sample) -> u64
     square(number(x), number(y))
 }
 
-/// The sum of the squared differences of the first two windows on a diagonal without their last samples, where a missing
-/// sample counts as 0.
-pub(crate) fn first_sum(of: &Windows, diagonal: usize) -> u128
-    requires { diagonal < of.now.count }
-    ensures { IsSum of.now.samples.now 0 diagonal of.now.rest result }
+/// The sum of the squared differences of the first row and of a column, both without their last samples, where a
+/// missing sample counts as 0.
+pub(crate) fn first_sum(grid: &Grid, column: usize) -> u128
+    requires { column < grid.now.columns.count }
+    ensures { IsSumIn grid.now 0 column result }
 {
     let mut sum: u128 = 0;
-    for k in 0..of.rest {
-        sum += u128::from(sample_square(of.samples[k], of.samples[diagonal + k]));
+    for k in 0..grid.rows.rest {
+        let square = sample_square(grid.rows.samples[k], grid.columns.samples[column + k]);
+        sum += u128::from(square);
     }
     sum
 }
@@ -49,55 +52,52 @@ fn distance(sum: u128, gaps: u32) -> Option<u128>
     if gaps == 0 { Some(sum) } else { None }
 }
 
-/// Offers the windows that start at `i` and `j` to each other, where they have a distance.
+/// Offers the windows of a pair, where they have a distance.
 #[inline]
-fn offer_pair(into: &mut Profile, i: u64, j: u64, dist: Option<u128>)
-    requires order { i < j }
-    requires within { j < length into.old.all }
-    ensures all { into.new.all ≡ taken (taken into.old.all i (at_distance j dist)) j (at_distance i dist) }
-    ensures left { into.new.left ≡ taken into.old.left j (at_distance i dist) }
-    ensures right { into.new.right ≡ taken into.old.right i (at_distance j dist) }
-    ensures spare { into.new.spare ≡ into.old.spare }
+fn offer_pair<O: Offers>(into: &mut O::Into, row: u64, column: u64, dist: Option<u128>)
+    requires { O.may_offer into.old row column }
+    ensures { (m : ℕ) (a b : Series) → O.fits m a b into.old → row < windows_of m a → column < windows_of m b
+        → row + O.least ≤ column → distance_of m a row b column ≡ dist
+        → O.is_scanned m a b (only row column) into.old into.new }
 {
     if let Some(dist) = dist {
-        into.offer(i, j, Sq(dist));
-        into.offer(j, i, Sq(dist));
+        O::offer(into, row, column, Sq(dist));
     }
 }
 
-/// Offers each window of `rows` and the one at the same place of `columns` to each other. The first row is the window at
-/// `i`, and the first column the one at `j`. The sum is that of these two without their last samples, and the result that
-/// of the two behind the last ones.
+/// Offers each window of `rows` and the one at the same place of `columns`. The first row is the window at `i`, and the
+/// first column the one at `j`. The sum is that of these two without their last samples, and the result that of the two
+/// behind the last ones.
 ///
 /// It stands apart from the loops around it, so that these take no registers from it.
 #[inline(never)]
-pub(crate) fn scan_rows(
-    of: &Windows,
+pub(crate) fn scan_rows<O: Offers>(
+    grid: &Grid,
     i: usize,
     j: usize,
     rows: &[PlainWindow],
     columns: &[PlainWindow],
     sum: u128,
-    into: &mut Profile,
+    into: &mut O::Into,
 ) -> u128
-    requires order { i < j }
-    requires within { j + length columns.now ≤ of.now.count }
+    requires apart { i + O.least ≤ j }
+    requires last_row { i + length rows.now ≤ grid.now.rows.count }
+    requires last_column { j + length columns.now ≤ grid.now.columns.count }
     requires places { length columns.now ≡ length rows.now }
-    requires rows { ArePlain of.now.rest i (series_of of.now.samples.now) rows.now }
-    requires columns { ArePlain of.now.rest j (series_of of.now.samples.now) columns.now }
-    requires sum { IsSum of.now.samples.now i j of.now.rest sum }
-    requires profile { HasPlaces of.now.count into.old }
-    ensures scanned { IsScanned (in_block (j - i) (j - i + 1) i (i + length rows.now)) (of.now.rest + 1)
-        (series_of of.now.samples.now) into.old into.new }
-    ensures sum { IsSum of.now.samples.now (i + length rows.now) (j + length rows.now) of.now.rest result }
-    ensures profile { HasPlaces of.now.count into.new }
+    requires rows { ArePlain grid.now.rows.rest i (row_series grid.now) rows.now }
+    requires columns { ArePlain grid.now.rows.rest j (column_series grid.now) columns.now }
+    requires sum { IsSumIn grid.now i j sum }
+    requires fits { O.fits (window_length grid.now) (row_series grid.now) (column_series grid.now) into.old }
+    ensures scanned { O.is_scanned (window_length grid.now) (row_series grid.now) (column_series grid.now)
+        (in_block (j - i) (j - i + 1) i (i + length rows.now)) into.old into.new }
+    ensures sum { IsSumIn grid.now (i + length rows.now) (j + length rows.now) result }
 {
     let mut sum = sum;
     for k in 0..rows.len() {
         let (row, column) = (&rows[k], &columns[k]);
         let whole = sum + u128::from(square(row.last, column.last));
         let dist = distance(whole, row.gaps + column.gaps);
-        offer_pair(into, (i + k) as u64, (j + k) as u64, dist);
+        offer_pair::<O>(into, (i + k) as u64, (j + k) as u64, dist);
         sum = whole - u128::from(square(row.first, column.first));
     }
     sum

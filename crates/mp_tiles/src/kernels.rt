@@ -73,7 +73,7 @@ impl<'a> Kernel for OwnTiles<'a> {
     ghost value_of = { own_value };
 
     ghost has_values = { λ own piece _.
-        value_has_columns (has_pair (slice_index_or own.tiles piece no_tile)) own.m own.samples };
+        value_has_columns (has_pair 0 (slice_index_or own.tiles piece no_tile)) own.m own.samples };
 
     fn size(&self) -> u64 {
         windows(self.samples.len() as u64, self.m)

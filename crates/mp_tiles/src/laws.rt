@@ -1,9 +1,15 @@
-//! What tiles give together, as the contract of a function that does nothing.
+//! What tiles give together, as the contracts of functions that do nothing.
 
-ghost use Rattle.mp_tiles.specs.Laws.{TilesMakeTheProfile};
+ghost use Rattle.mp_tiles.specs.Laws.{TilesMakeTheProfile, TilesMakeTheJoin};
 
 /// By any test of pairs that compares no window with itself and of two windows each with the other, the values of tiles
 /// that hold each pair exactly once, merged from a unit, are the profile.
 pub fn tiles_make_the_profile()
     ensures { TilesMakeTheProfile }
+{}
+
+/// From one series to another, the values of tiles that hold each pair of windows exactly once, merged from a unit, are
+/// the AB-join.
+pub fn tiles_make_the_join()
+    ensures { TilesMakeTheJoin }
 {}

@@ -4,14 +4,17 @@
 
 mod cuts;
 mod diagonals;
+mod joins;
 mod kernels;
 mod laws;
+mod offers;
 mod scans;
 #[cfg(test)]
 mod tests;
 mod windows;
 
-pub use cuts::{Cut, MAX_TILE, Tile, cut_own};
+pub use cuts::{Cut, MAX_TILE, Tile, cut_both, cut_own};
+pub use joins::{JoinTiles, join};
 pub use kernels::{OwnTiles, profile};
-pub use laws::tiles_make_the_profile;
-pub use scans::scan_own;
+pub use laws::{tiles_make_the_join, tiles_make_the_profile};
+pub use scans::{scan_both, scan_own};

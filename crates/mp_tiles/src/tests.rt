@@ -1,6 +1,6 @@
 ghost use Rattle.std.specs.Prelude.{◌≡◌, IfOk, vec_len};
 
-use crate::{Tile, cut_own, profile};
+use crate::{Tile, cut_both, cut_own, join, profile};
 use mp_nums::{Memory, Near, Sample, Slot, Slots, Sq};
 use mp_partial::{Part, Profile};
 use std::alloc::Global;
@@ -168,6 +168,11 @@ fn groups_of_three_diagonals(rt: HostRuntime) {
     assert_eq!(rt; cut.count(), 3);
     assert_eq!(rt; cut.tile(0), Tile { first: 2, last: 4 });
     assert_eq!(rt; cut.tile(2), Tile { first: 8, last: 9 });
+    let cut = cut_both(3, 2, 3);
+    assert_eq!(rt; cut.count(), 2);
+    assert_eq!(rt; cut.tile(0), Tile { first: 0, last: 2 });
+    assert_eq!(rt; cut.tile(1), Tile { first: 3, last: 3 });
+    assert_eq!(rt; cut_both(0, 2, 3).count(), 0);
 }
 
 #[test]
@@ -181,6 +186,39 @@ fn tiles_give_what_every_pair_gives(rt: HostRuntime) -> Result<(), Fail> {
                 assert_eq!(rt; tiled.all(), every.all.as_slice());
                 assert_eq!(rt; tiled.left(), every.left.as_slice());
                 assert_eq!(rt; tiled.right(), every.right.as_slice());
+            }
+        }
+    }
+    Ok(())
+}
+
+#[test]
+fn joins_of_short_series(rt: HostRuntime) -> Result<(), Fail> {
+    let rising = [1, 2, 3, 4].map(value);
+    let (rising, none) = (rising.as_slice(), [].as_slice());
+    let same = join(rt.alloc(), rising, rising, 3, 256)?;
+    assert_eq!(rt; same.as_slice(), [near(0, 0), near(0, 1)].as_slice());
+    let two = &rising[..2];
+    for short in [none, two] {
+        let into_short = join(rt.alloc(), rising, short, 3, 256)?;
+        assert_eq!(rt; into_short.as_slice(), [None, None].as_slice());
+        let of_short = join(rt.alloc(), short, rising, 3, 256)?;
+        assert_eq!(rt; of_short.as_slice(), [].as_slice());
+    }
+    Ok(())
+}
+
+#[test]
+fn joins_give_what_every_pair_gives(rt: HostRuntime) -> Result<(), Fail> {
+    for seed in 0..4 {
+        let a = ties(rt.alloc(), 30 + 91 * seed, seed)?;
+        let b = ties(rt.alloc(), 303 - 91 * seed, seed + 9)?;
+        let (a, b) = (a.as_slice(), b.as_slice());
+        for m in [3, 20] {
+            let every = mp_plain::join(rt.alloc(), a, b, m)?;
+            for tile in [1, 7, 65, 256] {
+                let tiled = join(rt.alloc(), a, b, m, tile)?;
+                assert_eq!(rt; tiled.as_slice(), every.as_slice());
             }
         }
     }

@@ -20,7 +20,34 @@ pub(crate) struct Windows<'a> {
     ghost few: { length samples.now ≤ MAX_SAMPLES },
 }
 
-/// A window's first and last sample as numbers, where a missing one counts as 0, and how many of its samples are missing.
+impl<'a> Windows<'a> {
+    /// The windows of the samples.
+    pub(crate) fn of(samples: &'a [Sample], rest: usize) -> Windows<'a>
+        requires some { rest < length samples.now }
+        requires short { rest < 2 ^ 16 }
+        requires few { length samples.now ≤ MAX_SAMPLES }
+        ensures samples { result.samples.now ≡ samples.now }
+        ensures rest { result.rest ≡ rest }
+    {
+        Windows {
+            samples,
+            rest,
+            count: samples.len() - rest,
+        }
+    }
+}
+
+/// Windows of one length of two series, which may be the same: those of one are the rows, those of the other the
+/// columns.
+#[derive(Clone, Copy)]
+pub(crate) struct Grid<'a> {
+    pub(crate) rows: Windows<'a>,
+    pub(crate) columns: Windows<'a>,
+    ghost same_length: { columns.rest ≡ rows.rest },
+}
+
+/// A window's first and last sample as numbers, where a missing one counts as 0, and how many of its samples are
+/// missing.
 #[derive(Clone, Copy)]
 pub(crate) struct PlainWindow {
     pub(crate) first: i32,
@@ -69,8 +96,8 @@ pub(crate) fn count_gaps(of: &Windows, start: usize) -> u32
     gaps
 }
 
-/// Takes windows into the places from `from` on and before `to`. The window at `start` stands at place 0, and the places
-/// before `from` are taken.
+/// Takes windows into the places from `from` on and before `to`. The window at `start` stands at place 0, and the
+/// places before `from` are taken.
 ///
 /// `gaps` is how many samples of the first window that is taken are missing, its last one aside, and the result is the
 /// same of the window behind the last one.

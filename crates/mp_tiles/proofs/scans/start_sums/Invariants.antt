@@ -5,5 +5,6 @@ use Rattle.mp_tiles.proofs.scans.start_sums.Given as goal
 abbrev pub invariant-loop-t : goal.invariant-loop-t
 invariant-loop-t l = record {
   places : length l.sums ≡ length l.initial.sums;
-  summed : (q x : ℕ) → q < l.t → IsSum l.of.samples.now 0 (l.first + q) l.of.rest (get_or l.sums q x);
+  summed : (q x : ℕ) → q < l.t
+      → IsSum l.grid.rows.samples.now l.grid.columns.samples.now 0 (l.first + q) l.grid.rows.rest (get_or l.sums q x);
 }

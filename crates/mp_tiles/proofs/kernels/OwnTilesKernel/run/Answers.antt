@@ -22,11 +22,11 @@ returns-clause-value c =
     let new = c.scan_own.new.into in
     let old = c.args.into.now in
     let own = c.self.inside in
-    let merged = merged_value old new (profile_among (has_pair c.tile.result) own.m (series_of own.samples.now))
+    let merged = merged_value old new (profile_among (has_pair 0 c.tile.result) own.m (series_of own.samples.now))
     c.scan_own.ensures.all c.scan_own.ensures.left c.scan_own.ensures.right in
     subst (λ (o : OwnTiling). ◌≡◌ {A = Value} (new.all ∷ new.left ∷ new.right ∷ [])
     (merged_columns (old.all ∷ old.left ∷ old.right ∷ []) (own_value o c.args.piece))) c.self.view_is
     (subst (λ (t : Tile). ◌≡◌ {A = Value} (new.all ∷ new.left ∷ new.right ∷ [])
     (merged_columns (old.all ∷ old.left ∷ old.right ∷ [])
-    (columns_value (profile_among (has_pair t) own.m (series_of own.samples.now)))))
+    (columns_value (profile_among (has_pair 0 t) own.m (series_of own.samples.now)))))
     (sym (get_or_from_slice_get own.cut c.args.piece c.tile.result no_tile c.tile.ensures)) merged)

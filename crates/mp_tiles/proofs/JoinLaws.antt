@@ -1,0 +1,47 @@
+-- Tiles make the AB-join.
+use Rattle.std.proofs.Common.{◌≡◌, ℕ, ◌-◌, ◌<◌, List, [], ◌∷◌, length, get_or, true, refl, sym, ap, ◌∙◌}
+use Rattle.std.specs.Prelude.{◌||◌, map, count_by}
+use Rattle.std.specs.List.{range_with_len}
+use Rattle.mp_defs.specs.Series.{Series}
+use Rattle.mp_defs.specs.Profile.{nearest_column, ab_join, windows_of}
+use Rattle.mp_defs.specs.ColumnLaws.{columns_by_choice}
+use Rattle.mp_partial.specs.Values.{Column, Value, merged_columns, empty_columns, merged_over}
+use Rattle.mp_tiles.specs.declared.cuts.Tile.{Tile}
+use Rattle.mp_tiles.specs.Pairs.{has_pair}
+use Rattle.mp_tiles.specs.Cutting.{both_tiles}
+use Rattle.mp_tiles.specs.Laws.{no_tile, join_tiles_value, TilesMakeTheJoin}
+use Rattle.mp_tiles.proofs.TileLemmas.{both_pairs_once}
+use Rattle.mp_tiles.proofs.PairLemmas.{some_has, some_more, once_or_not, tiles_by_number}
+
+abbrev one_column : Column → Value
+one_column column = column ∷ []
+
+-- the values of some tiles together are the column of their pairs
+tiles_together : (origin : ℕ) (tile : ℕ → Tile) (m : ℕ) (a b : Series) (ks : List ℕ)
+    → merged_over merged_columns (empty_columns 1 (windows_of m a))
+    (λ k. nearest_column (has_pair origin (tile k)) m a b ∷ []) ks
+    ≡ one_column (nearest_column (some_has origin (map tile ks)) m a b)
+tiles_together origin tile m a b [] =
+    ap one_column (sym (columns_by_choice.none m (some_has origin []) a b (λ i j _ _. refl)))
+tiles_together origin tile m a b (k ∷ ks) =
+    let here = has_pair origin (tile k) in
+    let there = some_has origin (map tile ks) in
+    ap (merged_columns (one_column (nearest_column here m a b))) (tiles_together origin tile m a b ks)
+    ∙ ap one_column (sym (columns_by_choice.either m here there a b)
+    ∙ columns_by_choice.same m (λ i j. here i j || there i j) (some_has origin (map tile (k ∷ ks))) a b
+    (λ i j _ _. some_more origin (tile k) (map tile ks) i j))
+
+pub make_the_join : TilesMakeTheJoin
+make_the_join m a b tiles once =
+    let origin = windows_of m a - 1 in
+    tiles_together origin (λ k. get_or tiles k no_tile) m a b (range_with_len 0 (length tiles))
+    ∙ ap (λ ts. one_column (nearest_column (some_has origin ts) m a b)) (tiles_by_number tiles)
+    ∙ ap one_column (columns_by_choice.same m (some_has origin tiles) (λ _ _. true) a b
+    (λ i j lt lt'. once_or_not true (count_by (λ t. has_pair origin t i j) tiles) (once i j lt lt')))
+
+pub both_tiles_make_the_join : (m width : ℕ) (a b : Series) (tiles : List Tile) → 0 < width
+    → tiles ≡ both_tiles (windows_of m a) (windows_of m b) width → join_tiles_value m a b tiles ≡ ab_join m a b ∷ []
+both_tiles_make_the_join m width a b tiles pos e =
+    ap (join_tiles_value m a b) e
+    ∙ make_the_join m a b (both_tiles (windows_of m a) (windows_of m b) width)
+    (λ i j lt lt'. both_pairs_once (windows_of m a) (windows_of m b) width pos i j lt lt')

@@ -1,0 +1,109 @@
+//! The tiles of two series as the pieces of a kernel, and the AB-join that they make.
+
+ghost use Rattle.std.specs.Prelude.{◌≡◌, ◌≤◌, length, IfOk};
+ghost use Rattle.mp_series.specs.declared.limits.TheConstants.{MAX_SAMPLES, MAX_WINDOW, MIN_WINDOW};
+ghost use Rattle.mp_defs.specs.Series.{series_of};
+ghost use Rattle.mp_defs.specs.Profile.{ab_join};
+
+use crate::cuts::{Cut, MAX_TILE, cut_both};
+use crate::scans::scan_both;
+use mp_nums::{Memory, Sample, Slots};
+use mp_partial::{Kernel, run_in_order};
+use mp_series::{MAX_SAMPLES, MAX_WINDOW, MIN_WINDOW, windows};
+use std::alloc::Global;
+use std::marker::Model;
+
+/// The tiles of two series as the pieces of a kernel, whose values together are the AB-join.
+#[derive(Debug, Drop)]
+pub struct JoinTiles<'a> {
+    a: &'a [Sample],
+    b: &'a [Sample],
+    m: u32,
+    cut: Cut,
+}
+
+impl<'a> Model for JoinTiles<'a> {
+    ghost use Rattle.mp_tiles.specs.Pieces.{JoinTiling, IsJoinTiling};
+
+    ghost Value = { JoinTiling };
+
+    ghost view = { λ join. record { a = join.a.now; b = join.b.now; m = join.m; tiles = join.cut } };
+
+    ghost invariant = { λ join. IsJoinTiling join.a.now join.b.now join.m join.cut };
+}
+
+impl<'a> JoinTiles<'a> {
+    ghost use Rattle.std.specs.Prelude.{[], ◌∷◌};
+    ghost use Rattle.mp_defs.specs.Window.{windows as windows_in};
+    ghost use Rattle.mp_tiles.specs.Cutting.{both_tiles};
+    ghost use Rattle.mp_tiles.specs.Pieces.{join_together};
+
+    /// The tiles of at most `tile` diagonals of both series' windows of length `m`. They may be the same series. It
+    /// takes no memory.
+    pub fn new(a: &'a [Sample], b: &'a [Sample], m: u32, tile: u32) -> JoinTiles<'a>
+        requires shortest { MIN_WINDOW ≤ m }
+        requires longest { m ≤ MAX_WINDOW }
+        requires first { length a.now ≤ MAX_SAMPLES }
+        requires second { length b.now ≤ MAX_SAMPLES }
+        requires least { 1 ≤ tile }
+        requires greatest { tile ≤ MAX_TILE }
+        ensures a { result.a ≡ a.now }
+        ensures b { result.b ≡ b.now }
+        ensures m { result.m ≡ m }
+        ensures tiles { result.tiles ≡ both_tiles (windows_in (length a.now) m) (windows_in (length b.now) m) tile }
+        ensures together { join_together result ≡ ab_join m (series_of a.now) (series_of b.now) ∷ [] }
+    {
+        let (first, second) = (windows(a.len() as u64, m), windows(b.len() as u64, m));
+        JoinTiles {
+            a,
+            b,
+            m,
+            cut: cut_both(first, second, tile),
+        }
+    }
+}
+
+impl<'a> Kernel for JoinTiles<'a> {
+    ghost use Rattle.std.specs.Prelude.{◌-◌, length, slice_index_or};
+    ghost use Rattle.mp_tiles.specs.Laws.{no_tile};
+    ghost use Rattle.mp_tiles.specs.Pairs.{has_pair};
+    ghost use Rattle.mp_tiles.specs.Pieces.{join_size, join_value, column_has_places};
+
+    type Out = Slots;
+
+    ghost size_of = { join_size };
+
+    ghost pieces_of = { λ join. length join.tiles };
+
+    ghost value_of = { join_value };
+
+    ghost has_values = { λ join piece _.
+        column_has_places (has_pair (join_size join - 1) (slice_index_or join.tiles piece no_tile)) join.m join.a
+        join.b };
+
+    fn size(&self) -> u64 {
+        windows(self.a.len() as u64, self.m)
+    }
+
+    fn pieces(&self) -> u64 {
+        self.cut.count()
+    }
+
+    fn run(&self, piece: u64, into: &mut Slots) {
+        scan_both(self.a, self.b, self.m, &self.cut.tile(piece), into);
+    }
+}
+
+/// The AB-join at window length `m`: for each window of `a` its nearest window in `b`, without an exclusion zone. It is
+/// computed in tiles of at most `tile` diagonals, one after another.
+pub fn join(alloc: Global, a: &[Sample], b: &[Sample], m: u32, tile: u32) -> Result<Slots, Memory>
+    requires shortest { MIN_WINDOW ≤ m }
+    requires longest { m ≤ MAX_WINDOW }
+    requires first { length a.now ≤ MAX_SAMPLES }
+    requires second { length b.now ≤ MAX_SAMPLES }
+    requires least { 1 ≤ tile }
+    requires greatest { tile ≤ MAX_TILE }
+    ensures { IfOk result (λ slots. slots.items ≡ ab_join m (series_of a.now) (series_of b.now)) }
+{
+    run_in_order(alloc, &JoinTiles::new(a, b, m, tile))
+}

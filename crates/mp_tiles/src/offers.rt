@@ -1,0 +1,108 @@
+//! How the windows of a pair are offered: each to the other, or one of them to the other.
+
+ghost use Rattle.std.specs.Prelude.{◌≡◌, ℕ, ◌<◌, Bool, Some};
+ghost use Rattle.mp_defs.specs.Series.{Series};
+ghost use Rattle.mp_defs.specs.Distance.{distance};
+ghost use Rattle.mp_defs.specs.Profile.{windows_of};
+ghost use Rattle.mp_tiles.specs.Pairs.{only};
+ghost use Rattle.mp_tiles.specs.Offering.{IsOffering};
+ghost use Rattle.mp_tiles.specs.OfferingLaws.{fits_each, may_each, is_scanned_each, each_to_other};
+ghost use Rattle.mp_tiles.specs.OfferingLaws.{fits_rows, may_row, is_scanned_rows, column_to_row};
+ghost use Rattle.mp_tiles.specs.OfferingLaws.{fits_columns, may_column, is_scanned_columns, row_to_column};
+
+use mp_nums::{Slots, Sq};
+use mp_partial::{Profile, offer_at};
+
+/// A way to offer the windows of a pair. One window of the pair is a row and one a column.
+pub(crate) trait Offers {
+    /// What keeps the nearest windows.
+    type Into;
+
+    /// How far a column starts behind its row, at least.
+    ghost least: { ℕ };
+
+    /// There are places for the windows of these series, the first of which has the rows.
+    ghost fits: { ℕ → Series → Series → Self.Into → Type 0 };
+
+    /// A row and a column have their places.
+    ghost may_offer: { Self.Into → ℕ → ℕ → Type 0 };
+
+    /// The second has what the first one had, and what these pairs of windows of the series give.
+    ghost is_scanned: { ℕ → Series → Series → (ℕ → ℕ → Bool) → Self.Into → Self.Into → Type 0 };
+
+    /// The windows that start at `row` and at `column` have this distance.
+    fn offer(into: &mut Self::Into, row: u64, column: u64, dist: Sq)
+        requires { may_offer into.old row column }
+        ensures { (m : ℕ) (a b : Series) → fits m a b into.old → row < windows_of m a → column < windows_of m b
+            → distance m a row b column ≡ Some dist.0 → is_scanned m a b (only row column) into.old into.new };
+
+    /// Offers of more pairs give what these pairs give together.
+    ghost laws: { IsOffering least fits may_offer is_scanned };
+}
+
+/// Each of two windows of one series is offered to the other.
+pub(crate) struct EachToOther;
+
+/// The column is offered to the row.
+pub(crate) struct ColumnToRow;
+
+/// The row is offered to the column.
+pub(crate) struct RowToColumn;
+
+impl Offers for EachToOther {
+    type Into = Profile;
+
+    ghost least = { 1 };
+
+    ghost fits = { fits_each };
+
+    ghost may_offer = { may_each };
+
+    ghost is_scanned = { is_scanned_each };
+
+    ghost laws = { each_to_other };
+
+    #[inline]
+    fn offer(into: &mut Profile, row: u64, column: u64, dist: Sq) {
+        into.offer(row, column, dist);
+        into.offer(column, row, dist);
+    }
+}
+
+impl Offers for ColumnToRow {
+    type Into = Slots;
+
+    ghost least = { 0 };
+
+    ghost fits = { fits_rows };
+
+    ghost may_offer = { may_row };
+
+    ghost is_scanned = { is_scanned_rows };
+
+    ghost laws = { column_to_row };
+
+    #[inline]
+    fn offer(into: &mut Slots, row: u64, column: u64, dist: Sq) {
+        offer_at(into, row, column, dist);
+    }
+}
+
+impl Offers for RowToColumn {
+    type Into = Slots;
+
+    ghost least = { 0 };
+
+    ghost fits = { fits_columns };
+
+    ghost may_offer = { may_column };
+
+    ghost is_scanned = { is_scanned_columns };
+
+    ghost laws = { row_to_column };
+
+    #[inline]
+    fn offer(into: &mut Slots, row: u64, column: u64, dist: Sq) {
+        offer_at(into, column, row, dist);
+    }
+}
