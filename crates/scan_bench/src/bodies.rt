@@ -1,4 +1,4 @@
-//! The two ways to compute a profile.
+//! The two ways to compute a profile, and the AB-join.
 
 ghost use Rattle.std.specs.Prelude.{◌≤◌, length};
 ghost use Rattle.mp_series.specs.declared.limits.TheConstants.{MAX_SAMPLES, MAX_WINDOW, MIN_WINDOW};
@@ -26,6 +26,15 @@ pub fn sum_by_pairs(alloc: Global, words: &Words, samples: &[Sample]) -> Result<
         columns.left.as_slice(),
         columns.right.as_slice(),
     ))
+}
+
+/// The same of the AB-join by tiles from the first half of the samples to the second.
+pub fn sum_of_join(alloc: Global, words: &Words, samples: &[Sample]) -> Result<u128, Memory>
+    requires { length samples.now ≤ MAX_SAMPLES }
+{
+    let (a, b) = samples.split_at(samples.len() / 2);
+    let joined = mp_tiles::join(alloc, a, b, words.window, words.tile)?;
+    Ok(sum_of_column(joined.as_slice()))
 }
 
 fn sum_of_columns(all: &[Slot], left: &[Slot], right: &[Slot]) -> u128 {

@@ -1,5 +1,6 @@
 //! Computes the profile of a series that it makes itself, along diagonals or by comparing every pair of windows, and
-//! prints a number that is the same for both. With the word `timed` it also prints the time that it took.
+//! prints a number that is the same for both. Or it joins the halves of the series along diagonals. With the word
+//! `timed` it also prints the time that it took.
 #![tactic(auto)]
 
 ghost use Rattle.std.specs.Prelude.{◌≤◌};
@@ -27,6 +28,11 @@ fn run<R: AllocGlobal + Clock + Env + Print>(rt: &R) -> Result<()> {
     let words = Words::read(texts.as_slice())?;
     let samples = series::noise(rt.alloc(), words.samples)?;
     let samples = samples.as_slice();
+    if words.body == Body::Join {
+        let start = Instant::now(rt)?;
+        let sum = bodies::sum_of_join(rt.alloc(), &words, samples)?;
+        return report(rt, sum, words.timed, start.elapsed(rt)?);
+    }
     if words.body != Body::Pairs {
         let start = Instant::now(rt)?;
         let sum = bodies::sum_by_tiles(rt.alloc(), &words, samples)?;

@@ -8,15 +8,17 @@ use anyhow::{Context, Result, bail, ensure};
 use mp_series::{MAX_SAMPLES, MAX_WINDOW, MIN_WINDOW};
 use mp_tiles::MAX_TILE;
 
-/// How a profile is computed.
+/// What is computed, and how.
 #[derive(Clone, Copy, Debug, PartialEq, Eq)]
 pub enum Body {
-    /// Along diagonals, tile by tile.
+    /// A profile along diagonals, tile by tile.
     Tiles,
-    /// By comparing every pair of windows.
+    /// A profile by comparing every pair of windows.
     Pairs,
-    /// The one way and then the other.
+    /// A profile the one way and then the other.
     Both,
+    /// An AB-join along diagonals, tile by tile.
+    Join,
 }
 
 /// What is to be done.
@@ -35,12 +37,12 @@ pub struct Words {
 }
 
 impl Words {
-    /// Reads `tiles`, `pairs` or `both`, the numbers of samples, of samples in a window and of diagonals in a tile, and
-    /// maybe `timed`.
+    /// Reads `tiles`, `pairs`, `both` or `join`, the numbers of samples, of samples in a window and of diagonals in a
+    /// tile, and maybe `timed`.
     pub fn read(words: &[String]) -> Result<Words> {
         ensure!(
             words.len() == 4 || words.len() == 5,
-            "tiles, pairs or both, samples, window, tile, and maybe timed"
+            "tiles, pairs, both or join, samples, window, tile, and maybe timed"
         );
         let timed = words.len() == 5;
         ensure!(
@@ -51,7 +53,8 @@ impl Words {
             "tiles" => Body::Tiles,
             "pairs" => Body::Pairs,
             "both" => Body::Both,
-            _ => bail!("tiles, pairs or both"),
+            "join" => Body::Join,
+            _ => bail!("tiles, pairs, both or join"),
         };
         let samples = words[1].as_str().parse::<u64>().context("samples")?;
         let window = words[2].as_str().parse::<u32>().context("window")?;
