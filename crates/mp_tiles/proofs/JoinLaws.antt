@@ -1,5 +1,5 @@
 -- Tiles make the AB-join.
-use Rattle.std.proofs.Common.{◌≡◌, ℕ, ◌-◌, ◌<◌, List, [], ◌∷◌, length, get_or, true, refl, sym, ap, ◌∙◌}
+use Rattle.std.proofs.Common.{◌≡◌, ℕ, ◌-◌, List, [], ◌∷◌, length, get_or, true, refl, sym, ap, ◌∙◌}
 use Rattle.std.specs.Prelude.{◌||◌, map, count_by}
 use Rattle.std.specs.List.{range_with_len}
 use Rattle.mp_defs.specs.Series.{Series}
@@ -9,7 +9,7 @@ use Rattle.mp_partial.specs.Values.{Column, Value, merged_columns, empty_columns
 use Rattle.mp_tiles.specs.declared.cuts.Tile.{Tile}
 use Rattle.mp_tiles.specs.Pairs.{has_pair}
 use Rattle.mp_tiles.specs.Cutting.{both_tiles}
-use Rattle.mp_tiles.specs.Laws.{no_tile, join_tiles_value, TilesMakeTheJoin}
+use Rattle.mp_tiles.specs.Laws.{HoldEveryPairOnce, no_tile, join_tiles_value, TilesMakeTheJoin}
 use Rattle.mp_tiles.proofs.TileLemmas.{both_pairs_once}
 use Rattle.mp_tiles.proofs.PairLemmas.{some_has, some_more, once_or_not, tiles_by_number}
 
@@ -31,17 +31,18 @@ tiles_together origin tile m a b (k ∷ ks) =
     ∙ columns_by_choice.same m (λ i j. here i j || there i j) (some_has origin (map tile (k ∷ ks))) a b
     (λ i j _ _. some_more origin (tile k) (map tile ks) i j))
 
-pub make_the_join : TilesMakeTheJoin
-make_the_join m a b tiles once =
+any_tiles : (m : ℕ) (a b : Series) (tiles : List Tile) → HoldEveryPairOnce (windows_of m a) (windows_of m b) tiles
+    → join_tiles_value m a b tiles ≡ ab_join m a b ∷ []
+any_tiles m a b tiles once =
     let origin = windows_of m a - 1 in
     tiles_together origin (λ k. get_or tiles k no_tile) m a b (range_with_len 0 (length tiles))
     ∙ ap (λ ts. one_column (nearest_column (some_has origin ts) m a b)) (tiles_by_number tiles)
     ∙ ap one_column (columns_by_choice.same m (some_has origin tiles) (λ _ _. true) a b
     (λ i j lt lt'. once_or_not true (count_by (λ t. has_pair origin t i j) tiles) (once i j lt lt')))
 
-pub both_tiles_make_the_join : (m width : ℕ) (a b : Series) (tiles : List Tile) → 0 < width
-    → tiles ≡ both_tiles (windows_of m a) (windows_of m b) width → join_tiles_value m a b tiles ≡ ab_join m a b ∷ []
-both_tiles_make_the_join m width a b tiles pos e =
-    ap (join_tiles_value m a b) e
-    ∙ make_the_join m a b (both_tiles (windows_of m a) (windows_of m b) width)
-    (λ i j lt lt'. both_pairs_once (windows_of m a) (windows_of m b) width pos i j lt lt')
+pub make_the_join : TilesMakeTheJoin
+make_the_join = record {
+  any = any_tiles;
+  both = λ m width a b pos. any_tiles m a b (both_tiles (windows_of m a) (windows_of m b) width)
+      (λ i j lt lt'. both_pairs_once (windows_of m a) (windows_of m b) width pos i j lt lt');
+}

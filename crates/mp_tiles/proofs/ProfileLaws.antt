@@ -8,7 +8,8 @@ use Rattle.std.proofs.lemmas.Bool.Decides.{nat_tests}
 use Rattle.mp_nums.specs.declared.nearest.Near.{Near}
 use Rattle.mp_defs.specs.Series.{Series}
 use Rattle.mp_defs.specs.Window.{excl, is_allowed}
-use Rattle.mp_defs.specs.Profile.{profile, matrix_profile, windows_of}
+use Rattle.mp_defs.specs.Profile.{profile, windows_of}
+use Rattle.mp_defs.specs.Laws.{IsIrreflexive, IsSymmetric}
 use Rattle.mp_defs.specs.ColumnLaws.{columns_by_choice}
 use Rattle.mp_defs.specs.NearestLaws.{zone_is_mutual}
 use Rattle.mp_partial.specs.Values.{Value, merged_columns, empty_columns, merged_over}
@@ -87,8 +88,9 @@ tiles_together tile m a (k ∷ ks) =
 one_side : (t u : Bool) (i j : ℕ) → t ≡ u → (i ≡ j → t ≡ false) → ((nat_lt i j && t) || (nat_lt j i && u)) ≡ t
 one_side t u i j e h = grind (arith, nat_tests)
 
-pub make_the_profile : TilesMakeTheProfile
-make_the_profile may irreflexive symmetric m a tiles once =
+any_tiles : (may : ℕ → ℕ → Bool) → IsIrreflexive may → IsSymmetric may → (m : ℕ) (a : Series) (tiles : List Tile)
+    → HoldEachOnce may (windows_of m a) tiles → tiles_value m a tiles ≡ columns_value (profile may m a)
+any_tiles may irreflexive symmetric m a tiles once =
     let tile : ℕ → Tile = λ k. get_or tiles k no_tile in
     let has = λ (i j : ℕ) (lt : j < windows_of m a). once_or_not (nat_lt i j && may i j)
     (count_by (λ t. has_pair 0 t i j) tiles) (once i j lt) in
@@ -100,7 +102,7 @@ make_the_profile may irreflexive symmetric m a tiles once =
     ap (λ p. p || some_has 0 tiles j i) (has i j lt') ∙ ap (λ p. (nat_lt i j && may i j) || p) (has j i lt)
     ∙ one_side (may i j) (may j i) i j (symmetric i j) (λ e. subst (λ (k : ℕ). may i k ≡ false) e (irreflexive i)))
 
--- ---- today's cut
+-- ---- the cut outside the exclusion zone
 
 outside_zone : (e i j : ℕ) → nat_lt (i + e) j ≡ (nat_lt i j && nat_lt e (abs_diff i j))
 outside_zone e i j = grind (arith, nat_tests)
@@ -109,9 +111,10 @@ own_tiles_hold_each_once : (m w width : ℕ) → 0 < width → HoldEachOnce (is_
 own_tiles_hold_each_once m w width pos i j lt =
     own_pairs_once w (excl m) width pos i j lt ∙ ap (λ t. if t then 1 else 0) (outside_zone (excl m) i j)
 
-pub own_tiles_make_the_profile : (m width : ℕ) (a : Series) (tiles : List Tile) → 0 < width
-    → tiles ≡ own_tiles (windows_of m a) (excl m) width → tiles_value m a tiles ≡ columns_value (matrix_profile m a)
-own_tiles_make_the_profile m width a tiles pos e =
-    ap (tiles_value m a) e
-    ∙ make_the_profile (is_allowed m) (zone_is_mutual.irreflexive m) (zone_is_mutual.symmetric m) m a
-    (own_tiles (windows_of m a) (excl m) width) (own_tiles_hold_each_once m (windows_of m a) width pos)
+pub make_the_profile : TilesMakeTheProfile
+make_the_profile = record {
+  any = any_tiles;
+  own = λ m width a pos.
+      any_tiles (is_allowed m) (zone_is_mutual.irreflexive m) (zone_is_mutual.symmetric m) m a
+      (own_tiles (windows_of m a) (excl m) width) (own_tiles_hold_each_once m (windows_of m a) width pos);
+}

@@ -2,11 +2,13 @@
 use Rattle.std.specs.Prelude.{◌≡◌, ℕ, ◌-◌, ◌<◌, List, [], ◌∷◌, length, slice_index_or, Bool, ◌&&◌, nat_lt}
 use Rattle.std.specs.Prelude.{count_by, if◌then◌else◌}
 use Rattle.mp_defs.specs.Series.{Series}
-use Rattle.mp_defs.specs.Profile.{windows_of, nearest_column, profile, ab_join}
+use Rattle.mp_defs.specs.Window.{excl}
+use Rattle.mp_defs.specs.Profile.{windows_of, nearest_column, profile, matrix_profile, ab_join}
 use Rattle.mp_defs.specs.Laws.{IsIrreflexive, IsSymmetric}
 use Rattle.mp_partial.specs.Values.{Value, merged_columns, empty_columns, merged_below}
 use Rattle.mp_tiles.specs.declared.cuts.Tile.{Tile}
 use Rattle.mp_tiles.specs.Pairs.{has_pair}
+use Rattle.mp_tiles.specs.Cutting.{own_tiles, both_tiles}
 use Rattle.mp_tiles.specs.Among.{profile_among, columns_value}
 
 -- of w windows each two that may be compared are a pair of exactly one of the tiles, and no others are a pair of any
@@ -27,11 +29,14 @@ abbrev pub tiles_value : ℕ → Series → List Tile → Value
 tiles_value m a tiles =
     merged_below merged_columns (empty_columns 3 (windows_of m a)) (tile_value m a tiles) (length tiles)
 
--- they are the profile, whatever tiles hold each pair once
-abbrev pub TilesMakeTheProfile : Type 0
-TilesMakeTheProfile = (may : ℕ → ℕ → Bool) → IsIrreflexive may → IsSymmetric may → (m : ℕ) (a : Series)
-    (tiles : List Tile) → HoldEachOnce may (windows_of m a) tiles
-    → tiles_value m a tiles ≡ columns_value (profile may m a)
+-- they are the profile
+pub record TilesMakeTheProfile : Type 0 where
+  -- by any test of pairs, whatever tiles hold each pair once
+  pub any : (may : ℕ → ℕ → Bool) → IsIrreflexive may → IsSymmetric may → (m : ℕ) (a : Series) (tiles : List Tile)
+      → HoldEachOnce may (windows_of m a) tiles → tiles_value m a tiles ≡ columns_value (profile may m a)
+  -- and so of the cut outside the exclusion zone, however wide its tiles are
+  pub own : (m width : ℕ) (a : Series) → 0 < width
+      → tiles_value m a (own_tiles (windows_of m a) (excl m) width) ≡ columns_value (matrix_profile m a)
 
 -- ---- from one series to another
 
@@ -50,7 +55,11 @@ abbrev pub join_tiles_value : ℕ → Series → Series → List Tile → Value
 join_tiles_value m a b tiles =
     merged_below merged_columns (empty_columns 1 (windows_of m a)) (join_tile_value m a b tiles) (length tiles)
 
--- they are the AB-join, whatever tiles hold each pair once
-abbrev pub TilesMakeTheJoin : Type 0
-TilesMakeTheJoin = (m : ℕ) (a b : Series) (tiles : List Tile)
-    → HoldEveryPairOnce (windows_of m a) (windows_of m b) tiles → join_tiles_value m a b tiles ≡ ab_join m a b ∷ []
+-- they are the AB-join
+pub record TilesMakeTheJoin : Type 0 where
+  -- whatever tiles hold each pair once
+  pub any : (m : ℕ) (a b : Series) (tiles : List Tile) → HoldEveryPairOnce (windows_of m a) (windows_of m b) tiles
+      → join_tiles_value m a b tiles ≡ ab_join m a b ∷ []
+  -- and so of the cut of all pairs, however wide its tiles are
+  pub both : (m width : ℕ) (a b : Series) → 0 < width
+      → join_tiles_value m a b (both_tiles (windows_of m a) (windows_of m b) width) ≡ ab_join m a b ∷ []

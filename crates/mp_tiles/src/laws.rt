@@ -3,13 +3,14 @@
 ghost use Rattle.mp_tiles.specs.Laws.{TilesMakeTheProfile, TilesMakeTheJoin};
 
 /// By any test of pairs that compares no window with itself and of two windows each with the other, the values of tiles
-/// that hold each pair exactly once, merged from a unit, are the profile.
+/// that hold each pair exactly once, merged from a unit, are the profile. So the values of the tiles outside the
+/// exclusion zone are the matrix profile, however wide the tiles are.
 pub fn tiles_make_the_profile()
     ensures { TilesMakeTheProfile }
 {}
 
 /// From one series to another, the values of tiles that hold each pair of windows exactly once, merged from a unit, are
-/// the AB-join.
+/// the AB-join. The tiles of all pairs are such tiles, however wide they are.
 pub fn tiles_make_the_join()
     ensures { TilesMakeTheJoin }
 {}
