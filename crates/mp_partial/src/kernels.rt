@@ -5,8 +5,8 @@ ghost use Rattle.mp_partial.specs.Values.{Value};
 
 use crate::parts::Part;
 
-/// Work that is cut into numbered pieces, each with a value of its own. What runs threads asks `Sync` of a kernel.
-pub trait Kernel {
+/// Work that is cut into numbered pieces, each with a value of its own. Threads can share a kernel.
+pub trait Kernel: Sync {
     /// What the pieces are merged into.
     type Out: Part;
 

@@ -4,7 +4,6 @@
 
 mod columns;
 mod kernels;
-mod laws;
 mod order;
 mod parts;
 mod profiles;
@@ -12,7 +11,6 @@ mod slots;
 
 pub use columns::offer_at;
 pub use kernels::Kernel;
-pub use laws::parts_can_move;
 pub use order::run_in_order;
 pub use parts::Part;
 pub use profiles::Profile;

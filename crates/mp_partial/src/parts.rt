@@ -8,10 +8,10 @@ use mp_nums::Memory;
 use std::alloc::Global;
 
 /// What was found among a part of the pairs of windows. Parts of one size are merged in any order, so that threads may
-/// compute them: what runs threads asks `Send` of a part.
+/// compute them, and a part can move between threads.
 ///
 /// A part stands for its value, columns of nearest windows. It may keep room for work beside it.
-pub trait Part: Drop {
+pub trait Part: Drop + Send {
     /// What the part stands for.
     ghost value: { Self → Value };
 

@@ -1,7 +1,7 @@
 //! A profile of a part of the pairs of windows.
 
 ghost use Rattle.std.specs.Prelude.{◌≡◌, ◌≢◌, ◌+◌, ◌<◌, ◌≤◌, nat_lt, if◌then◌else◌, [], ◌∷◌, ◌++◌, length, IsOk, OnOk, Some, None};
-ghost use Rattle.mp_partial.specs.Values.{HasColumns, empty_columns, merged_columns, merged_column, offered};
+ghost use Rattle.mp_partial.specs.Values.{HasColumns, empty_column, empty_columns, merged_columns, merged_column, offered};
 ghost use Rattle.mp_partial.specs.MergeLaws.{columns_merge};
 
 use crate::columns;
@@ -160,13 +160,25 @@ impl Part for Profile {
         self.len()
     }
 
-    fn clear(&mut self) {
+    fn clear(&mut self)
+        ensures all { self.new.all ≡ empty_column (length self.old.all) }
+        ensures left { self.new.left ≡ empty_column (length self.old.all) }
+        ensures right { self.new.right ≡ empty_column (length self.old.all) }
+        ensures spare { self.new.spare ≡ self.old.spare }
+    {
         columns::clear(&mut self.all);
         columns::clear(&mut self.left);
         columns::clear(&mut self.right);
     }
 
-    fn merge(&mut self, other: &Self) {
+    fn merge(&mut self, other: &Self)
+        requires { length other.now.all ≡ length self.old.all }
+        ensures all { self.new.all ≡ merged_column self.old.all other.now.all }
+        ensures left { self.new.left ≡ merged_column self.old.left other.now.left }
+        ensures right { self.new.right ≡ merged_column self.old.right other.now.right }
+        ensures places { HasColumns 3 (length self.old.all) (self.new.all ∷ self.new.left ∷ self.new.right ∷ []) }
+        ensures spare { self.new.spare ≡ self.old.spare }
+    {
         columns::merge(&mut self.all, &other.all);
         columns::merge(&mut self.left, &other.left);
         columns::merge(&mut self.right, &other.right);

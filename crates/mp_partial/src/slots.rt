@@ -1,7 +1,7 @@
 //! Slots as a part: one column.
 
-ghost use Rattle.std.specs.Prelude.{[], ◌∷◌, length};
-ghost use Rattle.mp_partial.specs.Values.{HasColumns, empty_columns, merged_columns};
+ghost use Rattle.std.specs.Prelude.{◌≡◌, [], ◌∷◌, length};
+ghost use Rattle.mp_partial.specs.Values.{HasColumns, empty_column, empty_columns, merged_column, merged_columns};
 ghost use Rattle.mp_partial.specs.MergeLaws.{columns_merge};
 
 use crate::columns;
@@ -30,11 +30,19 @@ impl Part for Items<Slot> {
         self.as_slice().len() as u64
     }
 
-    fn clear(&mut self) {
+    fn clear(&mut self)
+        ensures items { self.new.items ≡ empty_column (length self.old.items) }
+        ensures spare { self.new.spare ≡ self.old.spare }
+    {
         columns::clear(self);
     }
 
-    fn merge(&mut self, other: &Self) {
+    fn merge(&mut self, other: &Self)
+        requires { length other.now.items ≡ length self.old.items }
+        ensures items { self.new.items ≡ merged_column self.old.items other.now.items }
+        ensures places { length self.new.items ≡ length self.old.items }
+        ensures spare { self.new.spare ≡ self.old.spare }
+    {
         columns::merge(self, other);
     }
 }

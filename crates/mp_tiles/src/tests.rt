@@ -158,7 +158,6 @@ fn units_and_growth(rt: HostRuntime) -> Result<(), Fail> {
     assert!(rt; 1 <= one.spare());
     one.grow();
     assert_eq!(rt; one.len(), 1);
-    mp_partial::parts_can_move();
     Ok(())
 }
 
