@@ -1,3 +1,5 @@
 pub mod Values
 pub mod MergeLaws
 pub mod Profiled
+pub mod Together
+pub mod TogetherLaws

@@ -4,6 +4,7 @@
 
 mod columns;
 mod kernels;
+mod laws;
 mod order;
 mod parts;
 mod profiles;
@@ -11,6 +12,7 @@ mod slots;
 
 pub use columns::offer_at;
 pub use kernels::Kernel;
+pub use laws::merges_by_pieces;
 pub use order::run_in_order;
 pub use parts::Part;
 pub use profiles::Profile;
