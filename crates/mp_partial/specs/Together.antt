@@ -1,6 +1,6 @@
 -- What the values of some pieces are together, by any merge that may come in any order and any number of times.
-use Rattle.std.specs.Prelude.{◌≡◌, ℕ, ◌==◌, Bool, true, List, ◌++◌}
-use Rattle.std.specs.List.{list_any}
+use Rattle.std.specs.Prelude.{◌≡◌, ℕ, ◌==◌, nat_lt, Bool, true, ◌&&◌, ◌||◌, List, ◌++◌, filter}
+use Rattle.std.specs.List.{list_any, range_with_len}
 use Rattle.mp_partial.specs.Values.{Value, merged_over}
 
 abbrev pub has_piece : List ℕ → ℕ → Bool
@@ -26,3 +26,10 @@ pub record MergesByPieces (IsValue : ℕ → Value → Type 0) (unit : ℕ → V
       ≡ merged (merged_over merged (unit size) value xs) (merged_over merged (unit size) value ys)
   pub is_value : (size : ℕ) (value : ℕ → Value) (xs : List ℕ) → HaveValues IsValue size value xs
       → IsValue size (merged_over merged (unit size) value xs)
+
+-- which pieces stand in lists that are made of others
+pub record ListsOfPieces : Type 0 where
+  pub below : (count k : ℕ) → has_piece (range_with_len 0 count) k ≡ nat_lt k count
+  pub passed : (test : ℕ → Bool) (pieces : List ℕ) (k : ℕ)
+      → has_piece (filter test pieces) k ≡ (test k && has_piece pieces k)
+  pub joined : (xs ys : List ℕ) (k : ℕ) → has_piece (xs ++ ys) k ≡ (has_piece xs k || has_piece ys k)

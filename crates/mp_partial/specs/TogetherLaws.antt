@@ -1,11 +1,15 @@
 -- The proof of what the values of some pieces are together.
 use Rattle.std.proofs.Common.{◌≡◌, ℕ, List, [], ◌∷◌, ◌++◌, Bool, true, false, refl, sym, ap, subst, ◌∙◌, inl, inr}
 use Rattle.std.proofs.Common.{arith}
-use Rattle.std.specs.Prelude.{◌==◌, ◌||◌, ◌⊎◌}
+use Rattle.std.proofs.Common.{zero, suc, ◌+◌}
+use Rattle.std.specs.Prelude.{◌==◌, nat_le, nat_lt, ◌&&◌, ◌||◌, ◌⊎◌}
+use Rattle.std.specs.List.{range_with_len}
+use Rattle.std.proofs.lemmas.Map.Views.{any-filter_same}
+use Rattle.std.proofs.lemmas.List.Folds.{list_any-append}
 use Rattle.std.proofs.lemmas.Bool.Decides.{nat_tests}
 use Rattle.mp_partial.specs.Values.{Value, merged_over}
 use Rattle.mp_partial.specs.MergeLaws.{IsMerging}
-use Rattle.mp_partial.specs.Together.{has_piece, HaveSamePieces, HaveValues, MergesByPieces}
+use Rattle.mp_partial.specs.Together.{has_piece, HaveSamePieces, HaveValues, MergesByPieces, ListsOfPieces}
 
 -- ---- pieces of a list
 
@@ -18,6 +22,25 @@ first_is_there x xs = grind (arith, nat_tests)
 
 rest_is_there : (x : ℕ) (xs : List ℕ) (k : ℕ) → has_piece xs k ≡ true → has_piece (x ∷ xs) k ≡ true
 rest_is_there x xs k h = or_last (x == k) (has_piece xs k) h
+
+-- the numbers from one on have those that are no less, and less than the end
+has_between : (first count k : ℕ)
+    → has_piece (range_with_len first count) k ≡ (nat_le first k && nat_lt k (first + count))
+has_between first zero k = grind (arith, nat_tests)
+has_between first (suc count) k =
+    ap (λ b. (first == k) || b) (has_between (first + 1) count k)
+    ∙ first_or_later first count k
+  where
+    first_or_later : (first count k : ℕ)
+        → ((first == k) || (nat_le (first + 1) k && nat_lt k (first + 1 + count))) ≡ (nat_le first k && nat_lt k (first + suc count))
+    first_or_later first count k = grind (arith, nat_tests)
+
+pub pieces_of_lists : ListsOfPieces
+pieces_of_lists = record {
+  below = λ count k. has_between 0 count k ∙ grind (arith, nat_tests);
+  passed = λ test pieces k. any-filter_same (λ piece. piece == k) test (test k) (λ j e. ap test (grind (arith, nat_tests))) pieces;
+  joined = λ xs ys k. list_any-append (λ piece. piece == k) xs ys;
+}
 
 rest_has_values : (IsValue : ℕ → Value → Type 0) (size : ℕ) (value : ℕ → Value) (x : ℕ) (xs : List ℕ)
     → HaveValues IsValue size value (x ∷ xs) → HaveValues IsValue size value xs
