@@ -3,3 +3,4 @@ pub mod MergeLaws
 pub mod Profiled
 pub mod Together
 pub mod TogetherLaws
+pub mod Offers

@@ -32,13 +32,15 @@ has_between first (suc count) k =
     ∙ first_or_later first count k
   where
     first_or_later : (first count k : ℕ)
-        → ((first == k) || (nat_le (first + 1) k && nat_lt k (first + 1 + count))) ≡ (nat_le first k && nat_lt k (first + suc count))
+        → ((first == k) || (nat_le (first + 1) k && nat_lt k (first + 1 + count)))
+        ≡ (nat_le first k && nat_lt k (first + suc count))
     first_or_later first count k = grind (arith, nat_tests)
 
 pub pieces_of_lists : ListsOfPieces
 pieces_of_lists = record {
   below = λ count k. has_between 0 count k ∙ grind (arith, nat_tests);
-  passed = λ test pieces k. any-filter_same (λ piece. piece == k) test (test k) (λ j e. ap test (grind (arith, nat_tests))) pieces;
+  passed = λ test pieces k. any-filter_same (λ piece. piece == k) test (test k)
+      (λ j e. ap test (grind (arith, nat_tests))) pieces;
   joined = λ xs ys k. list_any-append (λ piece. piece == k) xs ys;
 }
 

@@ -1,5 +1,6 @@
 //! What holds of parts and of lists of pieces, each the contract of a function that does nothing.
 
+ghost use Rattle.mp_partial.specs.Offers.{OffersAreMerges};
 ghost use Rattle.mp_partial.specs.Together.{ListsOfPieces, MergesByPieces};
 
 use crate::parts::Part;
@@ -13,4 +14,9 @@ pub fn merges_by_pieces<P: Part>()
 /// another has the pieces of both.
 pub fn pieces_of_lists()
     ensures { ListsOfPieces }
+{}
+
+/// What is offered to a column is merged into it: it is the merge with a column in which nothing else was found.
+pub fn offers_are_merges()
+    ensures { OffersAreMerges }
 {}

@@ -12,7 +12,7 @@ mod slots;
 
 pub use columns::offer_at;
 pub use kernels::Kernel;
-pub use laws::{merges_by_pieces, pieces_of_lists};
+pub use laws::{merges_by_pieces, offers_are_merges, pieces_of_lists};
 pub use order::run_in_order;
 pub use parts::Part;
 pub use profiles::Profile;
