@@ -14,5 +14,5 @@ pub use columns::offer_at;
 pub use kernels::Kernel;
 pub use laws::{merges_by_pieces, offers_are_merges, pieces_of_lists};
 pub use order::run_in_order;
-pub use parts::Part;
+pub use parts::{Part, units};
 pub use profiles::Profile;

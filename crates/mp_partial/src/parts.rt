@@ -1,6 +1,6 @@
 //! What is computed in pieces: its value, and the merge of two values.
 
-ghost use Rattle.std.specs.Prelude.{◌≡◌, ℕ, IfOk};
+ghost use Rattle.std.specs.Prelude.{◌≡◌, ℕ, map, replicate, IfOk};
 ghost use Rattle.mp_partial.specs.Values.{Value};
 ghost use Rattle.mp_partial.specs.MergeLaws.{IsMerging};
 
@@ -53,4 +53,16 @@ pub trait Part: Drop + Send {
 
     /// The order of merges doesn't matter, nor does merging twice, and a unit changes nothing.
     ghost laws: { IsMerging is_value unit_of merged };
+}
+
+/// So many parts of this size in which nothing was found, one for each of as many workers.
+pub fn units<P: Part>(alloc: Global, count: u32, size: u64) -> Result<Vec<P>, Memory>
+    ensures values { IfOk result (λ parts. map P.value parts.items ≡ replicate count (P.unit_of size)) }
+    ensures sizes { IfOk result (λ parts. map P.size_of parts.items ≡ replicate count size) }
+{
+    let mut parts = Vec::with_capacity(alloc, count as usize)?;
+    for _ in 0..count {
+        parts.push(P::unit(alloc, size)?)?;
+    }
+    Ok(parts)
 }
