@@ -1,16 +1,17 @@
 ghost use Rattle.std.specs.Prelude.{◌≡◌, ◌+◌, ◌≤◌, ◌++◌, length, Some, IfOk, IfSome, OnOk, true};
 ghost use Rattle.std.specs.Option.{ForSome};
 
+mod gates;
+
 use crate::{
-    CalmShelf, CalmSink, CalmSource, DiskShelf, Failed, Gate, LoopSource, MemShelf, MemSink,
-    MemSource, OpenGate, Shelf, ShelfAnswer, Sink, Source, StdSink, StdSource,
+    CalmShelf, CalmSink, CalmSource, DiskShelf, Failed, LoopSource, MemShelf, MemSink, MemSource,
+    Shelf, ShelfAnswer, Sink, Source, StdSink, StdSource,
 };
 use std::alloc::{AllocError, Allocator, Global};
 use std::cell::RefCell;
 use std::fmt::Display;
 use std::io::{BufRead, ErrorKind, Lines, Print};
 use std::test::Fail;
-use std::thread::{Threads, join};
 use std::{fs, io, process};
 
 // All that was left, or `None` where a read failed or the source gives too much.
@@ -285,20 +286,4 @@ fn standard_output_takes_bytes(rt: HostRuntime) -> Result<(), Fail> {
     let printed = paper.printed.into_inner();
     assert_eq!(rt; printed.as_slice(), b"01234567".as_slice());
     Ok(())
-}
-
-fn pass_often<G: Gate>(gate: &G, worker: u32) {
-    for piece in 0..10_000 {
-        gate.pass(worker, piece);
-    }
-}
-
-fn pass_side_by_side<R: Threads + Sync, G: Gate>(rt: &R, gate: &G) {
-    join(rt, || pass_often(gate, 0), || pass_often(gate, 1));
-}
-
-// With a gate that makes its workers wait, this test doesn't end in time.
-#[test]
-fn an_open_gate_holds_nobody_up(rt: HostRuntime) {
-    pass_side_by_side(&rt, &OpenGate);
 }
