@@ -1,0 +1,6 @@
+pub mod Cores
+pub mod Boards
+pub mod Standing
+pub mod Sizes
+pub mod Laws
+pub mod Marks
