@@ -1,0 +1,41 @@
+//! Profiles that workers compute side by side.
+
+ghost use Rattle.std.specs.Prelude.{◌≡◌, ◌≤◌, length, IfOk};
+ghost use Rattle.mp_defs.specs.Series.{series_of};
+ghost use Rattle.mp_defs.specs.Profile.{matrix_profile};
+
+use crate::teams::run_all;
+use mp_claims::MAX_WORKERS;
+use mp_nums::{Memory, Sample};
+use mp_outside::Gate;
+use mp_partial::{Kernel, Profile};
+use mp_series::{MAX_SAMPLES, MAX_WINDOW, MIN_WINDOW};
+use mp_tiles::{MAX_TILE, OwnTiles};
+use std::alloc::Global;
+use std::thread::Threads;
+
+/// The matrix profile of the samples at window length `m`, computed in tiles of at most `tile` diagonals by so many
+/// workers. It is the same for every tile, number of workers and gate.
+pub fn self_join<R: Threads + Sync, G: Gate>(
+    rt: &R,
+    alloc: Global,
+    samples: &[Sample],
+    m: u32,
+    tile: u32,
+    workers: u32,
+    gate: &G,
+) -> Result<Profile, Memory>
+    requires shortest { MIN_WINDOW ≤ m }
+    requires longest { m ≤ MAX_WINDOW }
+    requires samples { length samples.now ≤ MAX_SAMPLES }
+    requires least { 1 ≤ tile }
+    requires greatest { tile ≤ MAX_TILE }
+    requires some { 1 ≤ workers }
+    requires workers { workers ≤ MAX_WORKERS }
+    ensures all { IfOk result (λ p. p.all ≡ (matrix_profile m (series_of samples.now)).all) }
+    ensures left { IfOk result (λ p. p.left ≡ (matrix_profile m (series_of samples.now)).left) }
+    ensures right { IfOk result (λ p. p.right ≡ (matrix_profile m (series_of samples.now)).right) }
+{
+    let tiles = OwnTiles::new(samples, m, tile);
+    run_all(rt, alloc, &tiles, tiles.pieces(), workers, gate)
+}

@@ -1,0 +1,11 @@
+//! Workers that run the pieces of a kernel side by side, and the profiles that they compute.
+#![tactic(auto)]
+
+mod joins;
+mod shares;
+mod teams;
+#[cfg(test)]
+mod tests;
+
+pub use joins::self_join;
+pub use teams::run_all;
