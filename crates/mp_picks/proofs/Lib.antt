@@ -1,0 +1,2 @@
+pub mod ShutPlaces
+pub mod Choosing
