@@ -32,13 +32,15 @@ after_writing (byte ∷ bytes) sink = record sink {
   flushed = false;
 }
 
--- how many bytes standard input gave, and how often it failed
-pub record StdSourceState : Type 0 where
+-- a reader, how many bytes it gave, and how often it failed
+pub record StdSourceState (I : Type 0) : Type 0 where
+  pub input : I
   pub given : ℕ
   pub faults : ℕ
 
--- whether standard output is flushed, and how often it failed
-pub record StdSinkState : Type 0 where
+-- a writer, whether it is flushed, and how often it failed
+pub record StdSinkState (O : Type 0) : Type 0 where
+  pub output : O
   pub flushed : Bool
   pub faults : ℕ
 

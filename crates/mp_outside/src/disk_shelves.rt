@@ -1,16 +1,22 @@
-ghost use Rattle.std.specs.Prelude.{◌≡◌, ◌-◌, ◌^◌, ◌≤◌, min, None, vec_len, IfOk, IsErrOf};
+ghost use Rattle.std.specs.Prelude.{◌≡◌, ◌≢◌, ◌↔◌, ◌+◌, ◌-◌, ◌^◌, ◌<◌, ◌≤◌, min, None, Ok, Err, vec_len, IfOk, IsErrOf};
+ghost use Rattle.std.specs.Io.KnownBytes.{Consumes, IsAtEnd};
 ghost use Rattle.std.specs.Str.{IsUtf8};
 ghost use Rattle.std.proofs.Common.{rules};
 ghost use Rattle.mp_outside.specs.Counts.{Rose};
+ghost use Rattle.mp_outside.specs.declared.disk_shelves.TheConstants.{PIECE};
 
 use crate::failures::ShelfAnswer;
+use crate::retries::read_some;
 use crate::shelves::Shelf;
 use mp_nums::Memory;
-use std::alloc::Global;
+use std::alloc::{AllocError, Global};
 use std::fs::File;
 use std::io::{self, ErrorKind, Read};
 use std::marker::Model;
 use std::rt::Files;
+
+/// How many bytes of a file are read at once, at most.
+const PIECE: usize = 65_536;
 
 /// Files of the system, by their paths from the working folder. What they hold is open. A name is
 /// absent where the system finds no such file or the name is no text. Any other error, as of a
@@ -53,14 +59,14 @@ impl<R: Files> Shelf for DiskShelf<R> {
         ensures no_text { ¬ (IsUtf8 name.now) → IsErrOf result ShelfAnswer.Absent }
         ensures within { IfOk result (λ bytes. vec_len bytes ≤ limit) }
         ensures faults { self.old ≤ self.new }
+        ensures calm { ¬ IsErrOf result ShelfAnswer.Failed → self.new ≡ self.old }
         ensures cause { IsErrOf result ShelfAnswer.Failed → Rose self.old self.new }
     {
         let Ok(path) = str::from_utf8(name) else {
             return Err(ShelfAnswer::Absent);
         };
         match read_start(&self.rt, alloc, path, limit.saturating_add(1)) {
-            Ok(bytes) if bytes.len() as u64 > limit => Err(ShelfAnswer::TooLarge),
-            Ok(bytes) => Ok(bytes),
+            Ok(bytes) => kept_within(bytes, limit),
             Err(error) => Err(self.answer(error.kind())),
         }
     }
@@ -69,8 +75,12 @@ impl<R: Files> Shelf for DiskShelf<R> {
 impl<R> DiskShelf<R> {
     // The answer at an error of the system, which is counted where it is a failure.
     fn answer(&mut self, kind: ErrorKind) -> ShelfAnswer
+        ensures absent { (result ≡ ShelfAnswer.Absent) ↔ (kind ≡ ErrorKind.NotFound) }
+        ensures memory { (result ≡ ShelfAnswer.Memory) ↔ (kind ≡ ErrorKind.OutOfMemory) }
+        ensures failed { kind ≢ ErrorKind.NotFound → kind ≢ ErrorKind.OutOfMemory → result ≡ ShelfAnswer.Failed }
         ensures faults { self.old ≤ self.new }
-        ensures cause { result ≡ ShelfAnswer.Failed → Rose self.old self.new }
+        ensures calm { result ≢ ShelfAnswer.Failed → self.new ≡ self.old }
+        ensures counted { result ≡ ShelfAnswer.Failed → self.new ≡ min (self.old + 1) (2 ^ 64 - 1) }
     {
         match kind {
             ErrorKind::NotFound => ShelfAnswer::Absent,
@@ -83,9 +93,48 @@ impl<R> DiskShelf<R> {
     }
 }
 
-// The first bytes of a file, `count` at most.
-fn read_start<R: Files>(rt: &R, alloc: Global, path: &str, count: u64) -> io::Result<Vec<u8>> {
-    let mut bytes = Vec::new(alloc);
-    File::open(rt, path)?.take(count).read_to_end(&mut bytes)?;
+// The bytes, unless there are more than the limit.
+fn kept_within(bytes: Vec<u8>, limit: u64) -> Result<Vec<u8>, ShelfAnswer>
+    ensures kept { vec_len bytes ≤ limit → result ≡ Ok bytes }
+    ensures too_large { limit < vec_len bytes → result ≡ Err ShelfAnswer.TooLarge }
+{
+    if bytes.len() as u64 > limit {
+        return Err(ShelfAnswer::TooLarge);
+    }
     Ok(bytes)
+}
+
+// The first bytes of a file, `count` at most.
+fn read_start<R: Files>(rt: &R, alloc: Global, path: &str, count: u64) -> io::Result<Vec<u8>>
+    ensures { IfOk result (λ bytes. vec_len bytes ≤ count) }
+{
+    first_bytes(alloc, &mut File::open(rt, path)?, count)
+}
+
+/// The first bytes that a reader has left, `count` at most. It reads no byte more.
+pub(crate) fn first_bytes<F: Read>(alloc: Global, file: &mut F, count: u64) -> io::Result<Vec<u8>>
+    ensures within { IfOk result (λ bytes. vec_len bytes ≤ count) }
+    ensures taken { IfOk result (λ bytes. Consumes (F.remaining file.old) (F.remaining file.new) bytes.items) }
+    ensures to_end { IfOk result (λ bytes. vec_len bytes < count → IsAtEnd (F.remaining file.new)) }
+{
+    let mut bytes = Vec::new(alloc);
+    let mut piece = room_for_a_piece(alloc)?;
+    let mut left = count;
+    while left > 0 {
+        let most = left.min(PIECE as u64) as usize;
+        let part = &mut piece[..most];
+        let read = read_some(file, part)?;
+        if read == 0 {
+            return Ok(bytes);
+        }
+        bytes.extend_from_slice(&part[..read])?;
+        left -= read as u64;
+    }
+    Ok(bytes)
+}
+
+fn room_for_a_piece(alloc: Global) -> Result<Vec<u8>, AllocError>
+    ensures { IfOk result (λ piece. vec_len piece ≡ PIECE) }
+{
+    vec![in alloc; 0u8; PIECE]
 }

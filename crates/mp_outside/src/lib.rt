@@ -14,6 +14,7 @@ mod mem_shelves;
 mod mem_sinks;
 mod mem_sources;
 mod real_streams;
+mod retries;
 mod shelves;
 mod sinks;
 mod sources;

@@ -1,13 +1,17 @@
-//! The system's streams. What goes through them is open; what is said of them is their counts.
+//! The system's streams. They tell no bytes. Their own contracts pass on what a reader or a writer tells, and those of
+//! the system tell nothing.
 
-ghost use Rattle.std.specs.Prelude.{◌≡◌, ◌-◌, ◌^◌, ◌<◌, ◌≤◌, min, length, None, IfOk, IfSome, true};
+ghost use Rattle.std.specs.Prelude.{◌≡◌, ◌+◌, ◌-◌, ◌^◌, ◌<◌, ◌≤◌, [], min, length, None, IfOk, OnOk, OnErr, false};
+ghost use Rattle.std.specs.Prelude.{true};
+ghost use Rattle.std.specs.Io.KnownBytes.{Keeps, ReadConsumes, WriteAppends};
 ghost use Rattle.std.proofs.Common.{rules};
 
 use crate::failures::Failed;
+use crate::retries::{read_some, write_some};
 use crate::sinks::Sink;
 use crate::sources::Source;
 use mp_nums::Memory;
-use std::io::{self, ErrorKind, Printer, Read, Write};
+use std::io::{self, Printer, Read, Write};
 use std::marker::Model;
 
 /// Standard input.
@@ -21,9 +25,22 @@ pub struct StdSource<I> {
 impl<I> Model for StdSource<I> {
     ghost use Rattle.mp_outside.specs.States.{StdSourceState};
 
-    ghost Value = { StdSourceState };
+    ghost Value = { StdSourceState I };
 
-    ghost view = { λ a. record { given = a.given; faults = a.faults } };
+    ghost view = { λ a. record { input = a.input; given = a.given; faults = a.faults } };
+}
+
+impl<I> StdSource<I> {
+    /// What a reader has left, of which nothing was given and no read has failed.
+    pub(crate) fn over(input: I) -> StdSource<I>
+        ensures { result ≡ record { input = input; given = 0; faults = 0 } }
+    {
+        StdSource {
+            input,
+            given: 0,
+            faults: 0,
+        }
+    }
 }
 
 impl<I: Read> StdSource<I> {
@@ -32,11 +49,7 @@ impl<I: Read> StdSource<I> {
         ensures given { IfOk result (λ source. ⟦<StdSource<I> as Source>⟧.given source ≡ 0) }
         ensures faults { IfOk result (λ source. ⟦<StdSource<I> as Source>⟧.faults source ≡ 0) }
     {
-        Ok(StdSource {
-            input: rt.reader(),
-            given: 0,
-            faults: 0,
-        })
+        Ok(StdSource::over(rt.reader()))
     }
 }
 
@@ -51,8 +64,15 @@ impl<I: Read> Source for StdSource<I> {
 
     ghost faults_fit = { Prim.search rules };
 
-    fn read(&mut self, buf: &mut [u8]) -> Result<usize, Failed> {
-        let Some(count) = read_some(&mut self.input, buf) else {
+    fn read(&mut self, buf: &mut [u8]) -> Result<usize, Failed>
+        ensures within { IfOk result (λ count. count ≤ length buf.new) }
+        ensures bytes { ReadConsumes (I.remaining self.old.input) (I.remaining self.new.input) result buf.new }
+        ensures given { IfOk result (λ count. self.new.given ≡ min (self.old.given + count) (2 ^ 128 - 1)) }
+        ensures failed_given { OnErr result (self.new.given ≡ self.old.given) }
+        ensures calm { OnOk result (self.new.faults ≡ self.old.faults) }
+        ensures counted { OnErr result (self.new.faults ≡ min (self.old.faults + 1) (2 ^ 64 - 1)) }
+    {
+        let Ok(count) = read_some(&mut self.input, buf) else {
             self.faults = self.faults.saturating_add(1);
             return Err(Failed);
         };
@@ -72,9 +92,22 @@ pub struct StdSink<O> {
 impl<O> Model for StdSink<O> {
     ghost use Rattle.mp_outside.specs.States.{StdSinkState};
 
-    ghost Value = { StdSinkState };
+    ghost Value = { StdSinkState O };
 
-    ghost view = { λ a. record { flushed = a.is_flushed; faults = a.faults } };
+    ghost view = { λ a. record { output = a.output; flushed = a.is_flushed; faults = a.faults } };
+}
+
+impl<O> StdSink<O> {
+    /// A writer, which is flushed and of which no write has failed.
+    pub(crate) fn over(output: O) -> StdSink<O>
+        ensures { result ≡ record { output = output; flushed = true; faults = 0 } }
+    {
+        StdSink {
+            output,
+            is_flushed: true,
+            faults: 0,
+        }
+    }
 }
 
 impl<'a, P: Print> StdSink<Printer<'a, P>> {
@@ -83,11 +116,7 @@ impl<'a, P: Print> StdSink<Printer<'a, P>> {
         ensures flushed { IfOk result (λ sink. ⟦<StdSink<Printer<'a, P>> as Sink>⟧.flushed sink ≡ true) }
         ensures faults { IfOk result (λ sink. ⟦<StdSink<Printer<'a, P>> as Sink>⟧.faults sink ≡ 0) }
     {
-        Ok(StdSink {
-            output: io::writer(rt),
-            is_flushed: true,
-            faults: 0,
-        })
+        Ok(StdSink::over(io::writer(rt)))
     }
 }
 
@@ -102,11 +131,20 @@ impl<O: Write> Sink for StdSink<O> {
 
     ghost faults_fit = { Prim.search rules };
 
-    fn write(&mut self, bytes: &[u8]) -> Result<usize, Failed> {
+    fn write(&mut self, bytes: &[u8]) -> Result<usize, Failed>
+        ensures within { IfOk result (λ count. count ≤ length bytes.now) }
+        ensures some { 0 < length bytes.now → IfOk result (λ count. 0 < count) }
+        ensures bytes { WriteAppends (O.contents self.old.output) (O.contents self.new.output) result bytes.now }
+        ensures flushed { 0 < length bytes.now → OnOk result (self.new.flushed ≡ false) }
+        ensures none_flushed { bytes.now ≡ [] → self.new.flushed ≡ self.old.flushed }
+        ensures failed_flushed { OnErr result (self.new.flushed ≡ self.old.flushed) }
+        ensures calm { OnOk result (self.new.faults ≡ self.old.faults) }
+        ensures counted { OnErr result (self.new.faults ≡ min (self.old.faults + 1) (2 ^ 64 - 1)) }
+    {
         if bytes.is_empty() {
             return Ok(0);
         }
-        let Some(count) = write_some(&mut self.output, bytes) else {
+        let Ok(count) = write_some(&mut self.output, bytes) else {
             self.faults = self.faults.saturating_add(1);
             return Err(Failed);
         };
@@ -114,7 +152,13 @@ impl<O: Write> Sink for StdSink<O> {
         Ok(count)
     }
 
-    fn flush(&mut self) -> Result<(), Failed> {
+    fn flush(&mut self) -> Result<(), Failed>
+        ensures flushed { OnOk result (self.new.flushed ≡ true) }
+        ensures failed_flushed { OnErr result (self.new.flushed ≡ self.old.flushed) }
+        ensures bytes { Keeps (O.contents self.old.output) (O.contents self.new.output) }
+        ensures calm { OnOk result (self.new.faults ≡ self.old.faults) }
+        ensures counted { OnErr result (self.new.faults ≡ min (self.old.faults + 1) (2 ^ 64 - 1)) }
+    {
         if self.output.flush().is_err() {
             self.faults = self.faults.saturating_add(1);
             return Err(Failed);
@@ -122,34 +166,4 @@ impl<O: Write> Sink for StdSink<O> {
         self.is_flushed = true;
         Ok(())
     }
-}
-
-// One read, again where a signal interrupts it.
-fn read_some<I: Read>(input: &mut I, buf: &mut [u8]) -> Option<usize>
-    ensures { IfSome result (λ count. count ≤ length buf.new) }
-{
-    for _ in 0..u64::MAX {
-        match input.read(buf) {
-            Ok(count) => return Some(count),
-            Err(error) if error.kind() == ErrorKind::Interrupted => {}
-            Err(_) => return None,
-        }
-    }
-    None
-}
-
-// One write of at least a byte, again where a signal interrupts it.
-fn write_some<O: Write>(output: &mut O, bytes: &[u8]) -> Option<usize>
-    ensures within { IfSome result (λ count. count ≤ length bytes.now) }
-    ensures some { IfSome result (λ count. 0 < count) }
-{
-    for _ in 0..u64::MAX {
-        match output.write(bytes) {
-            Ok(0) => return None,
-            Ok(count) => return Some(count),
-            Err(error) if error.kind() == ErrorKind::Interrupted => {}
-            Err(_) => return None,
-        }
-    }
-    None
 }

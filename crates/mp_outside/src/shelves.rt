@@ -25,7 +25,10 @@ pub trait Shelf {
             IsSomeAnd (map.get files name.now) (λ bytes. limit < length bytes)) }
 
         ensures files { files self.new ≡ files self.old }
+
+        // A fetch that failed is counted, and no other.
         ensures faults { faults self.old ≤ faults self.new }
+        ensures calm { ¬ IsErrOf result ShelfAnswer.Failed → faults self.new ≡ faults self.old }
         ensures cause { IsErrOf result ShelfAnswer.Failed → Rose (faults self.old) (faults self.new) };
 
     ghost faults_fit: { (shelf : Self) → faults shelf ≤ 2 ^ 64 - 1 };

@@ -36,7 +36,10 @@ pub trait Sink {
         ensures failed_flushed { OnErr result (flushed self.new ≡ flushed self.old) }
 
         ensures room { room self.new ≡ room self.old }
+
+        // A write that failed is counted, and no other.
         ensures faults { faults self.old ≤ faults self.new }
+        ensures calm { OnOk result (faults self.new ≡ faults self.old) }
         ensures cause { OnErr result (Rose (faults self.old) (faults self.new)) };
 
     /// Brings what was written to where it goes.
@@ -45,7 +48,10 @@ pub trait Sink {
         ensures failed_flushed { OnErr result (flushed self.new ≡ flushed self.old) }
         ensures written { written self.new ≡ written self.old }
         ensures room { room self.new ≡ room self.old }
+
+        // A flush that failed is counted, and no other.
         ensures faults { faults self.old ≤ faults self.new }
+        ensures calm { OnOk result (faults self.new ≡ faults self.old) }
         ensures cause { OnErr result (Rose (faults self.old) (faults self.new)) };
 
     ghost faults_fit: { (sink : Self) → faults sink ≤ 2 ^ 64 - 1 };

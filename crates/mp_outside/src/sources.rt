@@ -1,4 +1,4 @@
-ghost use Rattle.std.specs.Prelude.{◌≡◌, ℕ, ◌+◌, ◌-◌, ◌^◌, ◌<◌, ◌≤◌, min, List, [], length, take, drop, Option, Some, IfOk, OnErr};
+ghost use Rattle.std.specs.Prelude.{◌≡◌, ℕ, ◌+◌, ◌-◌, ◌^◌, ◌<◌, ◌≤◌, min, List, [], length, take, drop, Option, Some, IfOk, OnOk, OnErr};
 ghost use Rattle.std.specs.Option.{ForSome};
 ghost use Rattle.mp_outside.specs.Counts.{Rose};
 
@@ -30,7 +30,9 @@ pub trait Source {
         ensures failed_given { OnErr result (given self.new ≡ given self.old) }
         ensures failed_left { OnErr result (left self.new ≡ left self.old) }
 
+        // A read that failed is counted, and no other.
         ensures faults { faults self.old ≤ faults self.new }
+        ensures calm { OnOk result (faults self.new ≡ faults self.old) }
         ensures cause { OnErr result (Rose (faults self.old) (faults self.new)) };
 
     ghost given_fits: { (source : Self) → given source ≤ 2 ^ 128 - 1 };

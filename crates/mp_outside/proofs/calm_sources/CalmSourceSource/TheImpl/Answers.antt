@@ -1,4 +1,4 @@
-use Rattle.std.proofs.Common.{◌≡◌, length, arith, rules, ◌∙◌, sym}
+use Rattle.std.proofs.Common.{◌≡◌, length, arith, rules, refl, ◌∙◌, sym}
 use Rattle.std.proofs.lemmas.List.{nil_from_length}
 use Rattle.std.proofs.lemmas.Option.{same_Some}
 use Rattle.mp_outside.proofs.calm_sources.CalmSourceSource.TheImpl.Goals as goal
@@ -18,5 +18,6 @@ read-tells c =
       failed_given = rw c.ensures.count tt;
       failed_left = rw c.ensures.count tt;
       faults = search rules;
+      calm = rw c.ensures.count refl;
       cause = rw c.ensures.count tt;
     }

@@ -1,4 +1,4 @@
-use Rattle.std.proofs.Common.{◌≡◌, ◌≤◌, ℕ, min, length, take, drop, replicate, Some, arith, rules, ◌∙◌, sym, ap}
+use Rattle.std.proofs.Common.{◌≡◌, ◌≤◌, ℕ, min, length, take, drop, replicate, Some, arith, rules, refl, ◌∙◌, sym, ap}
 use Rattle.std.proofs.lemmas.List.{take-replicate, drop-replicate}
 use Rattle.std.proofs.lemmas.Option.{same_Some}
 use Rattle.mp_outside.proofs.loop_sources.LoopSourceSource.TheImpl.Goals as goal
@@ -22,5 +22,6 @@ read-tells c =
       failed_given = rw c.ensures.count tt;
       failed_left = rw c.ensures.count tt;
       faults = search rules;
+      calm = rw c.ensures.count refl;
       cause = rw c.ensures.count tt;
     }

@@ -2,7 +2,7 @@ use Rattle.std.proofs.Common.{◌≤◌, ◌+◌, ◌∙◌, ap, length, take, a
 use Rattle.std.proofs.lemmas.List.{length-take}
 use Rattle.std.proofs.lemmas.Result.{IfOk-weaker, on_err_weaker}
 use Rattle.mp_outside.proofs.Outcomes.{IfOk-both, either}
-use Rattle.mp_outside.proofs.PlannedLemmas.{faults-after_call, cause-after_call}
+use Rattle.mp_outside.proofs.PlannedLemmas.{faults-after_call, calm-after_call, cause-after_call}
 use Rattle.mp_outside.proofs.SinkLemmas.{written-after_writing, flushed-after_writing, room-after_writing, after_writing-none}
 use Rattle.mp_outside.proofs.mem_sinks.MemSinkSink.TheImpl.Goals as goal
 
@@ -21,5 +21,6 @@ write-tells c = record {
   failed_flushed = on_err_weaker c.result (λ same. ap (λ sink. sink.flushed) same) c.ensures.failed;
   room = either c.result _ (λ n after. ap (λ sink. sink.room) after ∙ room-after_writing (take n c.args.bytes.now) _) (λ same. ap (λ sink. sink.room) same) c.ensures.after c.ensures.failed;
   faults = faults-after_call _ _ c.ensures.plan;
+  calm = calm-after_call c.result _ _ c.ensures.plan c.ensures.fails;
   cause = cause-after_call c.result _ _ c.ensures.plan c.ensures.fails;
 }

@@ -3,7 +3,7 @@ use Rattle.std.proofs.lemmas.List.{nil_from_length}
 use Rattle.std.proofs.lemmas.Option.{same_Some}
 use Rattle.std.proofs.lemmas.Result.{IfOk-weaker, on_err_weaker}
 use Rattle.mp_outside.proofs.Outcomes.{IfOk-both}
-use Rattle.mp_outside.proofs.PlannedLemmas.{faults-after_call, cause-after_call}
+use Rattle.mp_outside.proofs.PlannedLemmas.{faults-after_call, calm-after_call, cause-after_call}
 use Rattle.mp_outside.proofs.mem_sources.MemSourceSource.TheImpl.Goals as goal
 
 pub read-tells : goal.read-tells
@@ -18,5 +18,6 @@ read-tells c = record {
   failed_given = on_err_weaker c.result (λ same. rw same refl) c.ensures.failed;
   failed_left = on_err_weaker c.result (λ same. rw same refl) c.ensures.failed;
   faults = faults-after_call _ _ c.ensures.plan;
+  calm = calm-after_call c.result _ _ c.ensures.plan c.ensures.fails;
   cause = cause-after_call c.result _ _ c.ensures.plan c.ensures.fails;
 }

@@ -1,0 +1,209 @@
+use super::{read_four, read_to_end, write_and_flush};
+use crate::{Failed, Sink, Source, StdSink, StdSource};
+use std::alloc::Allocator;
+use std::cell::RefCell;
+use std::fmt::Display;
+use std::io::{self, BufRead, ErrorKind, Lines, Print, Read, Write};
+use std::test::Fail;
+
+// What a reader of these tests does at one read.
+#[derive(Clone, Copy)]
+enum Turn {
+    Gives(&'static [u8]),
+    IsInterrupted,
+    Fails,
+}
+
+// A reader that takes its turns, and is then at its end.
+#[derive(Drop)]
+struct Script {
+    turns: &'static [Turn],
+}
+
+impl Read for Script {
+    fn read(&mut self, buf: &mut [u8]) -> io::Result<usize> {
+        let Some((turn, rest)) = self.turns.split_first() else {
+            return Ok(0);
+        };
+        self.turns = rest;
+        match turn {
+            Turn::Gives(bytes) => {
+                let count = bytes.len().min(buf.len());
+                buf[..count].copy_from_slice(&bytes[..count]);
+                Ok(count)
+            }
+            Turn::IsInterrupted => Err(ErrorKind::Interrupted.into()),
+            Turn::Fails => Err(ErrorKind::BrokenPipe.into()),
+        }
+    }
+}
+
+#[test]
+fn a_failed_read_is_no_end(rt: HostRuntime) -> Result<(), Fail> {
+    let turns = &[Turn::Gives(b"ab"), Turn::Fails, Turn::Gives(b"cd")];
+    let mut source = StdSource::over(Script { turns });
+    assert_eq!(rt; read_four(&mut source), Ok(*b"ab.."));
+    assert_eq!(rt; read_four(&mut source), Err(Failed));
+    assert_eq!(rt; read_four(&mut source), Ok(*b"cd.."));
+    assert_eq!(rt; source.read(&mut [0; 4]), Ok(0));
+    Ok(())
+}
+
+#[test]
+fn an_interrupted_read_is_tried_again(rt: HostRuntime) -> Result<(), Fail> {
+    let turns = &[
+        Turn::IsInterrupted,
+        Turn::Gives(b"ab"),
+        Turn::IsInterrupted,
+        Turn::IsInterrupted,
+        Turn::Fails,
+        Turn::IsInterrupted,
+    ];
+    let mut source = StdSource::over(Script { turns });
+    assert_eq!(rt; read_four(&mut source), Ok(*b"ab.."));
+    assert_eq!(rt; read_four(&mut source), Err(Failed));
+    assert_eq!(rt; source.read(&mut [0; 4]), Ok(0));
+    Ok(())
+}
+
+// A writer that notes what it is given, three bytes at a time. Its second write finds it full, its third is interrupted
+// and its fifth takes nothing. Its first flush fails.
+#[derive(Drop)]
+struct Notebook {
+    noted: Vec<u8>,
+    writes: u32,
+    flushes: u32,
+}
+
+impl Write for Notebook {
+    fn write(&mut self, bytes: &[u8]) -> io::Result<usize> {
+        self.writes = self.writes.saturating_add(1);
+        match self.writes {
+            2 => Err(ErrorKind::StorageFull.into()),
+            3 => Err(ErrorKind::Interrupted.into()),
+            5 => Ok(0),
+            _ => {
+                let count = bytes.len().min(3);
+                self.noted.extend_from_slice(&bytes[..count])?;
+                Ok(count)
+            }
+        }
+    }
+
+    fn flush(&mut self) -> io::Result<()> {
+        self.flushes = self.flushes.saturating_add(1);
+        if self.flushes == 1 {
+            return Err(ErrorKind::StorageFull.into());
+        }
+        Ok(())
+    }
+}
+
+#[test]
+fn what_a_sink_takes_reaches_its_writer(rt: HostRuntime) -> Result<(), Fail> {
+    let mut notebook = Notebook {
+        noted: Vec::new(rt.alloc()),
+        writes: 0,
+        flushes: 0,
+    };
+    let mut sink = StdSink::over(&mut notebook);
+    assert_eq!(rt; sink.write(b"012345"), Ok(3));
+    assert_eq!(rt; sink.write(b"345"), Err(Failed));
+    assert_eq!(rt; sink.write(b"345"), Ok(3));
+    assert_eq!(rt; sink.write(b"67"), Err(Failed));
+    assert_eq!(rt; sink.flush(), Err(Failed));
+    assert_eq!(rt; write_and_flush(&mut sink, b"6789"), Ok(3));
+    assert_eq!(rt; sink.write(b""), Ok(0));
+    assert_eq!(rt; write_and_flush(&mut sink, b"9"), Ok(1));
+    assert_eq!(rt; notebook.noted.as_slice(), b"0123456789".as_slice());
+    assert_eq!(rt; (notebook.writes, notebook.flushes), (7, 3));
+    Ok(())
+}
+
+// A runtime whose standard input holds bytes.
+#[derive(Drop)]
+struct Keyboard {
+    typed: &'static [u8],
+}
+
+impl Input for Keyboard {
+    type Reader = &'static [u8];
+
+    fn read_line<A: Allocator + Clone>(&self, buf: &mut String<A>) -> io::Result<usize> {
+        self.reader().read_line(buf)
+    }
+
+    fn lines<A: Allocator>(&self, alloc: A) -> Lines<&'static [u8], A> {
+        self.reader().lines(alloc)
+    }
+
+    fn reader(&self) -> &'static [u8] {
+        self.typed
+    }
+}
+
+// Tests run with nothing on the system's standard input.
+#[test]
+fn standard_input_is_read_to_its_end(rt: HostRuntime) -> Result<(), Fail> {
+    let alloc = rt.alloc();
+    let keyboard = Keyboard {
+        typed: b"matrix profile",
+    };
+    let typed = read_to_end(alloc, &mut StdSource::new(&keyboard)?)?.ok_or("a read failed")?;
+    assert_eq!(rt; typed.as_slice(), b"matrix profile".as_slice());
+    let none = read_to_end(alloc, &mut StdSource::new(&rt)?)?.ok_or("a read failed")?;
+    assert!(rt; none.is_empty());
+    Ok(())
+}
+
+// A runtime that prints on paper, four bytes at a time, until it is full.
+#[derive(Drop)]
+struct Paper {
+    printed: RefCell<Vec<u8>>,
+    room: usize,
+}
+
+impl Print for Paper {
+    fn print<D: Display + Drop>(&self, _value: D) -> io::Result<()> {
+        Err(ErrorKind::Unsupported.into())
+    }
+
+    fn println<D: Display + Drop>(&self, _value: D) -> io::Result<()> {
+        Err(ErrorKind::Unsupported.into())
+    }
+
+    fn write_all(&self, _bytes: &[u8]) -> io::Result<()> {
+        Err(ErrorKind::Unsupported.into())
+    }
+
+    fn write_some(&self, bytes: &[u8]) -> io::Result<usize> {
+        let Ok(mut printed) = self.printed.try_borrow_mut() else {
+            return Err(ErrorKind::ResourceBusy.into());
+        };
+        let count = bytes.len().min(4);
+        if printed.len().saturating_add(count) > self.room {
+            return Err(ErrorKind::StorageFull.into());
+        }
+        printed.extend_from_slice(&bytes[..count])?;
+        Ok(count)
+    }
+}
+
+#[test]
+fn standard_output_takes_bytes(rt: HostRuntime) -> Result<(), Fail> {
+    let line = b"a line on standard output\n";
+    assert_eq!(rt; write_and_flush(&mut StdSink::new(&rt)?, line)?, line.len());
+
+    let paper = Paper {
+        printed: RefCell::new(Vec::new(rt.alloc())),
+        room: 8,
+    };
+    let mut sink = StdSink::new(&paper)?;
+    assert_eq!(rt; write_and_flush(&mut sink, b"012345")?, 4);
+    assert_eq!(rt; write_and_flush(&mut sink, b"45")?, 2);
+    assert!(rt; write_and_flush(&mut sink, b"6789").is_err());
+    assert_eq!(rt; write_and_flush(&mut sink, b"67")?, 2);
+    let printed = paper.printed.into_inner();
+    assert_eq!(rt; printed.as_slice(), b"01234567".as_slice());
+    Ok(())
+}
