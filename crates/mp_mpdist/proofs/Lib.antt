@@ -1,0 +1,4 @@
+pub mod Counts
+pub mod PlaceLaws
+pub mod Rising
+pub mod Selected
