@@ -1,0 +1,4 @@
+pub mod Columns
+pub mod Chains
+pub mod Laws
+pub mod Examples
