@@ -1,0 +1,4 @@
+pub mod Sums
+pub mod PlainNumbers
+pub mod CloseNumbers
+pub mod PlainDistances

@@ -1,0 +1,12 @@
+//! The distances of a pattern to each window of a series.
+#![tactic(auto)]
+
+mod kernels;
+mod plain;
+mod refusal;
+mod slides;
+#[cfg(test)]
+mod tests;
+
+pub use refusal::SlideRefusal;
+pub use slides::distances;
