@@ -103,7 +103,7 @@ module _ {X : Type 0} (cmp : X → X → Ordering) (order : IsTotalOrder cmp) wh
   abbrev pub IsFirst : X → List X → Type 0
   IsFirst x xs = (y : X) → Contains xs y → is_gt (cmp x y) ≡ false
 
-  first_itself : (x : X) → is_gt (cmp x x) ≡ false
+  pub first_itself : (x : X) → is_gt (cmp x x) ≡ false
   first_itself x = ap is_gt (tied_itself order x)
 
   -- what comes first doesn't come behind
@@ -123,7 +123,7 @@ module _ {X : Type 0} (cmp : X → X → Ordering) (order : IsTotalOrder cmp) wh
         (λ later. upto order x y z (sym (swapped x y) ∙ e) (first z later)) (contains_cases x z xs k),
   )
 
-  none_first : (xs : List X) → first_of cmp xs ≡ None → xs ≡ []
+  pub none_first : (xs : List X) → first_of cmp xs ≡ None → xs ≡ []
   unfolding first_of
   none_first [] e = refl
   none_first (x ∷ xs) e = cc
