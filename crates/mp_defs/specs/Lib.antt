@@ -1,3 +1,4 @@
+pub mod Limits
 pub mod Series
 pub mod Window
 pub mod Distance

@@ -17,7 +17,7 @@ const PARTS: u64 = 20;
 ///
 /// The distances of both stand in rising order, and behind them the windows that have none. The item at a twentieth of
 /// the samples of both series is the answer, or the greatest distance where that item has none. It is `None` exactly
-/// where there is no distance. The measure is that of the papers; the exact place and the greatest distance in place of
+/// where there is no distance. The measure is the known one; the exact place and the greatest distance in place of
 /// a missing one are this project's own rule.
 pub fn mpdist(
     alloc: Global,

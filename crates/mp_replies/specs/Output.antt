@@ -1,8 +1,10 @@
 -- Whole runs: what is written for an input.
-use Rattle.std.specs.Prelude.{ℕ, ◌+◌, Bool, false, ◌||◌, is_some, List, [], ◌∷◌, ◌++◌, codes, Option, Some, None}
+use Rattle.std.specs.Prelude.{ℕ, ◌+◌, Bool, true, false, ◌||◌, is_some, List, [], ◌∷◌, codes, if◌then◌else◌, Option, Some, None}
+use Rattle.std.specs.List.{concat}
+use Rattle.mp_bytes.specs.Lines.{lines}
 use Rattle.mp_replies.specs.Words.{Setup, job}
-use Rattle.mp_replies.specs.Lines.{lines}
 use Rattle.mp_replies.specs.State.{Files, State, opening}
+use Rattle.mp_replies.specs.Answer.{Answer, Silent, Refused, Accepted, Ended}
 use Rattle.mp_replies.specs.Step.{cause, after, answer}
 use Rattle.mp_replies.specs.Report.{text_of}
 
@@ -10,29 +12,65 @@ use Rattle.mp_replies.specs.Report.{text_of}
 unfoldable pub reply : State → List ℕ → Files → List ℕ
 reply state line files = text_of (state.lines + 1) (answer state line files)
 
--- the reports of lines, each from the state after the lines before
-abbrev pub reports : State → Files → List (List ℕ) → List ℕ
-reports state files [] = []
-reports state files (line ∷ rest) = reply state line files ++ reports (after state line files) files rest
+abbrev pub ends_run : Answer → Bool
+ends_run Silent = false
+ends_run (Refused cause) = false
+ends_run (Accepted report) = false
+ends_run (Ended report) = true
 
--- the state after lines
+-- whether no line behind this one is run
+unfoldable pub ends : State → List ℕ → Files → Bool
+ends state line files = ends_run (answer state line files)
+
+-- ---- lines one behind the other, each in the state behind the lines before
+
+-- the report of each
+abbrev pub replies : State → Files → List (List ℕ) → List (List ℕ)
+replies state files [] = []
+replies state files (line ∷ rest) = reply state line files ∷ replies (after state line files) files rest
+
+-- the state behind them
 abbrev pub state_after : State → Files → List (List ℕ) → State
 state_after state files [] = state
 state_after state files (line ∷ rest) = state_after (after state line files) files rest
 
--- whether one of the lines is refused
+-- whether one of them is refused
 abbrev pub some_refused : State → Files → List (List ℕ) → Bool
 some_refused state files [] = false
 some_refused state files (line ∷ rest) = is_some (cause state line files) || some_refused (after state line files) files rest
 
--- what is written for words outside the grammar
+-- whether one of them ends the run
+abbrev pub some_ends : State → Files → List (List ℕ) → Bool
+some_ends state files [] = false
+some_ends state files (line ∷ rest) = ends state line files || some_ends (after state line files) files rest
+
+-- those up to and with the first that ends the run
+abbrev pub until_end : State → Files → List (List ℕ) → List (List ℕ)
+until_end state files [] = []
+until_end state files (line ∷ rest) =
+    line ∷ (if ends state line files then [] else until_end (after state line files) files rest)
+
+-- the reports, one behind the other
+abbrev pub reports : State → Files → List (List ℕ) → List ℕ
+reports state files ran = concat (replies state files ran)
+
+-- ---- all that is written
+
+-- for words outside the grammar
 abbrev pub usage : List ℕ
 usage = codes "mprof: words: --window M [--scale D] [--tile T] [--workers W] [--generate NUMBER --count N]\n"
 
-abbrev pub session_output : Option Setup → Files → List ℕ → List ℕ
-session_output None files bytes = usage
-session_output (Some setup) files bytes = reports (opening setup) files (lines bytes)
+-- the lines of an input that are run
+abbrev pub lines_run : State → Files → List ℕ → List (List ℕ)
+lines_run state files bytes = until_end state files (lines bytes)
 
--- all that the program writes, by its words, the files and its input
+abbrev pub session_output : State → Files → List ℕ → List ℕ
+session_output state files bytes = reports state files (lines_run state files bytes)
+
+abbrev pub output_by : Option Setup → Files → List ℕ → List ℕ
+output_by None files bytes = usage
+output_by (Some setup) files bytes = session_output (opening setup.window setup.scale) files bytes
+
+-- by the words, the files and the input
 unfoldable pub output : List (List ℕ) → Files → List ℕ → List ℕ
-output words files bytes = session_output (job words) files bytes
+output words files bytes = output_by (job words) files bytes

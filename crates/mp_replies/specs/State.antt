@@ -4,7 +4,6 @@ use Rattle.std.specs.FinMap.{FinMap}
 use Rattle.std.specs.Cmp.Lexicographic.{slice_cmp}
 use Rattle.std.specs.Ordering.{nat_cmp}
 use Rattle.mp_defs.specs.Series.{Series}
-use Rattle.mp_replies.specs.Words.{Setup}
 
 -- the files that a session may load, by name
 abbrev pub Files : Type 0
@@ -26,11 +25,12 @@ pub record State : Type 0 where
   pub stores : List Store
 
 -- at the start slot 0 has one empty channel, and the others are closed
-abbrev pub opening : Setup → State
-opening setup = record { window = setup.window; scale = setup.scale; lines = 0; begun = false; stores = Open ([] ∷ []) ∷ replicate 7 Closed }
+abbrev pub opening : ℕ → ℕ → State
+opening window scale =
+    record { window = window; scale = scale; lines = 0; begun = false; stores = Open ([] ∷ []) ∷ replicate 7 Closed }
 
-abbrev pub store_at : State → ℕ → Store
-store_at state slot = elim (slice_get state.stores slot) as (λ _. Store) [ None ↦ Closed | Some store ↦ store ]
+abbrev pub store_at : List Store → ℕ → Store
+store_at stores slot = elim (slice_get stores slot) as (λ _. Store) [ None ↦ Closed | Some store ↦ store ]
 
 -- the first channel of a store, empty where there is none
 abbrev pub first_channel : Store → Series
@@ -38,5 +38,5 @@ first_channel Closed = []
 first_channel (Open []) = []
 first_channel (Open (channel ∷ channels)) = channel
 
-abbrev pub series_at : State → ℕ → Series
-series_at state slot = first_channel (store_at state slot)
+abbrev pub series_at : List Store → ℕ → Series
+series_at stores slot = first_channel (store_at stores slot)

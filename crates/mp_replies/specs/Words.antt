@@ -1,21 +1,32 @@
 -- The words that start the program: --window, and the length of a window.
-use Rattle.std.specs.Prelude.{ℕ, ◌&&◌, nat_le, List, [], ◌∷◌, length, codes, if◌then◌else◌, Option, Some, None, option_and_then}
-use Rattle.mp_replies.specs.Bytes.{same_text, whole_of}
+use Rattle.std.specs.Prelude.{ℕ, nat_le, List, [], ◌∷◌, codes, if◌then◌else◌, Option, Some, None, option_map, option_and_then}
+use Rattle.mp_bytes.specs.Bytes.{same_text}
+use Rattle.mp_bytes.specs.Digits.{number_of}
+use Rattle.mp_defs.specs.Limits.{min_window, max_window}
+use Rattle.mp_replies.specs.Limits.{default_scale, default_tile, default_workers, max_word_digits}
 
--- what the words ask for: the length of a window in samples, and how many digits of a sample stand behind the point
+-- what a run is started with
 pub record Setup : Type 0 where
+  -- samples in a window
   pub window : ℕ
+  -- digits behind the point
   pub scale : ℕ
+  -- diagonals in a tile
+  pub tile : ℕ
+  pub workers : ℕ
 
--- at most 20 digits that spell a window's length
-abbrev pub window_of : List ℕ → Option ℕ
-window_of text = if nat_le (length text) 20 then option_and_then (λ n. if nat_le 3 n && nat_le n 16384 then Some n else None) (whole_of text) else None
+-- the number that a word spells, within these bounds
+abbrev pub value_between : ℕ → ℕ → List ℕ → Option ℕ
+value_between low high word =
+    option_and_then (λ n. if nat_le low n then Some n else None) (number_of max_word_digits high word)
 
-abbrev pub setup_of : List ℕ → Option Setup
-setup_of text = elim (window_of text) as (λ _. Option Setup) [ None ↦ None | Some window ↦ Some record { window = window; scale = 0 } ]
+abbrev pub setup_with : ℕ → Setup
+setup_with window =
+    record { window = window; scale = default_scale; tile = default_tile; workers = default_workers }
 
 abbrev pub setup_for : List ℕ → List ℕ → Option Setup
-setup_for name value = if same_text name (codes "--window") then setup_of value else None
+setup_for name value =
+    if same_text name (codes "--window") then option_map setup_with (value_between min_window max_window value) else None
 
 -- none for words outside the grammar
 abbrev pub job : List (List ℕ) → Option Setup

@@ -13,6 +13,6 @@ pub use examples::{
     refused_piece_output, short_output, spelled_numbers,
 };
 pub use laws::{
-    answers_refuse_by_cause, long_lines_are_cut, quiet_lines_are_silent,
-    refused_lines_change_nothing,
+    answers_refuse_by_cause, appends_add_up, bad_items_are_the_first, long_lines_are_cut,
+    quiet_lines_are_silent, refused_lines_change_nothing, tile_and_workers_change_nothing,
 };

@@ -48,17 +48,18 @@ pub struct Samples {
 impl Model for Samples {
     ghost use Rattle.std.specs.Prelude.{◌≤◌, length};
     ghost use Rattle.mp_series.specs.Samples.{Counted};
-    ghost use Rattle.mp_series.specs.declared.limits.TheConstants.{MAX_SAMPLES};
+    ghost use Rattle.mp_defs.specs.Limits.{max_samples};
 
     ghost Value = { Counted };
 
     ghost view = { λ s. record { items = s.stored.items; reads = s.reads; spare = s.stored.spare } };
 
-    ghost invariant = { λ s. length s.stored.items ≤ MAX_SAMPLES };
+    ghost invariant = { λ s. length s.stored.items ≤ max_samples };
 }
 
 impl Samples {
     ghost use Rattle.std.specs.Borrow.{sem};
+    ghost use Rattle.mp_defs.specs.Limits.{max_samples};
     ghost use Rattle.mp_series.specs.Lending.{CountsEveryPair};
 
     /// The empty series, of which nothing was read. It takes no memory.
@@ -76,7 +77,7 @@ impl Samples {
     pub fn of(alloc: Global, series: &[Sample]) -> Result<Samples, PushRefusal>
         ensures items { IfOk result (λ samples. samples.items ≡ series.now) }
         ensures reads { IfOk result (λ samples. samples.reads ≡ 0) }
-        ensures full { IsErrOf result PushRefusal.Full ↔ (MAX_SAMPLES < length series.now) }
+        ensures full { IsErrOf result PushRefusal.Full ↔ (max_samples < length series.now) }
     {
         if MAX_SAMPLES < series.len() as u64 {
             return Err(PushRefusal::Full);
@@ -103,9 +104,9 @@ impl Samples {
         ensures ok { OnOk result (self.new.items ≡ self.old.items ++ sample ∷ []) }
         ensures err { OnErr result (self.new.items ≡ self.old.items) }
         ensures reads { self.new.reads ≡ self.old.reads }
-        ensures full { IsErrOf result PushRefusal.Full ↔ (length self.old.items ≡ MAX_SAMPLES) }
+        ensures full { IsErrOf result PushRefusal.Full ↔ (length self.old.items ≡ max_samples) }
         ensures spare { self.old.spare ≤ self.new.spare + 1 }
-        ensures succeeds { 0 < self.old.spare → length self.old.items < MAX_SAMPLES → IsOk result }
+        ensures succeeds { 0 < self.old.spare → length self.old.items < max_samples → IsOk result }
     {
         if self.len() == MAX_SAMPLES {
             return Err(PushRefusal::Full);
@@ -118,7 +119,7 @@ impl Samples {
     pub fn lend(&mut self) -> &[Sample]
         ensures* reads { sem 𝓛 (CountsEveryPair self.entry) }
         ensures items { result.now ≡ self.old.items }
-        ensures within { length result.now ≤ MAX_SAMPLES }
+        ensures within { length result.now ≤ max_samples }
         ensures reads_within { self.old.reads < 2 ^ 128 }
     {
         let count = self.stored.as_slice().len() as u128;
@@ -129,7 +130,7 @@ impl Samples {
     /// How many samples there are. It is no read.
     pub fn len(&self) -> u64
         ensures length { result ≡ length self.now.items }
-        ensures within { result ≤ MAX_SAMPLES }
+        ensures within { result ≤ max_samples }
     {
         self.stored.as_slice().len() as u64
     }

@@ -1,10 +1,6 @@
-pub mod FeedRuns
-pub mod FeedSteps
-pub mod FieldLemmas
-pub mod NumberLemmas
-pub mod ReadLemmas
+pub mod ItemLemmas
 pub mod ReportLemmas
 pub mod RunLemmas
 pub mod ServeLemmas
-pub mod SessionLemmas
+pub mod StepLemmas
 pub mod UnderWay

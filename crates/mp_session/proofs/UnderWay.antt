@@ -1,152 +1,213 @@
--- A run between two reads.
-use Rattle.std.proofs.Common.{◌≡◌, ℕ, ◌+◌, ◌<◌, ◌≤◌, Bool, List, [], ◌++◌, length, take, drop, arith, ap, ◌∙◌, sym, subst, append_assoc}
-use Rattle.std.specs.Prelude.{Option, Some}
-use Rattle.std.proofs.lemmas.List.{take_all, take-append-le, take-append-drop, length-drop}
-use Rattle.mp_replies.specs.Words.{Setup}
-use Rattle.mp_replies.specs.State.{Files, opening}
-use Rattle.mp_replies.specs.Output.{reports}
-use Rattle.mp_session.specs.Feeding.{Holding, nothing, lines_left}
-use Rattle.mp_session.specs.Pieces.{IsReadOf, IsPieceOf}
-use Rattle.mp_session.specs.Sessions.{Held}
-use Rattle.mp_session.specs.Serving.{HasReports, HasFront, AreQuiet, Advances, IsLeftOf, IsUnderWay}
-use Rattle.mp_session.specs.declared.top.Piece.{Piece}
-use Rattle.mp_session.specs.declared.top.Piece.TheVariants.{End, Within, PastLimit}
-use Rattle.mp_session.proofs.RunLemmas.{front_longer}
+-- A run between two lines.
+use Rattle.std.proofs.Common.{◌≡◌, ℕ, Bool, true, false, ◌||◌, List, [], ◌∷◌, ◌++◌, length, refl, arith, ap, ◌∙◌, sym, subst, append_assoc, append-nil}
+use Rattle.std.specs.Prelude.{Option, if◌then◌else◌}
+use Rattle.std.proofs.Math.Bool.{or-false}
+use Rattle.mp_outside.specs.declared.sinks.Sink.{Ghosts}
+use Rattle.mp_feed.specs.declared.readers.Next.TheVariants.{Line, End, PastLimit}
+use Rattle.mp_feed.specs.Reading.{Reading, at_start, after_line, bit, Gave, IsNext, IsFailed}
+use Rattle.mp_feed.specs.ReadingLaws.{gave_none, gave_on, dry_on, line_comes, lines_at_end, lines_at_rest, lines_so_far}
+use Rattle.mp_replies.specs.State.{Files, State}
+use Rattle.mp_replies.specs.Step.{after}
+use Rattle.mp_replies.specs.Output.{ends, some_ends, state_after, until_end}
+use Rattle.mp_session.specs.Sessions.{Held, StandsFor}
+use Rattle.mp_session.specs.Running.{Course, WasBegun, WereRun, course_at}
+use Rattle.mp_session.specs.Serving.{AreFirst, RanAll, RanEnded, RanInto, RanSome}
+use Rattle.mp_session.proofs.RunLemmas.{some_ends-append, until_end-append, until_end-one, were_run_none, were_run_on}
 
--- the reports of these lines are a front of themselves
-pub whole_front : (setup : Setup) (ran : List (List ℕ)) (first now : Option (List ℕ)) (room : ℕ) → HasReports setup ran first room now → HasFront setup ran first room now
-whole_front setup ran first now room told files before e fits =
-    let all = reports (opening setup) files ran in
-    (length all, omega arith, told files before e fits ∙ ap (λ t. Some (before ++ t)) (sym (take_all (length all) all (omega arith))))
+not_both : {P : Type 0} (b : Bool) → b ≡ true → b ≡ false → P
+not_both b t f = let clash : true ≡ false = sym t ∙ f in absurd (cc clash)
 
-pub front_under_way : (setup : Setup) (input left : Option (List ℕ)) (taken : ℕ) (holding : Holding) (session : Held) (refused : Bool) (first now : Option (List ℕ)) (room : ℕ)
-    → IsUnderWay setup input left taken holding session refused first room now
-    → (bytes : List ℕ) → input ≡ Some bytes → HasFront setup (lines_left nothing bytes) first room now
-front_under_way setup input left taken holding session refused first now room u bytes e =
-    let l = u.left_is bytes e in
-    subst (λ (r : List (List ℕ)). HasFront setup r first room now) (sym l.lines_are)
-    (front_longer setup u.ran (lines_left holding l.rest) first now room (whole_front setup u.ran first now room u.told))
+-- These lines were run, and none of them ended the run. They are those that the reader gave.
+pub record IsUnderWay {Out : Type 0} (sink : Ghosts Out) (limit : ℕ) (old now : Course Out) (reader : Reading) (refused : Bool) : Type 0 where
+  pub lines : List (List ℕ)
+  pub run : WereRun sink lines old now refused
+  pub none_ends : (state : State) (files : Files) → StandsFor old.session state → some_ends state files lines ≡ false
+  pub gave : Gave lines (at_start limit) reader old.left now.left
 
--- the piece is a front of what is left
-pub record IsFrontOf (left : Option (List ℕ)) (piece : List ℕ) (count : ℕ) : Type 0 where
-  pub front_is : (rest : List ℕ) → left ≡ Some rest → (count ≤ length rest) × (piece ≡ take count rest)
+module _ {Out : Type 0} {sink : Ghosts Out} where
+  pub under_way_start : (limit : ℕ) (old : Course Out) → IsUnderWay sink limit old old (at_start limit) false
+  under_way_start limit old = record {
+    lines = [];
+    run = were_run_none old;
+    none_ends = λ state files h. refl;
+    gave = gave_none (at_start limit) old.left;
+  }
 
--- ---- what a read of what is left says
+  -- ---- a line that came next was run
 
-pub front_within : (left later_left : Option (List ℕ)) (buffer value : List ℕ) (given : Piece) (count : ℕ) → given ≡ Within count → ((rest : List ℕ) → left ≡ Some rest → IsReadOf rest buffer later_left given) → value ≡ buffer → IsFrontOf left (take count value) count
-front_within left later_left buffer value given count is reads same = record {
-  front_is = λ rest e.
-      let read = subst (IsReadOf rest buffer later_left) is (reads rest e) in
-      (read.0, ap (take count) same ∙ read.1);
-}
+  line_ends : {limit : ℕ} {old now : Course Out} {reader : Reading} {refused : Bool} (u : IsUnderWay sink limit old now reader refused)
+      (line : List ℕ) (last : Bool) → ((state : State) (files : Files) → StandsFor now.session state → last ≡ ends state line files)
+      → (state : State) (files : Files) → StandsFor old.session state → some_ends state files (u.lines ++ line ∷ []) ≡ last
+  line_ends u line last is state files h =
+      some_ends-append state files u.lines (line ∷ [])
+      ∙ rw (u.none_ends state files h, ← is (state_after state files u.lines) files (u.run.run.stands state files h)) (or-false last)
 
-pub drop_within : (left later_left : Option (List ℕ)) (buffer : List ℕ) (given : Piece) (count : ℕ) → given ≡ Within count → ((rest : List ℕ) → left ≡ Some rest → IsReadOf rest buffer later_left given) → (rest : List ℕ) → left ≡ Some rest → later_left ≡ Some (drop count rest)
-drop_within left later_left buffer given count is reads rest e = (subst (IsReadOf rest buffer later_left) is (reads rest e)).2
+  pub under_way_on : {limit : ℕ} {old now : Course Out} {reader : Reading} {refused also : Bool} {line : List ℕ} {last : Bool}
+      {session : Held} {out : Out} (next : Reading) (later : Option (List ℕ)) → IsUnderWay sink limit old now reader refused
+      → IsNext reader next now.left later (Line false) → line ≡ next.holding.kept
+      → WereRun sink (line ∷ []) (course_at now.session later now.out) (course_at session later out) also
+      → ((state : State) (files : Files) → StandsFor now.session state → last ≡ ends state line files) → last ≡ false
+      → IsUnderWay sink limit old (course_at session later out) (after_line next) (refused || also)
+  under_way_on {now = now} {reader = reader} {line = line} {last = last} next later u comes line_is run is goes_on = record {
+    lines = u.lines ++ line ∷ [];
+    run = were_run_on u.run record { texts = run.texts; run = run.run; wrote = run.wrote };
+    none_ends = λ state files h. line_ends u line last is state files h ∙ goes_on;
+    gave = gave_on u.gave (subst (λ l. Gave (l ∷ []) reader (after_line next) now.left later) (sym line_is) comes.gave);
+  }
 
-pub front_past : (left later_left : Option (List ℕ)) (buffer value : List ℕ) (given : Piece) (count : ℕ) → given ≡ PastLimit count → ((rest : List ℕ) → left ≡ Some rest → IsReadOf rest buffer later_left given) → value ≡ buffer → IsFrontOf left (take count value) count
-front_past left later_left buffer value given count is reads same = record {
-  front_is = λ rest e.
-      let read = subst (IsReadOf rest buffer later_left) is (reads rest e) in
-      (omega (arith, read.0), ap (take count) same ∙ read.1);
-}
+  -- it ended the run
+  pub all_to_end : {limit : ℕ} {old now : Course Out} {reader : Reading} {refused also : Bool} {line : List ℕ} {last : Bool}
+      {session : Held} {out : Out} (next : Reading) (later : Option (List ℕ)) → IsUnderWay sink limit old now reader refused
+      → (final : Bool) → IsNext reader next now.left later (Line final) → line ≡ next.holding.kept
+      → WereRun sink (line ∷ []) (course_at now.session later now.out) (course_at session later out) also
+      → ((state : State) (files : Files) → StandsFor now.session state → last ≡ ends state line files) → last ≡ true
+      → RanAll sink limit old (course_at session later out) (refused || also)
+  all_to_end {line = line} {last = last} next later u final comes line_is run is ended = record {
+    lines = u.lines ++ line ∷ [];
+    run = were_run_on u.run record { texts = run.texts; run = run.run; wrote = run.wrote };
+    lines_are = λ state files bytes h e.
+        let comes_next = line_comes next later u.gave final comes bytes e in
+        let first = state_after state files u.lines in
+        let ending : ends first line files ≡ true = sym (is first files (u.run.run.stands state files h)) ∙ ended in
+        ap (until_end state files) (comes_next.1 ∙ ap (λ l. u.lines ++ (l ∷ comes_next.0)) (sym line_is))
+        ∙ (until_end-append state files u.lines (line ∷ comes_next.0) (u.none_ends state files h)
+        ∙ ap (λ b. u.lines ++ (line ∷ (if b then [] else until_end (after first line files) files comes_next.0))) ending);
+    read = λ state files bytes h e goes_on. not_both last ended (sym (line_ends u line last is state files h) ∙ goes_on);
+  }
 
-pub longer_past : (left later_left : Option (List ℕ)) (buffer : List ℕ) (given : Piece) (count : ℕ) → given ≡ PastLimit count → ((rest : List ℕ) → left ≡ Some rest → IsReadOf rest buffer later_left given) → (rest : List ℕ) → left ≡ Some rest → count < length rest
-longer_past left later_left buffer given count is reads rest e = (subst (IsReadOf rest buffer later_left) is (reads rest e)).0
-
-pub none_left : (left later_left : Option (List ℕ)) (buffer : List ℕ) (given : Piece) → given ≡ End → ((rest : List ℕ) → left ≡ Some rest → IsReadOf rest buffer later_left given) → (rest : List ℕ) → left ≡ Some rest → rest ≡ []
-none_left left later_left buffer given is reads rest e = (subst (IsReadOf rest buffer later_left) is (reads rest e)).0
-
-pub nothing_left : (left later_left : Option (List ℕ)) (buffer : List ℕ) (given : Piece) → given ≡ End → ((rest : List ℕ) → left ≡ Some rest → IsReadOf rest buffer later_left given) → (rest : List ℕ) → left ≡ Some rest → later_left ≡ Some []
-nothing_left left later_left buffer given is reads rest e = (subst (IsReadOf rest buffer later_left) is (reads rest e)).1
-
-pub within_left : (len left : ℕ) (given : Piece) (count : ℕ) → given ≡ Within count → IsPieceOf len left given → (0 < count) × (count ≤ len) × (count ≤ left)
-within_left len left given count is piece = subst (IsPieceOf len left) is piece
-
-pub past_left : (len left : ℕ) (given : Piece) (count : ℕ) → given ≡ PastLimit count → IsPieceOf len left given → (count ≤ len) × (count ≡ left)
-past_left len left given count is piece = subst (IsPieceOf len left) is piece
-
--- a buffer that was written over whole holds what was written
-pub written_over : (len : ℕ) (new old value : List ℕ) → length new ≡ len → value ≡ take len (new ++ drop (length new) old) → value ≡ new
-written_over len new old value whole is = is ∙ (take-append-le len new (drop (length new) old) (omega (arith, whole)) ∙ take_all len new (omega (arith, whole)))
-
--- ---- on by a piece
-
-rest_is_piece : (left : Option (List ℕ)) (piece : List ℕ) (count : ℕ) (rest : List ℕ) → IsFrontOf left piece count → left ≡ Some rest → piece ++ drop count rest ≡ rest
-rest_is_piece left piece count rest f e = ap (λ p. p ++ drop count rest) (f.front_is rest e).1 ∙ take-append-drop count rest
-
--- the lines to come are those of the piece and of what is behind it
-lines_of_piece : (left : Option (List ℕ)) (taken : ℕ) (ran : List (List ℕ)) (holding : Holding) (bytes piece : List ℕ) (count : ℕ) (l : IsLeftOf bytes left taken ran holding) → IsFrontOf left piece count
-    → lines_left nothing bytes ≡ ran ++ lines_left holding (piece ++ drop count l.rest)
-lines_of_piece left taken ran holding bytes piece count l f =
-    l.lines_are ∙ ap (λ t. ran ++ lines_left holding t) (sym (rest_is_piece left piece count l.rest f l.rest_is))
-
-pub front_of_piece : (setup : Setup) (input left : Option (List ℕ)) (taken : ℕ) (holding : Holding) (session : Held) (refused : Bool) (first now : Option (List ℕ)) (room : ℕ) (piece : List ℕ) (count : ℕ) (later_now : Option (List ℕ))
-    → (u : IsUnderWay setup input left taken holding session refused first room now) → IsFrontOf left piece count
-    → ((later : List ℕ) → HasFront setup (u.ran ++ lines_left holding (piece ++ later)) first room later_now)
-    → (bytes : List ℕ) → input ≡ Some bytes → HasFront setup (lines_left nothing bytes) first room later_now
-front_of_piece setup input left taken holding session refused first now room piece count later_now u f front bytes e =
-    let l = u.left_is bytes e in
-    subst (λ (r : List (List ℕ)). HasFront setup r first room later_now) (sym (lines_of_piece left taken u.ran holding bytes piece count l f))
-    (front (drop count l.rest))
-
--- where all lines have no report, so have those up to the piece's end
-pub quiet_piece : (setup : Setup) (files : Files) (input left : Option (List ℕ)) (taken : ℕ) (holding : Holding) (session : Held) (refused : Bool) (first now : Option (List ℕ)) (room : ℕ) (piece : List ℕ) (count : ℕ) {P : Type 0}
-    → (u : IsUnderWay setup input left taken holding session refused first room now) → IsFrontOf left piece count
-    → ((later : List ℕ) → AreQuiet setup files (u.ran ++ lines_left holding (piece ++ later)) → P)
-    → (bytes : List ℕ) → input ≡ Some bytes → AreQuiet setup files (lines_left nothing bytes) → P
-quiet_piece setup files input left taken holding session refused first now room piece count u f then bytes e quiet =
-    let l = u.left_is bytes e in
-    then (drop count l.rest) (subst (AreQuiet setup files) (lines_of_piece left taken u.ran holding bytes piece count l f) quiet)
-
--- the lines, once those that the piece ends were run
-lines_after : (left : Option (List ℕ)) (taken : ℕ) (ran more : List (List ℕ)) (holding new : Holding) (bytes piece : List ℕ) (count : ℕ) (l : IsLeftOf bytes left taken ran holding) → IsFrontOf left piece count
-    → ((later : List ℕ) → lines_left holding (piece ++ later) ≡ more ++ lines_left new later)
-    → lines_left nothing bytes ≡ (ran ++ more) ++ lines_left new (drop count l.rest)
-lines_after left taken ran more holding new bytes piece count l f lines_are =
-    lines_of_piece left taken ran holding bytes piece count l f
-    ∙ (ap (λ ls. ran ++ ls) (lines_are (drop count l.rest)) ∙ sym (append_assoc ran more (lines_left new (drop count l.rest))))
-
-pub front_after : (setup : Setup) (input left : Option (List ℕ)) (taken : ℕ) (holding new : Holding) (session later_session : Held) (refused later_refused : Bool) (first now : Option (List ℕ)) (room : ℕ) (piece : List ℕ) (count : ℕ) (later_now : Option (List ℕ))
-    → (u : IsUnderWay setup input left taken holding session refused first room now) → IsFrontOf left piece count
-    → Advances setup u.ran holding new piece [] later_session later_refused first room later_now
-    → (bytes : List ℕ) → input ≡ Some bytes → HasFront setup (lines_left nothing bytes) first room later_now
-front_after setup input left taken holding new session later_session refused later_refused first now room piece count later_now u f two bytes e =
-    let l = u.left_is bytes e in
-    subst (λ (r : List (List ℕ)). HasFront setup r first room later_now) (sym (lines_after left taken u.ran two.more holding new bytes piece count l f two.lines_are))
-    (front_longer setup (u.ran ++ two.more) (lines_left new (drop count l.rest)) first later_now room (whole_front setup (u.ran ++ two.more) first later_now room two.told))
-
-pub under_way_on : (setup : Setup) (input left later_left : Option (List ℕ)) (taken later_taken : ℕ) (holding new : Holding) (session later_session : Held) (refused later_refused : Bool) (first now : Option (List ℕ)) (room : ℕ) (piece : List ℕ) (count : ℕ) (later_now : Option (List ℕ))
-    → (u : IsUnderWay setup input left taken holding session refused first room now) → IsFrontOf left piece count
-    → ((rest : List ℕ) → left ≡ Some rest → later_left ≡ Some (drop count rest))
-    → later_taken ≡ taken + count
-    → Advances setup u.ran holding new piece [] later_session later_refused first room later_now
-    → IsUnderWay setup input later_left later_taken new later_session later_refused first room later_now
-under_way_on setup input left later_left taken later_taken holding new session later_session refused later_refused first now room piece count later_now u f drops counts two = record {
-  ran = u.ran ++ two.more;
-  run = two.run;
-  told = two.told;
-  left_is = λ bytes e.
-      let l = u.left_is bytes e in
+  -- it was the last line
+  pub all_to_last : {limit : ℕ} {old now : Course Out} {reader : Reading} {refused also : Bool} {line : List ℕ}
+      {session : Held} {out : Out} (next : Reading) (later : Option (List ℕ)) → IsUnderWay sink limit old now reader refused
+      → (final : Bool) → final ≡ true → IsNext reader next now.left later (Line final) → line ≡ next.holding.kept
+      → WereRun sink (line ∷ []) (course_at now.session later now.out) (course_at session later out) also
+      → RanAll sink limit old (course_at session later out) (refused || also)
+  all_to_last {line = line} next later u true is_final comes line_is run =
+      let gave = gave_on u.gave comes.gave in
+      let dry = dry_on u.gave comes.dry in
       record {
-        rest = drop count l.rest;
-        rest_is = drops l.rest l.rest_is;
-        count = omega (arith, l.count, counts, (f.front_is l.rest l.rest_is).0, length-drop count l.rest);
-        lines_are = lines_after left taken u.ran two.more holding new bytes piece count l f two.lines_are;
-      };
-}
+        lines = u.lines ++ line ∷ [];
+        run = were_run_on u.run record { texts = run.texts; run = run.run; wrote = run.wrote };
+        lines_are = λ state files bytes h e.
+            ap (until_end state files)
+            ((lines_at_end gave comes.rest.unread comes.within dry bytes e).lines_are
+            ∙ (ap (λ ls. (u.lines ++ []) ++ ls) (comes.line_is ∙ ap (λ l. l ∷ []) (sym line_is))
+            ∙ ap (λ ls. ls ++ (line ∷ [])) (append-nil u.lines)))
+            ∙ (until_end-append state files u.lines (line ∷ []) (u.none_ends state files h)
+            ∙ ap (λ ls. u.lines ++ ls) (until_end-one (state_after state files u.lines) files line));
+        read = λ state files bytes h e goes_on.
+            let all = lines_at_end gave comes.rest.unread comes.within dry bytes e in
+            (all.read, all.within);
+      }
+  all_to_last next later u false is_final comes line_is run = not_both false is_final refl
 
--- ---- the end of the input
+  -- a front of its report was written
+  pub into_line : {limit : ℕ} {old now : Course Out} {reader : Reading} {refused : Bool} {line : List ℕ} {session : Held} {out : Out}
+      (next : Reading) (later : Option (List ℕ)) → IsUnderWay sink limit old now reader refused
+      → (final : Bool) → IsNext reader next now.left later (Line final) → line ≡ next.holding.kept
+      → WasBegun sink line (course_at now.session later now.out) (course_at session later out)
+      → RanInto sink old (course_at session later out)
+  into_line {now = now} {refused = refused} {line = line} next later u final comes line_is begun = record {
+    lines = u.lines;
+    line = line;
+    refused = refused;
+    between = now;
+    run = u.run;
+    begun = record { text = begun.text; text_is = begun.text_is; front = begun.front };
+    first = record {
+      more = λ state files bytes h e.
+          let comes_next = line_comes next later u.gave final comes bytes e in
+          let first = state_after state files u.lines in
+          let rest = if ends first line files then [] else until_end (after first line files) files comes_next.0 in (
+            rest,
+            ap (until_end state files) (comes_next.1 ∙ ap (λ l. u.lines ++ (l ∷ comes_next.0)) (sym line_is))
+                ∙ (until_end-append state files u.lines (line ∷ comes_next.0) (u.none_ends state files h)
+                ∙ sym (append_assoc u.lines (line ∷ []) rest)),
+          );
+    };
+  }
 
-pub all_lines : (setup : Setup) (input left : Option (List ℕ)) (taken : ℕ) (holding : Holding) (session : Held) (refused : Bool) (first now : Option (List ℕ)) (room : ℕ)
-    → (u : IsUnderWay setup input left taken holding session refused first room now) → ((rest : List ℕ) → left ≡ Some rest → rest ≡ [])
-    → (bytes : List ℕ) → input ≡ Some bytes → lines_left nothing bytes ≡ u.ran ++ lines_left holding []
-all_lines setup input left taken holding session refused first now room u none bytes e =
-    let l = u.left_is bytes e in
-    l.lines_are ∙ ap (λ t. u.ran ++ lines_left holding t) (none l.rest l.rest_is)
+  -- ---- no line more was run
 
-pub all_taken : (setup : Setup) (input left : Option (List ℕ)) (taken : ℕ) (holding : Holding) (session : Held) (refused : Bool) (first now : Option (List ℕ)) (room : ℕ)
-    → (u : IsUnderWay setup input left taken holding session refused first room now) → ((rest : List ℕ) → left ≡ Some rest → rest ≡ [])
-    → (bytes : List ℕ) → input ≡ Some bytes → length bytes ≡ taken
-all_taken setup input left taken holding session refused first now room u none bytes e =
-    let l = u.left_is bytes e in
-    omega (arith, l.count, ap length (none l.rest l.rest_is))
+  pub first_lines : {limit : ℕ} {old now : Course Out} {reader : Reading} {refused : Bool}
+      (u : IsUnderWay sink limit old now reader refused) → AreFirst u.lines old
+  first_lines u = record {
+    more = λ state files bytes h e.
+        let all = lines_so_far u.gave bytes e in (
+          until_end (state_after state files u.lines) files all.0,
+          ap (until_end state files) all.1 ∙ until_end-append state files u.lines all.0 (u.none_ends state files h),
+        );
+  }
+
+  pub some_lines : {limit : ℕ} {old now : Course Out} {reader : Reading} {refused also : Bool} {session : Held} {later : Option (List ℕ)} {out : Out}
+      → IsUnderWay sink limit old now reader refused
+      → WereRun sink [] (course_at now.session later now.out) (course_at session later out) also
+      → RanSome sink old (course_at session later out)
+  some_lines {old = old} {refused = refused} {also = also} {session = session} {later = later} {out = out} u run = record {
+    lines = u.lines;
+    refused = refused || also;
+    run = subst (λ ls. WereRun sink ls old (course_at session later out) (refused || also)) (append-nil u.lines)
+        (were_run_on u.run record { texts = run.texts; run = run.run; wrote = run.wrote });
+    first = first_lines u;
+  }
+
+  pub all_at_end : {limit : ℕ} {old now : Course Out} {reader : Reading} {refused : Bool} (next : Reading) (later : Option (List ℕ))
+      → IsUnderWay sink limit old now reader refused → IsNext reader next now.left later End
+      → RanAll sink limit old (course_at now.session later now.out) refused
+  all_at_end next later u comes =
+      let gave = gave_on u.gave comes.gave in
+      let dry = dry_on u.gave comes.dry in
+      record {
+        lines = u.lines;
+        run = record { texts = u.run.texts; run = u.run.run; wrote = u.run.wrote };
+        lines_are = λ state files bytes h e.
+            ap (until_end state files)
+            ((lines_at_end gave comes.rest.unread comes.within dry bytes e).lines_are
+            ∙ (ap (λ ls. (u.lines ++ []) ++ ls) comes.none_left ∙ append-nil (u.lines ++ [])))
+            ∙ (until_end-append state files u.lines [] (u.none_ends state files h)
+            ∙ append-nil u.lines);
+        read = λ state files bytes h e goes_on.
+            let all = lines_at_end gave comes.rest.unread comes.within dry bytes e in
+            (all.read, all.within);
+      }
+
+  pub lines_before_fault : {limit : ℕ} {old now : Course Out} {reader : Reading} {refused : Bool} (next : Reading) (later : Option (List ℕ))
+      → IsUnderWay sink limit old now reader refused → IsFailed reader next now.left later
+      → RanEnded sink 0 old (course_at now.session later now.out)
+  lines_before_fault {refused = refused} next later u failed =
+      let gave = gave_on u.gave failed.gave in
+      let none : gave.overs ≡ 0 = omega (arith, gave.overs_are, ap bit failed.within) in
+      record {
+        some = record {
+          lines = u.lines;
+          refused = refused;
+          run = record { texts = u.run.texts; run = u.run.run; wrote = u.run.wrote };
+          first = first_lines u;
+        };
+        none_ends = u.none_ends;
+        taken = gave.got;
+        source = λ bytes e. let off = gave.source bytes e in
+            record { over = off.over; rest = off.rest; over_count = off.over_count ∙ none; later_is = off.later_is; bytes_are = off.bytes_are };
+        lines_are = lines_at_rest gave failed.rest ∙ append-nil u.lines;
+      }
+
+  pub lines_within : {limit : ℕ} {old now : Course Out} {reader : Reading} {refused : Bool} (next : Reading) (later : Option (List ℕ))
+      → IsUnderWay sink limit old now reader refused → IsNext reader next now.left later PastLimit
+      → (ran : RanEnded sink 1 old (course_at now.session later now.out)) × (length ran.taken ≡ limit)
+  lines_within {refused = refused} next later u comes =
+      let gave = gave_on u.gave comes.gave in
+      let over : gave.overs ≡ 1 = omega (arith, gave.overs_are, ap bit comes.past) in (
+        record {
+          some = record {
+            lines = u.lines;
+            refused = refused;
+            run = record { texts = u.run.texts; run = u.run.run; wrote = u.run.wrote };
+            first = first_lines u;
+          };
+          none_ends = u.none_ends;
+          taken = gave.got;
+          source = λ bytes e. let off = gave.source bytes e in
+              record { over = off.over; rest = off.rest; over_count = off.over_count ∙ over; later_is = off.later_is; bytes_are = off.bytes_are };
+          lines_are = lines_at_rest gave comes.rest ∙ append-nil u.lines;
+        },
+        omega (arith, gave.count, gave.full (omega (arith, over))),
+      )

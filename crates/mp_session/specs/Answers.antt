@@ -1,23 +1,34 @@
 -- How an answer of the program stands for that of the definitions.
-use Rattle.std.specs.Prelude.{◌≡◌, Bool, true, false, length}
-use Rattle.mp_replies.specs.Step as replies
+use Rattle.std.specs.Prelude.{Bool, true, false}
+use Rattle.mp_defs.specs.Profile.{Columns}
+use Rattle.mp_partial.specs.Profiled.{Profiled}
+use Rattle.mp_replies.specs.Answer as replies
 use Rattle.mp_session.specs.declared.answers.Answer.{Answer}
-use Rattle.mp_session.specs.declared.answers.Answer.TheVariants.{Silent, Refused, Accepted, Profile}
+use Rattle.mp_session.specs.declared.answers.Answer.TheVariants.{Silent, Refused, Accepted, Ended}
+use Rattle.mp_session.specs.declared.answers.Report.{Report}
+use Rattle.mp_session.specs.declared.answers.Report.TheVariants.{Append, Profile}
 use Rattle.mp_session.specs.declared.answers.ReplyKind.{ReplyKind}
 use Rattle.mp_session.specs.declared.answers.ReplyKind.TheVariants as kinds
+
+abbrev pub columns_in : Profiled → Columns
+columns_in profile = record { all = profile.all; left = profile.left; right = profile.right }
+
+abbrev pub reported : Report → replies.Report
+reported (Append samples) = replies.AppendReport samples
+reported (Profile profile) = replies.ProfileReport (columns_in profile)
 
 abbrev pub answered : Answer → replies.Answer
 answered Silent = replies.Silent
 answered (Refused cause) = replies.Refused cause
-answered (Accepted samples) = replies.Accepted samples
-answered (Profile profile) = replies.Columns 0 profile.all profile.left profile.right
+answered (Accepted report) = replies.Accepted (reported report)
+answered (Ended report) = replies.Ended (reported report)
 
 -- what becomes of a line, by its answer
 abbrev pub kind_of : replies.Answer → ReplyKind
 kind_of replies.Silent = kinds.Quiet
 kind_of (replies.Refused cause) = kinds.Refused
-kind_of (replies.Accepted samples) = kinds.Accepted
-kind_of (replies.Columns first all left right) = kinds.Accepted
+kind_of (replies.Accepted report) = kinds.Accepted
+kind_of (replies.Ended report) = kinds.Ended
 
 abbrev pub is_refused : ReplyKind → Bool
 is_refused kinds.Quiet = false
@@ -25,15 +36,14 @@ is_refused kinds.Accepted = false
 is_refused kinds.Refused = true
 is_refused kinds.Ended = false
 
+abbrev pub is_ended : ReplyKind → Bool
+is_ended kinds.Quiet = false
+is_ended kinds.Accepted = false
+is_ended kinds.Refused = false
+is_ended kinds.Ended = true
+
 abbrev pub is_accepted : replies.Answer → Bool
 is_accepted replies.Silent = false
 is_accepted (replies.Refused cause) = false
-is_accepted (replies.Accepted samples) = true
-is_accepted (replies.Columns first all left right) = true
-
--- the columns are as long
-abbrev pub IsReportable : Answer → Type 0
-IsReportable Silent = Unit {0}
-IsReportable (Refused cause) = Unit {0}
-IsReportable (Accepted samples) = Unit {0}
-IsReportable (Profile profile) = (length profile.left ≡ length profile.all) × (length profile.right ≡ length profile.all)
+is_accepted (replies.Accepted report) = true
+is_accepted (replies.Ended report) = true

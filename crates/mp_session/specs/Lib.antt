@@ -1,10 +1,10 @@
-pub mod Answers
-pub mod Commands
-pub mod Feeding
 pub mod Limits
-pub mod Pieces
-pub mod Jobs
-pub mod Serving
+pub mod Lines
+pub mod Answers
 pub mod Sessions
+pub mod Preparing
+pub mod Items
+pub mod Reads
+pub mod Running
+pub mod Serving
 pub mod Statuses
-pub mod Steps

@@ -1,20 +1,14 @@
--- What a run is started with, and the limits of each value.
-use Rattle.std.specs.Prelude.{ℕ, ◌≤◌}
+-- The limits of what a run is started with.
+use Rattle.std.specs.Prelude.{◌≤◌}
+use Rattle.mp_defs.specs.Limits.{min_window, max_window}
+use Rattle.mp_replies.specs.Limits.{max_scale, max_tile, max_workers}
+use Rattle.mp_replies.specs.Words.{Setup}
 
-pub record Chosen : Type 0 where
-  -- samples in a window
-  pub window : ℕ
-  -- digits behind the point
-  pub scale : ℕ
-  -- diagonals in a tile
-  pub tile : ℕ
-  pub workers : ℕ
-
-pub record AreWithinLimits (chosen : Chosen) : Type 0 where
-  pub window_low : 3 ≤ chosen.window
-  pub window_high : chosen.window ≤ 16384
-  pub scale_high : chosen.scale ≤ 9
-  pub tile_low : 1 ≤ chosen.tile
-  pub tile_high : chosen.tile ≤ 65536
-  pub workers_low : 1 ≤ chosen.workers
-  pub workers_high : chosen.workers ≤ 32
+pub record IsWithinLimits (setup : Setup) : Type 0 where
+  pub window_low : min_window ≤ setup.window
+  pub window_high : setup.window ≤ max_window
+  pub scale_high : setup.scale ≤ max_scale
+  pub tile_low : 1 ≤ setup.tile
+  pub tile_high : setup.tile ≤ max_tile
+  pub workers_low : 1 ≤ setup.workers
+  pub workers_high : setup.workers ≤ max_workers

@@ -1,53 +1,60 @@
--- What a run has done, and what its sink tells of it.
-use Rattle.std.specs.Prelude.{◌≡◌, ℕ, ◌+◌, ◌≤◌, Bool, List, [], ◌++◌, length, take, Option, Some}
-use Rattle.mp_replies.specs.Words.{Setup}
-use Rattle.mp_replies.specs.State.{Files, opening}
-use Rattle.mp_replies.specs.Output.{reports, state_after, some_refused}
-use Rattle.mp_session.specs.Feeding.{Holding, nothing, lines_left}
-use Rattle.mp_session.specs.Sessions.{Held, StandsFor}
+-- How a run ends.
+use Rattle.std.specs.Prelude.{◌≡◌, ℕ, ◌≤◌, Bool, false, List, [], ◌∷◌, ◌++◌, length, Option, Some}
+use Rattle.mp_outside.specs.declared.sinks.Sink.{Ghosts}
+use Rattle.mp_feed.specs.Feeding.{nothing, lines_left, ended_lines_left}
+use Rattle.mp_feed.specs.Reading.{IsTakenOff}
+use Rattle.mp_replies.specs.State.{Files, State}
+use Rattle.mp_bytes.specs.Lines.{ended_lines}
+use Rattle.mp_replies.specs.Output.{reports, some_ends, until_end}
+use Rattle.mp_session.specs.Sessions.{StandsFor}
+use Rattle.mp_session.specs.Running.{Course, WereRun, WasBegun}
 
--- what was told before, and then a front of the text
-abbrev pub TellsPrefix : Option (List ℕ) → List ℕ → List ℕ → Type 0
-TellsPrefix now before text = (count : ℕ) × (count ≤ length text) × (now ≡ Some (before ++ take count text))
+-- these lines come first of those that are run of the input
+pub record AreFirst {Out : Type 0} (lines : List (List ℕ)) (old : Course Out) : Type 0 where
+  pub more : (state : State) (files : Files) (bytes : List ℕ) → StandsFor old.session state → old.left ≡ Some bytes
+      → (rest : List (List ℕ)) × (until_end state files (lines_left nothing bytes) ≡ lines ++ rest)
 
--- these lines were run, from the opening on
-pub record HasRun (setup : Setup) (ran : List (List ℕ)) (session : Held) (refused : Bool) : Type 0 where
-  pub stands : (files : Files) → StandsFor session (state_after (opening setup) files ran)
-  pub refused_is : (files : Files) → refused ≡ some_refused (opening setup) files ran
+-- The lines of the input were run, up to and with the first that ends the run. Where none does, the input was read to
+-- its end, within the limit.
+pub record RanAll {Out : Type 0} (sink : Ghosts Out) (limit : ℕ) (old new : Course Out) (refused : Bool) : Type 0 where
+  pub lines : List (List ℕ)
+  pub run : WereRun sink lines old new refused
+  pub lines_are : (state : State) (files : Files) (bytes : List ℕ) → StandsFor old.session state → old.left ≡ Some bytes
+      → until_end state files (lines_left nothing bytes) ≡ lines
+  pub read : (state : State) (files : Files) (bytes : List ℕ) → StandsFor old.session state → old.left ≡ Some bytes
+      → some_ends state files lines ≡ false → (new.left ≡ Some []) × (length bytes ≤ limit)
 
--- a sink that told these bytes before tells their reports behind, as far as it has room
-abbrev pub HasReports : Setup → List (List ℕ) → Option (List ℕ) → ℕ → Option (List ℕ) → Type 0
-HasReports setup ran first room now =
-    (files : Files) (before : List ℕ) → first ≡ Some before → length before + length (reports (opening setup) files ran) ≤ room → now ≡ Some (before ++ reports (opening setup) files ran)
+-- some of them were run, in order from the first on
+pub record RanSome {Out : Type 0} (sink : Ghosts Out) (old new : Course Out) : Type 0 where
+  pub lines : List (List ℕ)
+  pub refused : Bool
+  pub run : WereRun sink lines old new refused
+  pub first : AreFirst lines old
 
--- a front of them
-abbrev pub HasFront : Setup → List (List ℕ) → Option (List ℕ) → ℕ → Option (List ℕ) → Type 0
-HasFront setup all first room now =
-    (files : Files) (before : List ℕ) → first ≡ Some before → length before + length (reports (opening setup) files all) ≤ room → TellsPrefix now before (reports (opening setup) files all)
+-- The lines that an LF ends were run, of the bytes that were taken within the limit, and so many more were taken. None
+-- of them ends the run.
+pub record RanEnded {Out : Type 0} (sink : Ghosts Out) (overs : ℕ) (old new : Course Out) : Type 0 where
+  pub some : RanSome sink old new
+  pub none_ends : (state : State) (files : Files) → StandsFor old.session state → some_ends state files some.lines ≡ false
+  pub taken : List ℕ
+  pub source : (bytes : List ℕ) → old.left ≡ Some bytes → IsTakenOff taken overs bytes new.left
+  pub lines_are : ended_lines_left nothing taken ≡ some.lines
 
--- these lines have no report
-abbrev pub AreQuiet : Setup → Files → List (List ℕ) → Type 0
-AreQuiet setup files ran = reports (opening setup) files ran ≡ []
+-- some of them were run, and a front of the report of the next one was written
+pub record RanInto {Out : Type 0} (sink : Ghosts Out) (old new : Course Out) : Type 0 where
+  pub lines : List (List ℕ)
+  pub line : List ℕ
+  pub refused : Bool
+  pub between : Course Out
+  pub run : WereRun sink lines old between refused
+  pub begun : WasBegun sink line between new
+  pub first : AreFirst (lines ++ line ∷ []) old
 
--- More lines were run since old held what it holds: what was to come of these bytes and of any later ones is these
--- lines, and what is to come now of the bytes left and the later ones.
-pub record Advances (setup : Setup) (ran : List (List ℕ)) (old new : Holding) (bytes left : List ℕ) (session : Held) (refused : Bool) (first : Option (List ℕ)) (room : ℕ) (now : Option (List ℕ)) : Type 0 where
-  pub more : List (List ℕ)
-  pub run : HasRun setup (ran ++ more) session refused
-  pub told : HasReports setup (ran ++ more) first room now
-  pub lines_are : (later : List ℕ) → lines_left old (bytes ++ later) ≡ more ++ lines_left new (left ++ later)
-
--- what is left of these bytes after so many were taken, these lines were run and this is held
-pub record IsLeftOf (bytes : List ℕ) (left : Option (List ℕ)) (taken : ℕ) (ran : List (List ℕ)) (holding : Holding) : Type 0 where
+-- Of these bytes some were taken and the others are left. A sink that told what was before tells the reports of the lines
+-- that an LF ends of those that were taken.
+pub record ToldTaken (state : State) (files : Files) (bytes : List ℕ) (left : Option (List ℕ)) (before : List ℕ) (now : Option (List ℕ)) : Type 0 where
+  pub taken : List ℕ
   pub rest : List ℕ
-  pub rest_is : left ≡ Some rest
-  pub count : taken + length rest ≡ length bytes
-  pub lines_are : lines_left nothing bytes ≡ ran ++ lines_left holding rest
-
--- Between reads: these lines were run and their reports are told. Where the input was told at first it is told still:
--- so many of its bytes were taken, and its lines are those that were run and those still to come.
-pub record IsUnderWay (setup : Setup) (input left : Option (List ℕ)) (taken : ℕ) (holding : Holding) (session : Held) (refused : Bool) (first : Option (List ℕ)) (room : ℕ) (now : Option (List ℕ)) : Type 0 where
-  pub ran : List (List ℕ)
-  pub run : HasRun setup ran session refused
-  pub told : HasReports setup ran first room now
-  pub left_is : (bytes : List ℕ) → input ≡ Some bytes → IsLeftOf bytes left taken ran holding
+  pub bytes_are : bytes ≡ taken ++ rest
+  pub left_is : left ≡ Some rest
+  pub told : now ≡ Some (before ++ reports state files (ended_lines taken))

@@ -4,10 +4,10 @@ use Rattle.mp_nums.specs.declared.samples.Sample.{Sample}
 use Rattle.mp_defs.specs.Series.{series_of}
 use Rattle.mp_series.specs.Samples.{Counted}
 use Rattle.mp_replies.specs.State.{State, Store, Open, Closed}
-use Rattle.mp_session.specs.Limits.{Chosen}
+use Rattle.mp_replies.specs.Words.{Setup}
 
 pub record Held : Type 0 where
-  pub settings : Chosen
+  pub settings : Setup
   -- how many lines were run
   pub lines : ℕ
   -- whether a command was accepted

@@ -1,8 +1,8 @@
 //! The answer to a line, and its text.
 
 ghost use Rattle.std.specs.Prelude.{◌≡◌, IfOk};
-ghost use Rattle.mp_replies.specs.Report.{text_of};
-ghost use Rattle.mp_session.specs.Answers.{answered, is_accepted as is_accepted_answer, is_refused as is_refused_kind, kind_of, IsReportable};
+ghost use Rattle.mp_replies.specs.Report.{report_text, text_of};
+ghost use Rattle.mp_session.specs.Answers.{answered, is_accepted as is_accepted_answer, is_ended as is_ended_kind, is_refused as is_refused_kind, kind_of, reported};
 
 use crate::reports::{ok_text, profile_text, refused_text};
 use mp_nums::{Memory, Text};
@@ -32,18 +32,46 @@ impl ReplyKind {
             ReplyKind::Quiet | ReplyKind::Accepted | ReplyKind::Ended => false,
         }
     }
+
+    pub fn is_ended(self) -> bool
+        ensures { result ≡ is_ended_kind self }
+    {
+        match self {
+            ReplyKind::Ended => true,
+            ReplyKind::Quiet | ReplyKind::Accepted | ReplyKind::Refused => false,
+        }
+    }
+}
+
+/// What an accepted command reports.
+#[derive(Debug, Drop)]
+pub(crate) enum Report {
+    /// The number of samples in the slot.
+    Append { samples: u64 },
+    Profile(Profile),
+}
+
+impl Report {
+    /// The text of the report of the line of this number.
+    fn text(&self, alloc: Global, line: u64) -> Result<Text, Memory>
+        ensures { IfOk result (λ text. text.items ≡ report_text line (reported self.now)) }
+    {
+        match self {
+            Report::Append { samples } => ok_text(alloc, line, Some(*samples)),
+            Report::Profile(profile) => profile_text(alloc, line, profile),
+        }
+    }
 }
 
 /// The answer to a line, as data.
-#[derive(Drop)]
+#[derive(Debug, Drop)]
 pub(crate) enum Answer {
     /// To a blank line or a comment.
     Silent,
     Refused(Cause),
-    /// The number of samples, where the command changed it.
-    Accepted(Option<u64>),
-    /// A profile from its first window on.
-    Profile(Profile),
+    Accepted(Report),
+    /// Accepted, and no line behind is run.
+    Ended(Report),
 }
 
 impl Answer {
@@ -53,7 +81,8 @@ impl Answer {
         match self {
             Answer::Silent => ReplyKind::Quiet,
             Answer::Refused(_) => ReplyKind::Refused,
-            Answer::Accepted(_) | Answer::Profile(_) => ReplyKind::Accepted,
+            Answer::Accepted(_) => ReplyKind::Accepted,
+            Answer::Ended(_) => ReplyKind::Ended,
         }
     }
 
@@ -62,27 +91,18 @@ impl Answer {
     {
         match self {
             Answer::Silent | Answer::Refused(_) => false,
-            Answer::Accepted(_) | Answer::Profile(_) => true,
+            Answer::Accepted(_) | Answer::Ended(_) => true,
         }
     }
 
     /// The report of the line of this number.
     pub(crate) fn text(&self, alloc: Global, line: u64) -> Result<Text, Memory>
-        requires { IsReportable self.now }
         ensures { IfOk result (λ text. text.items ≡ text_of line (answered self.now)) }
     {
         match self {
             Answer::Silent => Ok(Text::new(alloc)),
             Answer::Refused(cause) => refused_text(alloc, line, *cause),
-            Answer::Accepted(samples) => ok_text(alloc, line, *samples),
-            Answer::Profile(profile) => profile_text(
-                alloc,
-                line,
-                0,
-                profile.all(),
-                profile.left(),
-                profile.right(),
-            ),
+            Answer::Accepted(report) | Answer::Ended(report) => report.text(alloc, line),
         }
     }
 }

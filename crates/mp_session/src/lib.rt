@@ -2,21 +2,19 @@
 #![tactic(auto)]
 
 mod answers;
+mod append_command;
 mod commands;
-mod course;
-mod feeds;
-mod field;
-mod laws;
-mod numbers;
+mod halts;
+mod prepared;
+mod profile_command;
 mod reports;
+mod runs;
 mod sessions;
 mod settings;
 pub mod top;
 mod words;
-mod writes;
 
 pub use answers::ReplyKind;
-pub use feeds::{Fed, Feed};
-pub use laws::pieces_give_the_lines;
+pub use mp_feed::{Fed, Feed};
 pub use sessions::{Reply, Session, Stop};
 pub use settings::Settings;

@@ -1,20 +1,20 @@
 //! The texts of the reports.
 
 ghost use Rattle.std.specs.Prelude.{◌≡◌, ◌+◌, ◌<◌, ◌^◌, ◌++◌, length, decimal, OnOk, IfOk};
-ghost use Rattle.mp_replies.specs.Report.{
+ghost use Rattle.mp_replies.specs.ProfileCommand.{profile_text as profile_text_of, row_text, rows_text};
+ghost use Rattle.mp_replies.specs.Text.{
   count_text,
   index_text as index_text_of,
   ok_text as ok_text_of,
-  profile_text as profile_text_of,
   refused_text as refused_text_of,
-  row_text,
-  rows_text,
   slot_text as slot_text_of,
   word_of,
 };
+ghost use Rattle.mp_session.specs.Answers.{columns_in};
 
 use itoa::Buffer;
 use mp_nums::{Memory, Slot, Text};
+use mp_partial::Profile;
 use mp_replies::Cause;
 use std::alloc::Global;
 
@@ -44,45 +44,28 @@ pub(crate) fn ok_text(alloc: Global, line: u64, samples: Option<u64>) -> Result<
     Ok(Text::from(text))
 }
 
-/// The report of a profile whose first window starts at `first`: a line for each window, with its start, the
-/// distance and the start of its nearest window, and the starts of its nearest windows to the left and right.
-pub(crate) fn profile_text(
-    alloc: Global,
-    line: u64,
-    first: u64,
-    all: &[Slot],
-    left: &[Slot],
-    right: &[Slot],
-) -> Result<Text, Memory>
-    requires left { length left.now ≡ length all.now }
-    requires right { length right.now ≡ length all.now }
-    requires starts { first + length all.now < 2 ^ 64 }
-    ensures { IfOk result (λ text. text.items ≡ profile_text_of line first all.now left.now right.now) }
+/// The report of a profile: a line for each window, with its start, the distance and the start of its nearest window, and
+/// the starts of its nearest windows to the left and right.
+pub(crate) fn profile_text(alloc: Global, line: u64, profile: &Profile) -> Result<Text, Memory>
+    ensures { IfOk result (λ text. text.items ≡ profile_text_of line (columns_in profile.now)) }
 {
     let mut text = Vec::from_slice(alloc, b"profile ")?;
     push_number(&mut text, line)?;
     text.extend_from_slice(b" ")?;
-    push_number(&mut text, all.len() as u64)?;
+    push_number(&mut text, profile.len())?;
     text.extend_from_slice(b"\n")?;
-    push_rows(&mut text, first, all, left, right)?;
+    push_rows(&mut text, profile)?;
     Ok(Text::from(text))
 }
 
 /// A line for each window.
-fn push_rows(
-    text: &mut Vec<u8>,
-    first: u64,
-    all: &[Slot],
-    left: &[Slot],
-    right: &[Slot],
-) -> Result<(), Memory>
-    requires left { length left.now ≡ length all.now }
-    requires right { length right.now ≡ length all.now }
-    requires starts { first + length all.now < 2 ^ 64 }
-    ensures { OnOk result (text.new.items ≡ text.old.items ++ rows_text first all.now left.now right.now) }
+fn push_rows(text: &mut Vec<u8>, profile: &Profile) -> Result<(), Memory>
+    ensures { OnOk result (text.new.items ≡ text.old.items ++ rows_text (columns_in profile.now)) }
 {
-    for k in 0..all.len() {
-        push_row(text, first + k as u64, all[k], left[k], right[k])?;
+    let (all, left, right) = (profile.all(), profile.left(), profile.right());
+    for start in 0..profile.len() {
+        let place = start as usize;
+        push_row(text, start, all[place], left[place], right[place])?;
     }
     Ok(())
 }

@@ -1,7 +1,7 @@
 //! What a run is started with.
 
 ghost use Rattle.std.specs.Prelude.{◌≡◌, ◌↔◌, IsSome, IfSome};
-ghost use Rattle.mp_session.specs.Limits.{AreWithinLimits};
+ghost use Rattle.mp_session.specs.Limits.{IsWithinLimits};
 
 use mp_series::{MAX_WINDOW, MIN_WINDOW};
 use std::marker::Model;
@@ -25,13 +25,14 @@ pub struct Settings {
 }
 
 impl Model for Settings {
-    ghost use Rattle.mp_session.specs.Limits.{Chosen, AreWithinLimits};
+    ghost use Rattle.mp_replies.specs.Words.{Setup};
+    ghost use Rattle.mp_session.specs.Limits.{IsWithinLimits};
 
-    ghost Value = { Chosen };
+    ghost Value = { Setup };
 
     ghost view = { λ s. record { window = s.window; scale = s.scale; tile = s.tile; workers = s.workers } };
 
-    ghost invariant = { λ s. AreWithinLimits record { window = s.window; scale = s.scale; tile = s.tile; workers = s.workers } };
+    ghost invariant = { λ s. IsWithinLimits record { window = s.window; scale = s.scale; tile = s.tile; workers = s.workers } };
 
     ghost inverse = { λ s. record { window = s.window; scale = s.scale; tile = s.tile; workers = s.workers } };
 }
@@ -40,7 +41,7 @@ impl Settings {
     /// `None` where a value is outside its limits: a window of 3 to 16,384 samples, a scale of 0 to 9 digits, a tile
     /// of 1 to 65,536 diagonals, 1 to 32 workers.
     pub fn new(window: u32, scale: u8, tile: u32, workers: u32) -> Option<Settings>
-        ensures within { IsSome result ↔ AreWithinLimits record { window = window; scale = scale; tile = tile; workers = workers } }
+        ensures within { IsSome result ↔ IsWithinLimits record { window = window; scale = scale; tile = tile; workers = workers } }
         ensures value { IfSome result (λ s. s ≡ record { window = window; scale = scale; tile = tile; workers = workers }) }
     {
         let within = (MIN_WINDOW..=MAX_WINDOW).contains(&window)
@@ -62,7 +63,7 @@ impl Settings {
     /// The length of a window, in samples.
     pub fn window(&self) -> u32
         ensures value { result ≡ self.now.window }
-        ensures within { AreWithinLimits self.now }
+        ensures within { IsWithinLimits self.now }
     {
         self.window
     }
@@ -77,7 +78,7 @@ impl Settings {
     /// How many diagonals a tile has.
     pub fn tile(&self) -> u32
         ensures value { result ≡ self.now.tile }
-        ensures within { AreWithinLimits self.now }
+        ensures within { IsWithinLimits self.now }
     {
         self.tile
     }

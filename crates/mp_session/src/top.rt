@@ -1,32 +1,28 @@
 //! Serving an input, from its first byte to its last.
 
-ghost use Rattle.std.specs.Prelude.{◌≡◌, ◌≢◌, ◌⊎◌, ◌↔◌, ℕ, ◌+◌, ◌-◌, ◌^◌, ◌<◌, ◌≤◌, min, List, [], ◌++◌, length, vec_len, map, string_bytes, Option, Some, None, IfOk, OnOk, OnErr, IsErrOf, IsTrue, false, true};
+ghost use Rattle.std.specs.Prelude.{◌≡◌, ◌⊎◌, ℕ, ◌+◌, ◌-◌, ◌^◌, ◌<◌, ◌≤◌, List, [], ◌++◌, length, take, drop, map, string_bytes, Some, None, IfOk, OnOk, OnErr, IsErrOf, IsTrue, true};
+ghost use Rattle.mp_bytes.specs.Lines.{lines, ended_lines};
+ghost use Rattle.mp_feed.specs.Writing.{TellsPrefix};
 ghost use Rattle.mp_outside.specs.Counts.{Rose};
-ghost use Rattle.mp_replies.specs.Lines.{lines};
-ghost use Rattle.mp_replies.specs.Output.{output, usage, some_refused};
+ghost use Rattle.mp_replies.specs.Limits.{input_limit};
+ghost use Rattle.mp_replies.specs.Output.{output, reports, session_output, some_refused, usage};
 ghost use Rattle.mp_replies.specs.State.{Files, opening};
 ghost use Rattle.mp_replies.specs.Words.{Setup, job};
-ghost use Rattle.mp_session.specs.Feeding.{nothing, lines_left};
-ghost use Rattle.mp_session.specs.Jobs.{setup_by};
-ghost use Rattle.mp_session.specs.Pieces.{IsPieceOf, IsReadOf, taken_by};
-ghost use Rattle.mp_session.specs.Serving.{TellsPrefix, HasReports, HasFront, AreQuiet};
+ghost use Rattle.mp_session.specs.Serving.{ToldTaken};
 ghost use Rattle.mp_session.specs.Statuses.{is_whole, ran, status_by};
-ghost use Rattle.mp_session.specs.declared.top.TheConstants.{INPUT_LIMIT, PIECE};
 
-use crate::course::{Course, Halt};
+use crate::halts::Halt;
+use crate::runs::run_lines;
+use crate::sessions::Session;
 use crate::settings::Settings;
 use crate::words::read_words;
-use crate::writes::report;
-use mp_nums::Memory;
+use mp_feed::write_report;
 use mp_outside::{Failed, Gate, Shelf, Sink, Source};
-use std::alloc::{AllocError, Global};
+use std::alloc::Global;
 use std::thread::Threads;
 
 /// The most bytes of an input.
 pub const INPUT_LIMIT: u64 = 4_294_967_296;
-
-/// How many bytes are read at once.
-const PIECE: usize = 65_536;
 
 /// What is written where the words are outside the grammar.
 const USAGE: &[u8] =
@@ -57,7 +53,7 @@ pub enum Status {
 ///
 /// `rt` is what starts threads, `shelf` what fetches files, and `gate` what a worker passes before each piece of its
 /// work. No line makes use of these three: profiles are computed on the calling thread, from the lines' items alone.
-pub fn serve<R: Threads, H: Shelf, S: Source, K: Sink, G: Gate>(
+pub fn serve<R: Threads + Sync, H: Shelf, S: Source, K: Sink, G: Gate>(
     rt: &R,
     alloc: Global,
     words: &[String],
@@ -76,16 +72,38 @@ pub fn serve<R: Threads, H: Shelf, S: Source, K: Sink, G: Gate>(
         → length before + length (output (map string_bytes words.now) files bytes) ≤ K.room out.old
         → TellsPrefix (K.written out.new) before (output (map string_bytes words.now) files bytes) }
 
+    // Which front it is: behind a failed read, the reports of all lines that an LF ended before it; behind the limit on
+    // input, those of the lines ended within it; for want of memory, those of whole lines.
+    ensures read_fault_front { (setup : Setup) (files : Files) (bytes before : List ℕ) → job (map string_bytes words.now) ≡ Some setup
+        → S.left input.old ≡ Some bytes → K.written out.old ≡ Some before
+        → length before + length (output (map string_bytes words.now) files bytes) ≤ K.room out.old
+        → result ≡ Status.ReadFault
+        → ToldTaken (opening setup.window setup.scale) files bytes (S.left input.new) before (K.written out.new) }
+    ensures input_limit_front { (setup : Setup) (files : Files) (bytes before : List ℕ) → job (map string_bytes words.now) ≡ Some setup
+        → S.left input.old ≡ Some bytes → K.written out.old ≡ Some before
+        → length before + length (output (map string_bytes words.now) files bytes) ≤ K.room out.old
+        → result ≡ Status.InputLimit
+        → K.written out.new ≡ Some (before ++ reports (opening setup.window setup.scale) files (ended_lines (take input_limit bytes))) }
+    ensures memory_front { (setup : Setup) (files : Files) (bytes before : List ℕ) → job (map string_bytes words.now) ≡ Some setup
+        → S.left input.old ≡ Some bytes → K.written out.old ≡ Some before
+        → length before + length (output (map string_bytes words.now) files bytes) ≤ K.room out.old
+        → result ≡ Status.Memory
+        → (count : ℕ) × (K.written out.new ≡ Some (before ++ reports (opening setup.window setup.scale) files (take count (lines bytes)))) }
+
     // Where nothing is to be written, nothing is done with the sink, however the run ended.
     ensures quiet { (files : Files) (bytes : List ℕ) → S.left input.old ≡ Some bytes
         → output (map string_bytes words.now) files bytes ≡ [] → out.new ≡ out.old }
 
     // To the end of the input: whether some line was refused, that nothing is left, and that it was no longer than the
     // limit.
-    ensures refused { (setup : Setup) (files : Files) (bytes : List ℕ) → job (map string_bytes words.now) ≡ Some setup → S.left input.old ≡ Some bytes
-        → IsTrue (is_whole result) → result ≡ ran (some_refused (opening setup) files (lines bytes)) }
+    ensures refused { (setup : Setup) (files : Files) (bytes : List ℕ) → job (map string_bytes words.now) ≡ Some setup
+        → S.left input.old ≡ Some bytes → IsTrue (is_whole result)
+        → result ≡ ran (some_refused (opening setup.window setup.scale) files (lines bytes)) }
     ensures read { (bytes : List ℕ) → S.left input.old ≡ Some bytes → IsTrue (is_whole result) → S.left input.new ≡ Some [] }
-    ensures within { (bytes : List ℕ) → S.left input.old ≡ Some bytes → IsTrue (is_whole result) → length bytes ≤ INPUT_LIMIT }
+    ensures within { (bytes : List ℕ) → S.left input.old ≡ Some bytes → IsTrue (is_whole result) → length bytes ≤ input_limit }
+
+    // At most one byte past the limit is taken.
+    ensures given { S.given input.new ≤ S.given input.old + input_limit + 1 }
 
     // Words outside the grammar.
     ensures words { result ≡ Status.Words → job (map string_bytes words.now) ≡ None }
@@ -95,7 +113,8 @@ pub fn serve<R: Threads, H: Shelf, S: Source, K: Sink, G: Gate>(
     ensures usage_front { (before : List ℕ) → K.written out.old ≡ Some before → length before + length usage ≤ K.room out.old
         → job (map string_bytes words.now) ≡ None → TellsPrefix (K.written out.new) before usage }
     ensures usage_unfinished { (before : List ℕ) → K.written out.old ≡ Some before → length before + length usage ≤ K.room out.old
-        → job (map string_bytes words.now) ≡ None → result ≡ Status.WriteFault → ¬ ((K.written out.new ≡ Some (before ++ usage)) × (K.flushed out.new ≡ true)) }
+        → job (map string_bytes words.now) ≡ None → result ≡ Status.WriteFault
+        → ¬ ((K.written out.new ≡ Some (before ++ usage)) × (K.flushed out.new ≡ true)) }
     ensures unread { job (map string_bytes words.now) ≡ None
         → (S.left input.new ≡ S.left input.old) × (S.given input.new ≡ S.given input.old) × (S.faults input.new ≡ S.faults input.old) }
 
@@ -107,11 +126,12 @@ pub fn serve<R: Threads, H: Shelf, S: Source, K: Sink, G: Gate>(
     // Why a run ended early.
     ensures read_fault { result ≡ Status.ReadFault → Rose (S.faults input.old) (S.faults input.new) }
     ensures write_fault { result ≡ Status.WriteFault → Rose (K.faults out.old) (K.faults out.new) }
-    ensures input_limit { result ≡ Status.InputLimit → S.given input.old + INPUT_LIMIT < S.given input.new }
-    ensures past_limit { (bytes : List ℕ) → S.left input.old ≡ Some bytes → result ≡ Status.InputLimit → INPUT_LIMIT < length bytes }
+    ensures input_limit { result ≡ Status.InputLimit → S.given input.old + input_limit < S.given input.new }
+    ensures past_limit { (bytes : List ℕ) → S.left input.old ≡ Some bytes → result ≡ Status.InputLimit → input_limit < length bytes }
     ensures shelf { H.faults shelf.new ≡ H.faults shelf.old }
     ensures complete { (setup : Setup) → job (map string_bytes words.now) ≡ Some setup
-        → ¬ Rose (S.faults input.old) (S.faults input.new) → ¬ Rose (K.faults out.old) (K.faults out.new) → S.given input.new ≤ S.given input.old + INPUT_LIMIT
+        → ¬ Rose (S.faults input.old) (S.faults input.new) → ¬ Rose (K.faults out.old) (K.faults out.new)
+        → S.given input.new ≤ S.given input.old + input_limit
         → IsTrue (is_whole result) ⊎ (result ≡ Status.Memory) }
 {
     let Some(settings) = read_words(words) else {
@@ -131,7 +151,7 @@ fn refuse_words<K: Sink>(out: &mut K) -> Status
         → result ≡ Status.WriteFault → ¬ ((K.written out.new ≡ Some (before ++ usage)) × (K.flushed out.new ≡ true)) }
     ensures write_fault { result ≡ Status.WriteFault → Rose (K.faults out.old) (K.faults out.new) }
 {
-    match report(out, USAGE) {
+    match write_report(out, USAGE) {
         Ok(()) => Status::Words,
         Err(Failed) => Status::WriteFault,
     }
@@ -143,15 +163,15 @@ fn status_of(outcome: Result<bool, Halt>) -> Status
     match outcome {
         Ok(false) => Status::Done,
         Ok(true) => Status::Refused,
-        Err(Halt::ReadFault) => Status::ReadFault,
+        Err(Halt::ReadFault | Halt::ShelfFault) => Status::ReadFault,
         Err(Halt::WriteFault) => Status::WriteFault,
         Err(Halt::InputLimit) => Status::InputLimit,
         Err(Halt::Memory) => Status::Memory,
     }
 }
 
-/// Reads the input to its end, runs its lines, and answers whether some line was refused.
-fn run_session<R: Threads, H: Shelf, S: Source, K: Sink, G: Gate>(
+/// Runs a session of these settings on the input, and answers whether some line was refused.
+fn run_session<R: Threads + Sync, H: Shelf, S: Source, K: Sink, G: Gate>(
     rt: &R,
     alloc: Global,
     settings: Settings,
@@ -164,80 +184,41 @@ fn run_session<R: Threads, H: Shelf, S: Source, K: Sink, G: Gate>(
     requires limit { limit < 2 ^ 64 - 1 }
     requires given { S.given input.old ≤ 2 ^ 127 }
 
-    // Where the input is told, its lines are run and no others.
+    ensures told { (files : Files) (bytes before : List ℕ) → S.left input.old ≡ Some bytes → K.written out.old ≡ Some before
+        → length before + length (session_output (opening settings.window settings.scale) files bytes) ≤ K.room out.old
+        → OnOk result (K.written out.new ≡ Some (before ++ session_output (opening settings.window settings.scale) files bytes)) }
+    ensures front { (files : Files) (bytes before : List ℕ) → S.left input.old ≡ Some bytes → K.written out.old ≡ Some before
+        → length before + length (session_output (opening settings.window settings.scale) files bytes) ≤ K.room out.old
+        → TellsPrefix (K.written out.new) before (session_output (opening settings.window settings.scale) files bytes) }
+    ensures read_fault_front { (files : Files) (bytes before : List ℕ) → S.left input.old ≡ Some bytes → K.written out.old ≡ Some before
+        → length before + length (session_output (opening settings.window settings.scale) files bytes) ≤ K.room out.old
+        → IsErrOf result Halt.ReadFault
+        → ToldTaken (opening settings.window settings.scale) files bytes (S.left input.new) before (K.written out.new) }
+    ensures input_limit_front { (files : Files) (bytes before : List ℕ) → S.left input.old ≡ Some bytes → K.written out.old ≡ Some before
+        → length before + length (session_output (opening settings.window settings.scale) files bytes) ≤ K.room out.old
+        → IsErrOf result Halt.InputLimit
+        → K.written out.new ≡ Some (before ++ reports (opening settings.window settings.scale) files (ended_lines (take limit bytes))) }
+    ensures memory_front { (files : Files) (bytes before : List ℕ) → S.left input.old ≡ Some bytes → K.written out.old ≡ Some before
+        → length before + length (session_output (opening settings.window settings.scale) files bytes) ≤ K.room out.old
+        → IsErrOf result Halt.Memory
+        → (count : ℕ) × (K.written out.new ≡ Some (before ++ reports (opening settings.window settings.scale) files (take count (lines bytes)))) }
+
+    ensures quiet { (files : Files) (bytes : List ℕ) → S.left input.old ≡ Some bytes
+        → session_output (opening settings.window settings.scale) files bytes ≡ [] → out.new ≡ out.old }
     ensures refused { (files : Files) (bytes : List ℕ) → S.left input.old ≡ Some bytes
-        → IfOk result (λ refused. refused ≡ some_refused (opening (setup_by settings)) files (lines_left nothing bytes)) }
-    ensures told { (bytes : List ℕ) → S.left input.old ≡ Some bytes
-        → OnOk result (HasReports (setup_by settings) (lines_left nothing bytes) (K.written out.old) (K.room out.old) (K.written out.new)) }
-    ensures front { (bytes : List ℕ) → S.left input.old ≡ Some bytes
-        → OnErr result (HasFront (setup_by settings) (lines_left nothing bytes) (K.written out.old) (K.room out.old) (K.written out.new)) }
+        → IfOk result (λ refused. refused ≡ some_refused (opening settings.window settings.scale) files (lines bytes)) }
     ensures read { (bytes : List ℕ) → S.left input.old ≡ Some bytes → OnOk result (S.left input.new ≡ Some []) }
     ensures within { (bytes : List ℕ) → S.left input.old ≡ Some bytes → OnOk result (length bytes ≤ limit) }
     ensures past { (bytes : List ℕ) → S.left input.old ≡ Some bytes → IsErrOf result Halt.InputLimit → limit < length bytes }
+    ensures given { S.given input.new ≤ S.given input.old + limit + 1 }
 
-    ensures quiet { (files : Files) (bytes : List ℕ) → S.left input.old ≡ Some bytes
-        → AreQuiet (setup_by settings) files (lines_left nothing bytes) → out.new ≡ out.old }
     ensures flushed { OnOk result ((K.flushed out.new ≡ true) ⊎ (out.new ≡ out.old)) }
-    ensures shelf { H.faults shelf.new ≡ H.faults shelf.old }
-    ensures input_limit { IsErrOf result Halt.InputLimit → S.given input.old + limit < S.given input.new }
     ensures read_fault { IsErrOf result Halt.ReadFault → Rose (S.faults input.old) (S.faults input.new) }
+    ensures no_shelf_fault { IsErrOf result Halt.ShelfFault → ⊥ }
     ensures write_fault { IsErrOf result Halt.WriteFault → Rose (K.faults out.old) (K.faults out.new) }
+    ensures input_limit { IsErrOf result Halt.InputLimit → S.given input.old + limit < S.given input.new }
+    ensures shelf { H.faults shelf.new ≡ H.faults shelf.old }
 {
-    let mut course = Course::new(alloc, settings)?;
-    let mut buffer = piece_buffer(alloc)?;
-    let mut left = limit;
-    loop {
-        match read_piece(input, buffer.as_mut_slice(), left) {
-            Err(Failed) => return Err(Halt::ReadFault),
-            Ok(Piece::End) => break,
-            Ok(Piece::Within(count)) => {
-                course.run_piece(rt, alloc, &buffer[..count], shelf, out, gate)?;
-                left -= count as u64;
-            }
-            Ok(Piece::PastLimit(count)) => {
-                course.run_piece(rt, alloc, &buffer[..count], shelf, out, gate)?;
-                return Err(Halt::InputLimit);
-            }
-        }
-    }
-    course.finish(rt, alloc, shelf, out, gate)?;
-    Ok(course.refused)
-}
-
-/// What a read gave.
-#[derive(Clone, Copy)]
-enum Piece {
-    /// Nothing, at the end of the input.
-    End,
-    /// So many bytes, within the limit.
-    Within(usize),
-    /// So many bytes within the limit, and one past it.
-    PastLimit(usize),
-}
-
-/// Reads bytes into the front of the buffer, at most one more than is left up to the limit.
-fn read_piece<S: Source>(input: &mut S, buffer: &mut [u8], left: u64) -> Result<Piece, Failed>
-    requires room { 0 < length buffer.old }
-    requires limit { left < 2 ^ 64 - 1 }
-    ensures within { IfOk result (IsPieceOf (length buffer.new) left) }
-    ensures told { (bytes : List ℕ) → S.left input.old ≡ Some bytes → IfOk result (IsReadOf bytes buffer.new (S.left input.new)) }
-    ensures given { IfOk result (λ piece. S.given input.new ≡ min (S.given input.old + taken_by piece) (2 ^ 128 - 1)) }
-    ensures faults { S.faults input.old ≤ S.faults input.new }
-    ensures cause { OnErr result (Rose (S.faults input.old) (S.faults input.new)) }
-{
-    let count = buffer.len().min((left + 1) as usize);
-    let given = input.read(&mut buffer[..count])?;
-    if given == 0 {
-        Ok(Piece::End)
-    } else if given as u64 <= left {
-        Ok(Piece::Within(given))
-    } else {
-        Ok(Piece::PastLimit(given - 1))
-    }
-}
-
-fn piece_buffer(alloc: Global) -> Result<Vec<u8>, AllocError>
-    ensures { IfOk result (λ buffer. vec_len buffer ≡ PIECE) }
-{
-    vec![in alloc; 0u8; PIECE]
+    let mut session = Session::new(alloc, settings)?;
+    run_lines(&mut session, rt, alloc, shelf, input, out, gate, limit)
 }

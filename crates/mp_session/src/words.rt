@@ -1,12 +1,11 @@
 //! The words that the program is started with.
 
-ghost use Rattle.std.specs.Prelude.{◌≡◌, map, string_bytes, option_map};
-ghost use Rattle.mp_replies.specs.Words.{job, setup_of, window_of};
-ghost use Rattle.mp_session.specs.Jobs.{setup_by};
+ghost use Rattle.std.specs.Prelude.{◌≡◌, map, string_bytes};
+ghost use Rattle.mp_defs.specs.Limits.{min_window, max_window};
+ghost use Rattle.mp_replies.specs.Words.{job, value_between};
 
-use crate::commands::spells;
-use crate::numbers::read_whole;
 use crate::settings::Settings;
+use mp_bytes::{read_number, same_text};
 use mp_series::{MAX_WINDOW, MIN_WINDOW};
 
 const DEFAULT_SCALE: u8 = 0;
@@ -20,31 +19,24 @@ const MAX_DIGITS: usize = 20;
 
 /// What the words ask for, where they are in the grammar: `--window` and a number.
 pub(crate) fn read_words(words: &[String]) -> Option<Settings>
-    ensures { option_map setup_by result ≡ job (map string_bytes words.now) }
+    ensures { result ≡ job (map string_bytes words.now) }
 {
     match words {
-        [name, value] if spells(name.as_bytes(), b"--window") => read_settings(value.as_bytes()),
+        [name, value] if same_text(name.as_bytes(), b"--window") => {
+            let window = read_window(value.as_bytes())?;
+            Settings::new(window, DEFAULT_SCALE, DEFAULT_TILE, DEFAULT_WORKERS)
+        }
         _ => None,
     }
 }
 
-fn read_settings(value: &[u8]) -> Option<Settings>
-    ensures { option_map setup_by result ≡ setup_of value.now }
-{
-    let window = read_window(value)?;
-    Settings::new(window, DEFAULT_SCALE, DEFAULT_TILE, DEFAULT_WORKERS)
-}
-
 fn read_window(value: &[u8]) -> Option<u32>
-    ensures { result ≡ window_of value.now }
+    ensures { result ≡ value_between min_window max_window value.now }
 {
-    if value.len() > MAX_DIGITS {
-        return None;
-    }
-    let window = u32::try_from(read_whole(value)?).ok()?;
-    if (MIN_WINDOW..=MAX_WINDOW).contains(&window) {
-        Some(window)
-    } else {
+    let window = read_number(value, MAX_DIGITS, u128::from(MAX_WINDOW))? as u32;
+    if window < MIN_WINDOW {
         None
+    } else {
+        Some(window)
     }
 }

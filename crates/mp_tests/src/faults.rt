@@ -15,7 +15,7 @@ use std::thread::Threads;
 const INPUT: &[u8] = b"append 0 1 2 3\nprofile 0\n";
 
 /// Serves the source with these words.
-fn serve_into<R: AllocGlobal + Threads, S: Source, K: Sink>(
+fn serve_into<R: AllocGlobal + Threads + Sync, S: Source, K: Sink>(
     rt: &R,
     words: &[&str],
     input: &mut S,
@@ -57,6 +57,28 @@ fn a_failed_read_ends_the_run(rt: HostRuntime) -> Result<(), Fail> {
     Ok(())
 }
 
+// The first read brings a whole line and a part of the next, which isn't run.
+#[test]
+fn the_lines_before_a_failed_read_are_reported(rt: HostRuntime) -> Result<(), Fail> {
+    let alloc = rt.alloc();
+    for (step, written) in [
+        (15, "ok 1 3\n"),
+        (24, "ok 1 3\n"),
+        (25, "ok 1 3\nprofile 2 1\n0 - - - -\n"),
+    ] {
+        let mut input = MemSource::new(INPUT.to_vec(alloc)?, step, vec![in alloc; 1]?);
+        let mut out = CalmSink::new(alloc, 64)?;
+        let status = serve_into(&rt, &["--window", "3"], &mut input, &mut out)?;
+        assert_eq!(rt; status, Status::ReadFault, "{step} bytes are read");
+        assert_eq!(rt;
+            str::from_utf8(out.bytes())?,
+            written,
+            "{step} bytes are read"
+        );
+    }
+    Ok(())
+}
+
 #[test]
 fn a_failed_write_or_flush_ends_the_run(rt: HostRuntime) -> Result<(), Fail> {
     let alloc = rt.alloc();
@@ -90,6 +112,20 @@ fn quiet_lines_leave_the_sink_alone(rt: HostRuntime) -> Result<(), Fail> {
     assert_eq!(rt; status, Status::Done);
     assert!(rt; out.bytes().is_empty());
     assert_eq!(rt; out.flush(), Err(Failed), "the first call fails");
+    Ok(())
+}
+
+// The refused line takes three calls: two writes and a flush. A quiet line behind it makes no fourth one.
+#[test]
+fn a_quiet_line_behind_a_report_is_not_flushed(rt: HostRuntime) -> Result<(), Fail> {
+    let alloc = rt.alloc();
+    let lines = b"x\n# nothing to report\n\n";
+    let mut input = MemSource::new(lines.to_vec(alloc)?, 8, Vec::new(alloc));
+    let mut out = MemSink::new(alloc, 64, 9, vec![in alloc; 3]?)?;
+    let status = serve_into(&rt, &["--window", "3"], &mut input, &mut out)?;
+    assert_eq!(rt; status, Status::Refused);
+    assert_eq!(rt; str::from_utf8(out.bytes())?, "refused 1 unknown\n");
+    assert_eq!(rt; out.flush(), Err(Failed), "the fourth call fails");
     Ok(())
 }
 

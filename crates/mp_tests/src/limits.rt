@@ -1,5 +1,7 @@
 //! The longest lines and the longest series.
 
+ghost use Rattle.std.specs.Prelude.{◌<◌};
+
 use crate::run::{Run, check};
 use mp_session::Feed;
 use mp_session::top::Status;
@@ -15,7 +17,7 @@ const LINE: usize = 1_048_576;
 const SERIES: usize = 262_144;
 
 /// Serves the input for windows of three samples.
-fn check_long<R: Abort + AllocGlobal + Threads>(
+fn check_long<R: Abort + AllocGlobal + Threads + Sync>(
     rt: &R,
     input: &[u8],
     output: &str,
@@ -102,4 +104,37 @@ fn a_series_takes_no_more_than_the_longest(rt: HostRuntime) -> Result<(), Fail> 
         check_long(&rt, input.as_slice(), output, status)?;
     }
     Ok(())
+}
+
+/// How many windows of 16,384 samples lie in 30,000.
+const WINDOWS: u64 = 13_617;
+
+/// The row of such a window where all samples are 0: of the windows that start more than 4,096 away the first is named.
+fn row_of_zeros(alloc: Global, start: u64) -> Result<String, AllocError>
+    requires { start < WINDOWS }
+{
+    let next = start + 4_097;
+    match (start > 4_096, next < WINDOWS) {
+        (true, true) => format!(in alloc; "{start} 0 0 0 {next}\n"),
+        (true, false) => format!(in alloc; "{start} 0 0 0 -\n"),
+        (false, true) => format!(in alloc; "{start} 0 {next} - {next}\n"),
+        (false, false) => format!(in alloc; "{start} - - - -\n"),
+    }
+}
+
+#[test]
+fn a_long_series_has_a_profile_of_the_longest_windows(rt: HostRuntime) -> Result<(), Fail> {
+    let input = zeros(rt.alloc(), 30_000, "\nprofile 0\n")?;
+    let mut output = String::from_str(rt.alloc(), "ok 1 30000\nprofile 2 13617\n")?;
+    for start in 0..WINDOWS {
+        output.push_str(row_of_zeros(rt.alloc(), start)?.as_str())?;
+    }
+    let run = Run {
+        shows: "the longest windows of 30,000 samples",
+        words: "--window 16384",
+        input: input.as_slice(),
+        output: output.as_str(),
+        status: Status::Done,
+    };
+    check(&rt, &run, 65_536)
 }

@@ -11,7 +11,7 @@ use std::test::Fail;
 use std::thread::Threads;
 
 /// How many bytes of output are kept: more than any run here writes.
-const ROOM: u64 = 65_536;
+const ROOM: u64 = 1_048_576;
 
 /// A whole run.
 #[derive(Clone, Copy)]
@@ -25,7 +25,7 @@ pub(crate) struct Run<'a> {
 }
 
 /// Makes each run of the table in reads of at most one byte, of seven, and of as many as are read at once.
-pub(crate) fn check_all<R: Abort + AllocGlobal + Threads>(
+pub(crate) fn check_all<R: Abort + AllocGlobal + Threads + Sync>(
     rt: &R,
     table: &[Run<'_>],
 ) -> Result<(), Fail> {
@@ -38,7 +38,7 @@ pub(crate) fn check_all<R: Abort + AllocGlobal + Threads>(
 }
 
 /// Makes the run in reads of at most `step` bytes.
-pub(crate) fn check<R: Abort + AllocGlobal + Threads>(
+pub(crate) fn check<R: Abort + AllocGlobal + Threads + Sync>(
     rt: &R,
     run: &Run<'_>,
     step: usize,

@@ -4,7 +4,8 @@ use Rattle.std.specs.List.{list_all}
 use Rattle.std.proofs.lemmas.List.{take-replicate, take-append-drop, take_all}
 use Rattle.std.proofs.lemmas.List.Folds.{list_all-append}
 use Rattle.std.proofs.lemmas.List.Sums.{fold-append}
-use Rattle.mp_text.specs.SampleText.{next_digit, value_of, fixed}
+use Rattle.mp_bytes.specs.Digits.{next_digit, value_of}
+use Rattle.mp_text.specs.SampleText.{fixed}
 
 pub list_all-take : (p : ℕ → Bool) (n : ℕ) (xs : List ℕ) → list_all p xs ≡ true → list_all p (take n xs) ≡ true
 list_all-take p n xs h = grind (arith, list_all-append p (take n xs) (drop n xs), take-append-drop n xs)

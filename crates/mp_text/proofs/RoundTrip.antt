@@ -12,7 +12,10 @@ use Rattle.std.proofs.lemmas.Str.Parse.{IsNumeralModel, IsDigitsTest, FoldsDigit
 use Rattle.std.proofs.lemmas.Fmt.{digits_decimal, digits_value-decimal, decimal_nonempty}
 use Rattle.std.proofs.Math.Nat.{div-div-eq-div-mul, pow-succ', div-le_self}
 use Rattle.std.proofs.Math.Seq.{take-append_seam, drop-append-add}
-use Rattle.mp_text.specs.SampleText.{Numeral, is_blank, is_point, without_leading_blanks, without_trailing_blanks, trimmed, is_empty, is_missing, has_form, parted, numeral_of, next_digit, value_of, fixed, is_exact, signed, units_of, is_within, number_of, sample_of, last_digits, fraction_text, magnitude_text}
+use Rattle.mp_bytes.specs.Bytes.{is_blank, is_empty}
+use Rattle.mp_bytes.specs.Digits.{next_digit, value_of}
+use Rattle.mp_text.specs.SampleText.{Numeral, is_point, without_leading_blanks, without_trailing_blanks, trimmed, is_missing, has_form, parted, numeral_of}
+use Rattle.mp_text.specs.SampleText.{fixed, is_exact, signed, units_of, is_within, number_of, sample_of, last_digits, fraction_text, magnitude_text}
 use Rattle.mp_text.specs.SampleLaws.{WrittenNumbersAreReadBack, MissingSamplesAreReadBack}
 
 -- ---- digits

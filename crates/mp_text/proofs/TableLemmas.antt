@@ -9,7 +9,7 @@ use Rattle.std.proofs.Math.Seq.{get_or-append_seam, set-append_seam}
 use Rattle.mp_text.specs.declared.refusal.TableFault.{TableFault}
 use Rattle.mp_nums.specs.declared.samples.Sample.{Sample}
 use Rattle.mp_defs.specs.Series.{Series, reading_of, series_of}
-use Rattle.mp_series.specs.declared.limits.TheConstants.{MAX_SAMPLES}
+use Rattle.mp_defs.specs.Limits.{max_samples}
 use Rattle.std.proofs.lemmas.Simd.{map-map}
 use Rattle.mp_text.specs.Table.{Fields, added, cell, cell_fault, column_of, first_of, record_fault, table_fault, table_of, unless_faulty}
 use Rattle.csv.specs.Records.{field_at}
@@ -93,10 +93,10 @@ ok_part (Err e) P h p = absurd (cc h)
 
 -- ---- records in turn
 
-pub table_fault-fine : (scale number : ℕ) (columns : List ℕ) (fields : Fields) (rest : List Fields) → number ≤ MAX_SAMPLES → record_fault scale number fields columns ≡ None
+pub table_fault-fine : (scale number : ℕ) (columns : List ℕ) (fields : Fields) (rest : List Fields) → number ≤ max_samples → record_fault scale number fields columns ≡ None
     → table_fault scale columns number (fields ∷ rest) ≡ table_fault scale columns (number + 1) rest
 table_fault-fine scale number columns fields rest few fine =
-    let below : number == MAX_SAMPLES + 1 ≡ false = grind (arith, nat_tests) in
+    let below : number == max_samples + 1 ≡ false = grind (arith, nat_tests) in
     rw (below, fine) refl
 
 -- what was gathered of some records, whose first fault is known so far
@@ -114,7 +114,7 @@ gathered_none scale columns all series is = record { done = []; whole = refl; se
     none (c ∷ cs) = ap (λ (ss : List Series). [] ∷ ss) (none cs)
 
 pub gathered_more : (scale : ℕ) (columns : List ℕ) (all left rest : List Fields) (fields : Fields) (number : ℕ) (series grown : List Series) → Gathered scale columns all left number series
-    → left ≡ fields ∷ rest → number ≤ MAX_SAMPLES → record_fault scale number fields columns ≡ None
+    → left ≡ fields ∷ rest → number ≤ max_samples → record_fault scale number fields columns ≡ None
     → ((rows : List Fields) → series ≡ map (column_of scale rows) columns → grown ≡ map (column_of scale (rows ++ fields ∷ [])) columns)
     → Gathered scale columns all rest (number + 1) grown
 gathered_more scale columns all left rest fields number series grown g is few fine more = record {

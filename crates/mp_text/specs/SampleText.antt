@@ -1,15 +1,15 @@
 -- The text of a sample: a word for a missing one, or a decimal number with an optional sign.
-use Rattle.std.specs.Prelude.{ℕ, ◌+◌, ◌-◌, ◌*◌, ◌/◌, ◌%◌, ◌^◌, ◌==◌, ◌&&◌, ◌||◌, zero, suc, Bool, true, false, not, nat_eq, List, [], ◌∷◌, ◌++◌, take, drop, length, reverse, replicate, fold, codes, decimal, ℤ, pos, negsuc, neg_ℤ, int_le, unsigned_abs, if◌then◌else◌, Option, Some, None, Result, Ok, Err}
+use Rattle.std.specs.Prelude.{ℕ, ◌+◌, ◌-◌, ◌/◌, ◌%◌, ◌^◌, ◌==◌, ◌&&◌, ◌||◌, zero, suc, Bool, true, false, not, List, [], ◌∷◌, ◌++◌}
+use Rattle.std.specs.Prelude.{take, drop, length, reverse, replicate, codes, decimal, ℤ, pos, negsuc, neg_ℤ, int_le, unsigned_abs}
+use Rattle.std.specs.Prelude.{if◌then◌else◌, Option, Some, None, Result, Ok, Err}
 use Rattle.std.specs.List.{list_all, before_first, after_first}
 use Rattle.std.specs.Char.{is_ascii_digit}
-use Rattle.std.specs.Cmp.Lexicographic.{pointwise}
+use Rattle.mp_bytes.specs.Bytes.{is_blank, same_text, is_empty}
+use Rattle.mp_bytes.specs.Digits.{value_of}
 use Rattle.mp_text.specs.declared.refusal.SampleFault.{SampleFault}
 use Rattle.mp_text.specs.declared.refusal.SampleFault.TheVariants.{Form, Fine, Range}
 
 -- ---- blanks round a text
-
-abbrev pub is_blank : ℕ → Bool
-is_blank b = (b == 32) || (b == 9)
 
 abbrev pub without_leading_blanks : List ℕ → List ℕ
 without_leading_blanks [] = []
@@ -22,13 +22,6 @@ abbrev pub trimmed : List ℕ → List ℕ
 trimmed text = without_trailing_blanks (without_leading_blanks text)
 
 -- ---- the words for a missing sample
-
-abbrev pub same_text : List ℕ → List ℕ → Bool
-same_text xs ys = pointwise nat_eq xs ys
-
-abbrev pub is_empty : List ℕ → Bool
-is_empty [] = true
-is_empty (b ∷ bs) = false
 
 abbrev pub is_missing : List ℕ → Bool
 is_missing text =
@@ -48,24 +41,19 @@ is_point b = b == 46
 
 -- at least one digit in all, and nothing else
 abbrev pub has_form : Numeral → Bool
-has_form n = not (is_empty n.whole && is_empty n.fraction) && list_all is_ascii_digit n.whole && list_all is_ascii_digit n.fraction
+has_form n =
+    not (is_empty n.whole && is_empty n.fraction) && list_all is_ascii_digit n.whole && list_all is_ascii_digit n.fraction
 
 -- what stands before the first point of a text and what stands behind it
 abbrev pub parted : Bool → List ℕ → Numeral
-parted is_negative text = record { is_negative = is_negative; whole = before_first is_point text; fraction = after_first is_point text }
+parted is_negative text =
+    record { is_negative = is_negative; whole = before_first is_point text; fraction = after_first is_point text }
 
 -- the same, behind an optional sign
 abbrev pub numeral_of : List ℕ → Numeral
 numeral_of [] = parted false []
-numeral_of (b ∷ bs) = if b == 45 then parted true bs else if b == 43 then parted false bs else parted false (b ∷ bs)
-
--- the number with one digit more
-abbrev pub next_digit : ℕ → ℕ → ℕ
-next_digit n digit = 10 * n + (digit - 48)
-
--- the number that digits spell
-abbrev pub value_of : List ℕ → ℕ
-value_of digits = fold next_digit 0 digits
+numeral_of (b ∷ bs) =
+    if b == 45 then parted true bs else if b == 43 then parted false bs else parted false (b ∷ bs)
 
 -- so many digits of a fraction, with zeros where it is shorter
 abbrev pub fixed : ℕ → List ℕ → List ℕ
@@ -98,7 +86,8 @@ number_of low high scale n =
 
 -- what a text spells at a scale, where numbers lie between the bounds: a missing sample, a number, or its first fault
 abbrev pub sample_of : ℤ → ℤ → ℕ → List ℕ → Result (Option ℤ) SampleFault
-sample_of low high scale text = if is_missing (trimmed text) then Ok None else number_of low high scale (numeral_of (trimmed text))
+sample_of low high scale text =
+    if is_missing (trimmed text) then Ok None else number_of low high scale (numeral_of (trimmed text))
 
 -- ---- writing
 

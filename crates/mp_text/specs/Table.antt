@@ -5,13 +5,12 @@ use Rattle.csv.specs.Records.{field_at}
 use Rattle.std.specs.declared.vec.Vec.{Vec}
 use Rattle.std.specs.declared.alloc.Global.{Global}
 use Rattle.mp_nums.specs.declared.samples.Sample.{Sample}
+use Rattle.mp_defs.specs.Limits.{max_samples, least_sample, greatest_sample}
 use Rattle.mp_defs.specs.Series.{Series, series_of}
-use Rattle.mp_series.specs.declared.limits.TheConstants.{MAX_SAMPLES}
 use Rattle.mp_text.specs.SampleText.{sample_of}
 use Rattle.mp_text.specs.declared.refusal.SampleFault.{SampleFault}
 use Rattle.mp_text.specs.declared.refusal.TableFault.{TableFault}
 use Rattle.mp_text.specs.declared.refusal.TableFault.TheVariants as table
-use Rattle.mp_text.specs.declared.spelling.TheConstants.{LEAST_SAMPLE, GREATEST_SAMPLE}
 
 -- the fields of a record
 abbrev pub Fields : Type 0
@@ -24,7 +23,7 @@ data_records header text = if header then drop 1 (records default_config (strip_
 -- ---- one field
 
 abbrev pub reading : ℕ → List ℕ → Result (Option ℤ) SampleFault
-reading scale text = sample_of LEAST_SAMPLE GREATEST_SAMPLE scale text
+reading scale text = sample_of least_sample greatest_sample scale text
 
 abbrev pub reading_fault : ℕ → ℕ → Result (Option ℤ) SampleFault → Option TableFault
 reading_fault number column (Ok sample) = None
@@ -59,7 +58,7 @@ record_fault scale number fields (column ∷ columns) =
 abbrev pub table_fault : ℕ → List ℕ → ℕ → List Fields → Option TableFault
 table_fault scale columns number [] = None
 table_fault scale columns number (fields ∷ rest) =
-    if number == MAX_SAMPLES + 1 then Some table.Rows
+    if number == max_samples + 1 then Some table.Rows
     else first_of (record_fault scale number fields columns) (table_fault scale columns (number + 1) rest)
 
 -- ---- the columns

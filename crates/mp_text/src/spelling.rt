@@ -4,10 +4,14 @@ ghost use Rattle.std.specs.Prelude.{◌≡◌, ◌≤◌, ◌-◌, ◌++◌, ◌
 ghost use Rattle.std.specs.List.{before_first, after_first, list_all};
 ghost use Rattle.std.specs.Char.{is_ascii_digit};
 ghost use Rattle.mp_defs.specs.Series.{reading_of};
-ghost use Rattle.mp_text.specs.SampleText.{is_empty, sample_of, number_of, numeral_of, parted, has_form, is_exact, fixed, units_of, signed, next_digit, value_of, trimmed, is_missing, is_blank, is_within, is_point, same_text, without_leading_blanks, without_trailing_blanks};
+ghost use Rattle.mp_bytes.specs.Bytes.{is_empty};
+ghost use Rattle.mp_bytes.specs.Digits.{next_digit, value_of};
+ghost use Rattle.mp_defs.specs.Limits.{least_sample, greatest_sample};
+ghost use Rattle.mp_text.specs.SampleText.{sample_of, number_of, numeral_of, parted, has_form, is_exact, fixed, units_of, signed, trimmed, is_missing, is_within, is_point, without_leading_blanks, without_trailing_blanks};
 ghost use Rattle.mp_text.specs.Spelling.{seen};
 
 use crate::refusal::SampleFault;
+use mp_bytes::{is_blank, same_text};
 use mp_nums::Sample;
 
 /// The least number of a sample, in units of `10^-scale`.
@@ -31,8 +35,8 @@ const ZEROS: [u8; 9] = *b"000000000";
 /// `Range` for a number that is less than `LEAST_SAMPLE` or greater than `GREATEST_SAMPLE`.
 pub fn read_sample(text: &[u8], scale: u8) -> Result<Sample, SampleFault>
     requires { scale ≤ 9 }
-    ensures sample { IfOk result (λ sample. sample_of LEAST_SAMPLE GREATEST_SAMPLE scale text.now ≡ Ok (reading_of sample)) }
-    ensures fault { IfErr result (λ fault. sample_of LEAST_SAMPLE GREATEST_SAMPLE scale text.now ≡ Err fault) }
+    ensures sample { IfOk result (λ sample. sample_of least_sample greatest_sample scale text.now ≡ Ok (reading_of sample)) }
+    ensures fault { IfErr result (λ fault. sample_of least_sample greatest_sample scale text.now ≡ Err fault) }
 {
     let text = trimmed(text);
     if is_missing(text) {
@@ -113,8 +117,8 @@ impl<'a> Numeral<'a> {
     fn units(&self, scale: u8) -> i64
         requires form { IsTrue (has_form (seen self.now)) }
         requires places { scale ≤ 9 }
-        ensures within { is_within LEAST_SAMPLE GREATEST_SAMPLE result ≡ is_within LEAST_SAMPLE GREATEST_SAMPLE (units_of scale (seen self.now)) }
-        ensures value { is_within LEAST_SAMPLE GREATEST_SAMPLE result ≡ true → result ≡ units_of scale (seen self.now) }
+        ensures within { is_within least_sample greatest_sample result ≡ is_within least_sample greatest_sample (units_of scale (seen self.now)) }
+        ensures value { is_within least_sample greatest_sample result ≡ true → result ≡ units_of scale (seen self.now) }
     {
         let magnitude = self.magnitude(scale) as i64;
         if self.is_negative {
@@ -176,12 +180,6 @@ fn trimmed(text: &[u8]) -> &[u8]
     without_trailing_blanks(without_leading_blanks(text))
 }
 
-fn is_blank(byte: u8) -> bool
-    ensures { result ≡ is_blank byte }
-{
-    byte == b' ' || byte == b'\t'
-}
-
 fn without_leading_blanks(text: &[u8]) -> &[u8]
     ensures { result.now ≡ without_leading_blanks text.now }
 {
@@ -216,10 +214,4 @@ fn is_missing(text: &[u8]) -> bool
         || same_text(text, b"nan")
         || same_text(text, b"NaN")
         || same_text(text, b"NA")
-}
-
-fn same_text(text: &[u8], word: &[u8]) -> bool
-    ensures { result ≡ same_text text.now word.now }
-{
-    text == word
 }

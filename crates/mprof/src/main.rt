@@ -1,9 +1,14 @@
 //! The matrix profile of whole-number series: commands on standard input, reports on standard output.
 #![tactic(auto)]
 
+ghost use Rattle.std.specs.Prelude.{◌≡◌};
+ghost use Rattle.std.specs.Process.{exit_status};
+ghost use Rattle.mp_session.specs.Statuses.{number};
+
 use mp_nums::Memory;
 use mp_outside::{CalmShelf, OpenGate, StdSink, StdSource};
 use mp_session::top::{Status, serve};
+use std::alloc::Global;
 use std::env;
 use std::io::ErrorKind;
 use std::process::ExitCode;
@@ -11,19 +16,29 @@ use std::rt::Env;
 use std::thread::Threads;
 
 fn main(rt: HostRuntime) -> ExitCode {
-    let status = match run(&rt) {
+    let status = match run(&rt, &rt) {
         Ok(status) => status,
         Err(Memory) => Status::Memory,
     };
+    exit_code(status)
+}
+
+/// The code that the program exits with: the status's number.
+fn exit_code(status: Status) -> ExitCode
+    ensures { exit_status result ≡ number status }
+{
     ExitCode::from(status as u8)
 }
 
-/// Serves standard input with the words behind the program's name.
-fn run<R: AllocGlobal + Env + Input + Print + Threads>(rt: &R) -> Result<Status, Memory> {
-    let words = words(rt)?;
+/// Serves standard input with the words behind the program's name, both of which `shell` has, as it has standard output.
+fn run<R: AllocGlobal + Threads + Sync, E: Env + Input + Print>(
+    rt: &R,
+    shell: &E,
+) -> Result<Status, Memory> {
+    let words = words(rt.alloc(), shell)?;
     let mut shelf = CalmShelf::new(rt.alloc());
-    let mut input = StdSource::new(rt)?;
-    let mut out = StdSink::new(rt)?;
+    let mut input = StdSource::new(shell)?;
+    let mut out = StdSink::new(shell)?;
     Ok(serve(
         rt,
         rt.alloc(),
@@ -36,9 +51,9 @@ fn run<R: AllocGlobal + Env + Input + Print + Threads>(rt: &R) -> Result<Status,
 }
 
 /// The words behind the program's name, and none where one of them isn't UTF-8: no words are outside the grammar, too.
-fn words<R: AllocGlobal + Env>(rt: &R) -> Result<Vec<String>, Memory> {
-    let mut words = Vec::new(rt.alloc());
-    match env::args(rt) {
+fn words<E: Env>(alloc: Global, shell: &E) -> Result<Vec<String>, Memory> {
+    let mut words = Vec::new(alloc);
+    match env::args(&(shell, alloc)) {
         Ok(args) => {
             for word in args.skip(1) {
                 words.push(word)?;
@@ -49,3 +64,6 @@ fn words<R: AllocGlobal + Env>(rt: &R) -> Result<Vec<String>, Memory> {
     }
     Ok(words)
 }
+
+#[cfg(test)]
+mod tests;

@@ -27,7 +27,7 @@ fn main(rt: HostRuntime) -> Result<ExitCode> {
 }
 
 /// Prints a line for each series named by the arguments, and answers whether each has the output expected.
-fn run<R: AllocGlobal + Env + Files + Print + Threads>(rt: &R) -> Result<bool> {
+fn run<R: AllocGlobal + Env + Files + Print + Threads + Sync>(rt: &R) -> Result<bool> {
     let mut all = true;
     for name in env::args(rt)?.skip(1) {
         all &= report(rt, name.as_str())?;
@@ -36,7 +36,7 @@ fn run<R: AllocGlobal + Env + Files + Print + Threads>(rt: &R) -> Result<bool> {
 }
 
 /// Serves `NAME.first` and compares what is written with `NAME.first.out`.
-fn report<R: AllocGlobal + Files + Print + Threads>(rt: &R, name: &str) -> Result<bool> {
+fn report<R: AllocGlobal + Files + Print + Threads + Sync>(rt: &R, name: &str) -> Result<bool> {
     let alloc = rt.alloc();
     let path = format!(in alloc; "{name}.first")?;
     let input = fs::read(rt, path.as_str()).context(format_args!("reading {path}"))?;
@@ -57,7 +57,7 @@ fn window_of(name: &str) -> Result<&str> {
 }
 
 /// What is written for the input.
-fn serve_in_memory<R: AllocGlobal + Threads>(
+fn serve_in_memory<R: AllocGlobal + Threads + Sync>(
     rt: &R,
     window: &str,
     input: Vec<u8>,

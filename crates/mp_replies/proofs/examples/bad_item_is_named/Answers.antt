@@ -1,8 +1,8 @@
 use Rattle.std.proofs.Common.{refl}
-use Rattle.mp_replies.specs.Command.{command_of}
-use Rattle.mp_replies.specs.Step.{cause}
+use Rattle.mp_replies.specs.Line.{asked_of}
+use Rattle.mp_replies.specs.Step.{verdict, cause}
 use Rattle.mp_replies.proofs.examples.bad_item_is_named.Goals as goal
 
 pub returns : goal.returns
-unfolding command_of cause
+unfolding asked_of verdict cause
 returns c = λ files. refl

@@ -1,5 +1,5 @@
 use Rattle.std.proofs.Common.{◌≡◌, min, take, fold}
-use Rattle.mp_text.specs.SampleText.{next_digit}
+use Rattle.mp_bytes.specs.Digits.{next_digit}
 use Rattle.mp_text.proofs.spelling.continued.Given as goal
 
 abbrev pub invariant-loop-digit : goal.invariant-loop-digit

@@ -1,0 +1,4 @@
+pub mod FieldLemmas
+pub mod LineLemmas
+pub mod JoinedLemmas
+pub mod NumberLemmas

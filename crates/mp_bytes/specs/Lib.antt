@@ -1,0 +1,6 @@
+pub mod Bytes
+pub mod Digits
+pub mod Fields
+pub mod FieldLaws
+pub mod Lines
+pub mod Laws

@@ -1,0 +1,4 @@
+pub mod FeedRuns
+pub mod FeedSteps
+pub mod ReadLemmas
+pub mod ReaderLemmas

@@ -1,0 +1,82 @@
+use Rattle.std.proofs.Common.{rules, refl, ap, ◌∙◌, arith, subst}
+use Rattle.mp_feed.specs.Reading.{IsNext}
+use Rattle.mp_feed.specs.declared.readers.Next.TheVariants.{Line}
+use Rattle.mp_feed.specs.WritingLaws.{wrote_faults}
+use Rattle.mp_session.specs.Running.{course_at}
+use Rattle.mp_session.proofs.RunLemmas.{were_run_none}
+use Rattle.mp_session.proofs.UnderWay.{under_way_start, under_way_on, all_to_end, all_to_last, all_at_end, into_line, some_lines, lines_before_fault, lines_within}
+use Rattle.mp_session.proofs.runs.run_lines.Goals as goal
+use Rattle.mp_session.proofs.runs.run_lines.Goals.{then-ran-via-then-ran, then-ran-via-else-ran+then-last}
+
+pub returns-in_err-reader-clause-memory : goal.returns-in_err-reader-clause-memory
+returns-in_err-reader-clause-memory g c = λ _.
+    let start = course_at c.args.session.now (g.S.Source.left c.args.input.now) c.args.out.now in
+    some_lines (under_way_start c.args.limit start) (were_run_none start)
+
+pub loop-reader-init : goal.loop-reader-init
+loop-reader-init g c = rw c.in_ok-reader.ensures (record {
+  run = under_way_start c.args.limit (course_at c.args.session.now (g.S.Source.left c.args.input.now) c.args.out.now);
+  part = λ whole. absurd (cc whole);
+  count = omega arith;
+  given = omega arith;
+  left = omega arith;
+  source_faults = omega arith;
+  sink_faults = omega arith;
+  shelf = refl;
+})
+
+pub returns-in-Err-clause-read_fault : goal.returns-in-Err-clause-read_fault
+returns-in-Err-clause-read_fault g c = λ _.
+    lines_before_fault c.advance.new.self (g.S.Source.left c.advance.new.input) c.loop-reader.invariant.run c.in-Err.ensures.failed
+
+pub returns-in-Ok-PastLimit-clause-input_limit : goal.returns-in-Ok-PastLimit-clause-input_limit
+returns-in-Ok-PastLimit-clause-input_limit g c = λ _.
+    lines_within c.advance.new.self (g.S.Source.left c.advance.new.input) c.loop-reader.invariant.run
+    (rw c.in-Ok-PastLimit.field-0-is at c.in-Ok-PastLimit.ensures.next)
+
+pub returns-in-Ok-End-clause-all : goal.returns-in-Ok-End-clause-all
+returns-in-Ok-End-clause-all g c =
+    all_at_end c.advance.new.self (g.S.Source.left c.advance.new.input) c.loop-reader.invariant.run
+    (rw c.in-Ok-End.field-0-is at c.in-Ok-End.ensures.next)
+
+pub returns-in_err-ran-clause-memory : goal.returns-in_err-ran-clause-memory
+returns-in_err-ran-clause-memory g c = λ e.
+    some_lines c.loop-reader.invariant.run (c.in_err-ran.ensures.memory (g.S.Source.left c.advance.new.input) (search rules))
+
+pub returns-in_err-ran-clause-write_fault : goal.returns-in_err-ran-clause-write_fault
+returns-in_err-ran-clause-write_fault g c = λ e.
+    into_line c.advance.new.self (g.S.Source.left c.advance.new.input) c.loop-reader.invariant.run c.in-Ok-Line.last
+    (rw c.in-Ok-Line.field-0-is at c.in-Ok-Line.ensures.next) c.line.ensures
+    (c.in_err-ran.ensures.begun (g.S.Source.left c.advance.new.input) (search rules))
+
+pub returns-then-ran-clause-all : goal.returns-then-ran-clause-all
+returns-then-ran-clause-all g c =
+    let left = g.S.Source.left c.advance.new.input in
+    let next = rw c.in-Ok-Line.field-0-is at c.in-Ok-Line.ensures.next in
+    let run = c.in_ok-ran.ensures.run left in
+    elim c.then-ran.branch [
+      | then-ran-via-then-ran w ↦ all_to_end c.advance.new.self left c.loop-reader.invariant.run c.in-Ok-Line.last next c.line.ensures
+          run c.in_ok-ran.ensures.ends w.if-ran.true
+      | then-ran-via-else-ran+then-last w ↦ all_to_last c.advance.new.self left c.loop-reader.invariant.run c.in-Ok-Line.last
+          w.if-last.true next c.line.ensures run
+    ]
+
+pub loop-reader-preserved : goal.loop-reader-preserved
+loop-reader-preserved g c =
+    let i = c.loop-reader.invariant in
+    let left = g.S.Source.left c.advance.new.input in
+    let read = c.in-Ok-Line.ensures in
+    let line_held = subst (λ last. IsNext c.loop-reader.reader c.advance.new.self (g.S.Source.left c.loop-reader.input) left (Line last))
+    c.if-last.false (rw c.in-Ok-Line.field-0-is at read.next) in
+    let fewer = read.fewer (c.in-Ok-Line.field-0-is ∙ ap Line c.if-last.false) in
+    let ran = c.in_ok-ran.ensures in
+    rw c.drop_line.ensures (record {
+      run = under_way_on c.advance.new.self left i.run line_held c.line.ensures (ran.run left) ran.ends c.if-ran.false;
+      part = λ whole. absurd (cc whole);
+      count = omega (arith, i.count, fewer, (ran.run left).run.count);
+      given = omega (arith, i.given, read.given);
+      left = omega (arith, i.left, line_held.gave.count);
+      source_faults = omega (arith, i.source_faults, read.faults);
+      sink_faults = omega (arith, i.sink_faults, wrote_faults (ran.run left).wrote);
+      shelf = ran.shelf ∙ i.shelf;
+    })

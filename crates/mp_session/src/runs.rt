@@ -1,0 +1,114 @@
+//! Lines run one after another, each with its report.
+
+ghost use Rattle.std.specs.Prelude.{◌≡◌, ◌⊎◌, ℕ, ◌+◌, ◌-◌, ◌^◌, ◌<◌, ◌≤◌, List, [], ◌∷◌, length, IfOk, OnErr, IsErrOf, false};
+ghost use Rattle.mp_outside.specs.Counts.{Rose};
+ghost use Rattle.mp_replies.specs.Output.{ends};
+ghost use Rattle.mp_replies.specs.State.{Files, State};
+ghost use Rattle.mp_session.specs.Running.{WasBegun, WereRun, course_at};
+ghost use Rattle.mp_session.specs.Serving.{RanAll, RanEnded, RanInto, RanSome};
+ghost use Rattle.mp_session.specs.Sessions.{StandsFor};
+
+use crate::halts::Halt;
+use crate::sessions::{Session, Stop};
+use mp_feed::{LineReader, Next, write_report};
+use mp_outside::{Failed, Gate, Shelf, Sink, Source};
+use std::alloc::Global;
+use std::thread::Threads;
+
+/// What became of a line.
+#[derive(Clone, Copy)]
+struct Ran {
+    refused: bool,
+    ends: bool,
+}
+
+/// Runs a line and writes its report.
+fn run_line<R: Threads + Sync, H: Shelf, K: Sink, G: Gate>(
+    session: &mut Session,
+    rt: &R,
+    alloc: Global,
+    line: &[u8],
+    shelf: &mut H,
+    out: &mut K,
+    gate: &G,
+) -> Result<Ran, Halt>
+    requires { session.old.lines < 2 ^ 64 - 1 }
+    ensures run { (left : _) → IfOk result (λ ran. WereRun K.Sink (line.now ∷ [])
+        (course_at session.old left out.old) (course_at session.new left out.new) ran.refused) }
+    ensures ends { (state : State) (files : Files) → StandsFor session.old state
+        → IfOk result (λ ran. ran.ends ≡ ends state line.now files) }
+    ensures begun { (left : _) → IsErrOf result Halt.WriteFault
+        → WasBegun K.Sink line.now (course_at session.old left out.old) (course_at session.new left out.new) }
+    ensures memory { (left : _) → IsErrOf result Halt.Memory
+        → WereRun K.Sink [] (course_at session.old left out.old) (course_at session.new left out.new) false }
+    ensures write_fault { IsErrOf result Halt.WriteFault → Rose (K.faults out.old) (K.faults out.new) }
+    ensures only { OnErr result ((result ≡ Err Halt.WriteFault) ⊎ (result ≡ Err Halt.Memory)) }
+    ensures shelf { H.faults shelf.new ≡ H.faults shelf.old }
+{
+    let reply = match session.run(rt, alloc, line, shelf, gate) {
+        Ok(reply) => reply,
+        Err(Stop::ShelfFault) => return Err(Halt::ShelfFault),
+        Err(Stop::Memory) => return Err(Halt::Memory),
+    };
+    if let Err(Failed) = write_report(out, reply.text.as_slice()) {
+        return Err(Halt::WriteFault);
+    }
+    Ok(Ran {
+        refused: reply.kind.is_refused(),
+        ends: reply.kind.is_ended(),
+    })
+}
+
+/// Reads the input, and runs its lines up to and with the first that ends the run. The report of each line is written
+/// whole, and the sink flushed, before the next line is run. It answers whether some line was refused.
+pub(crate) fn run_lines<R: Threads + Sync, H: Shelf, S: Source, K: Sink, G: Gate>(
+    session: &mut Session,
+    rt: &R,
+    alloc: Global,
+    shelf: &mut H,
+    input: &mut S,
+    out: &mut K,
+    gate: &G,
+    limit: u64,
+) -> Result<bool, Halt>
+    requires limit { limit < 2 ^ 64 - 1 }
+    requires lines { session.old.lines + limit < 2 ^ 64 - 1 }
+    requires given { S.given input.old ≤ 2 ^ 127 }
+
+    ensures all { IfOk result (λ refused. RanAll K.Sink limit (course_at session.old (S.left input.old) out.old)
+        (course_at session.new (S.left input.new) out.new) refused) }
+
+    // What was run where the run ended early, and why it did.
+    ensures read_fault { IsErrOf result Halt.ReadFault
+        → RanEnded K.Sink 0 (course_at session.old (S.left input.old) out.old) (course_at session.new (S.left input.new) out.new) }
+    ensures input_limit { IsErrOf result Halt.InputLimit
+        → (ran : RanEnded K.Sink 1 (course_at session.old (S.left input.old) out.old) (course_at session.new (S.left input.new) out.new))
+        × (length ran.taken ≡ limit) }
+    ensures memory { IsErrOf result Halt.Memory
+        → RanSome K.Sink (course_at session.old (S.left input.old) out.old) (course_at session.new (S.left input.new) out.new) }
+    ensures write_fault { IsErrOf result Halt.WriteFault
+        → RanInto K.Sink (course_at session.old (S.left input.old) out.old) (course_at session.new (S.left input.new) out.new) }
+    ensures no_shelf_fault { IsErrOf result Halt.ShelfFault → ⊥ }
+    ensures read_cause { IsErrOf result Halt.ReadFault → Rose (S.faults input.old) (S.faults input.new) }
+    ensures write_cause { IsErrOf result Halt.WriteFault → Rose (K.faults out.old) (K.faults out.new) }
+    ensures limit_cause { IsErrOf result Halt.InputLimit → S.given input.old + limit < S.given input.new }
+    ensures given { S.given input.new ≤ S.given input.old + limit + 1 }
+    ensures shelf { H.faults shelf.new ≡ H.faults shelf.old }
+{
+    let mut reader = LineReader::new(alloc, limit)?;
+    let mut refused = false;
+    loop {
+        let last = match reader.advance(input) {
+            Err(Failed) => return Err(Halt::ReadFault),
+            Ok(Next::PastLimit) => return Err(Halt::InputLimit),
+            Ok(Next::End) => return Ok(refused),
+            Ok(Next::Line { last }) => last,
+        };
+        let ran = run_line(session, rt, alloc, reader.line(), shelf, out, gate)?;
+        refused |= ran.refused;
+        if ran.ends || last {
+            return Ok(refused);
+        }
+        reader.drop_line();
+    }
+}
