@@ -1,0 +1,14 @@
+//! Matches of a pattern, repeated patterns (motifs) and unusual windows (discords).
+#![tactic(auto)]
+
+mod examples;
+mod matching;
+mod repeated;
+#[cfg(test)]
+mod tests;
+mod unusual;
+
+pub use examples::{discords_by_hand, matches_by_hand, motifs_by_hand};
+pub use matching::matches;
+pub use repeated::motifs;
+pub use unusual::discords;
