@@ -1,0 +1,10 @@
+//! Made series for tests and times.
+#![tactic(auto)]
+
+mod examples;
+mod samples;
+#[cfg(test)]
+mod tests;
+
+pub use examples::samples_by_hand;
+pub use samples::sample_at;
