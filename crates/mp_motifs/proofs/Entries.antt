@@ -53,7 +53,9 @@ candidate_is m a cutoff profile e x h =
     let place = at_place profile x.index (Some near) at in
     let within : x.index < windows_of m a = omega
     (arith, place.0, ap length e, length-map-range_with_len (entry (is_allowed m) m a) 0 (windows_of m a)) in
-    let here = sym (get_or-map-range_with_len (entry (is_allowed m) m a) 0 (windows_of m a) x.index x.index None within (omega arith))
+    let here =
+    sym (get_or-map-range_with_len (entry (is_allowed m) m a) 0 (windows_of m a) x.index x.index None within
+    (omega arith))
     ∙ ap (λ column. get_or column x.index None) (sym e)
     ∙ place.1 None in
     record { within = place.0; entry_is = (near, here, same) }

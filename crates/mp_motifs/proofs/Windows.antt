@@ -185,7 +185,8 @@ pub candidate_by_laws : (m : ℕ) (a : Series) (candidate : Near) → DistanceIs
     → HasEntryDistance m a candidate → IsCandidate m a candidate
 candidate_by_laws m a candidate free_law nearest_law (near, e, f) =
     let nearest : IsNearestWindow m (is_allowed m candidate.index) a candidate.index a near =
-    subst (IsNearest m (is_allowed m candidate.index) a candidate.index a) e (nearest_law.all (is_allowed m) m a candidate.index) in
+    subst (IsNearest m (is_allowed m candidate.index) a candidate.index a) e
+    (nearest_law.all (is_allowed m) m a candidate.index) in
     let both = (free_law m a candidate.index a near.index).0 (ap is_some nearest.distance_is) in
     record {
       free = both.0;
