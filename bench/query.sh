@@ -1,7 +1,7 @@
 #!/bin/sh
 # Milliseconds of one search, at window 128: the distances of a pattern in 262,144 samples on one processor and on all,
-# and all matches and 3 discords among some 100,000 windows. Needs the program: `rt run` in crates/query_bench once. Each
-# is timed five times, and the least counts.
+# and all matches and 3 discords among some 100,000 windows. Needs the program: `rt run` in crates/query_bench once.
+# Each is timed five times, and the least counts.
 set -eu
 program="$(dirname "$0")/../crates/query_bench/out/query_bench"
 
