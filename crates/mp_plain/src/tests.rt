@@ -48,6 +48,30 @@ fn copies_of_series(rt: HostRuntime) -> Result<(), Fail> {
 }
 
 #[test]
+fn samples_one_by_one_and_in_parts(rt: HostRuntime) -> Result<(), Fail> {
+    let mut samples = Samples::new(rt.alloc());
+    samples.reserve(4)?;
+    assert!(rt; 4 <= samples.spare());
+    samples.push(Sample::Value(-7))?;
+    samples.push(Sample::Missing)?;
+    samples.push(Sample::Value(2))?;
+    samples.push(Sample::Value(5))?;
+    assert!(rt; samples.free(0, 1));
+    assert!(rt; !samples.free(0, 2));
+    assert!(rt; !samples.free(1, 3));
+    assert!(rt; samples.free(2, 2));
+    assert_eq!(rt; samples.reads(), 0);
+    assert_eq!(rt; samples.get(1), Sample::Missing);
+    assert_eq!(rt; samples.get(3), Sample::Value(5));
+    assert_eq!(rt; samples.reads(), 2);
+    let (first, second) = samples.parts(0, 1, 3);
+    assert_eq!(rt; first, [-7, 0, 2].as_slice());
+    assert_eq!(rt; second, [0, 2, 5].as_slice());
+    assert_eq!(rt; samples.reads(), 8);
+    Ok(())
+}
+
+#[test]
 fn longest_series(rt: HostRuntime) -> Result<(), Fail> {
     let mut zeros = vec![in rt.alloc(); Sample::Value(0); 262_145]?;
     assert_eq!(rt;

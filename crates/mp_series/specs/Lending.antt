@@ -1,9 +1,15 @@
 -- What the list is once what it lent is given back.
-use Rattle.std.specs.Prelude.{◌≡◌, ◌*◌, length, ⊤}
+use Rattle.std.specs.Prelude.{◌≡◌, ℕ, ◌*◌, length, ⊤}
 use Rattle.std.specs.Borrow.{follows_so, MutBor, Fml}
 use mathlib.Core.Option.{none}
 use Rattle.mp_series.specs.Samples.{Counted, after_reads}
 use Rattle.mp_series.specs.contracts.counted_list.Samples.{the_row}
+
+-- so many samples were read
+abbrev pub CountsReads : MutBor Counted → ℕ → Fml
+CountsReads s n =
+    follows_so the_row the_row s.ghost_name none (λ _ _. ⊤)
+    (λ last. last ≡ after_reads s.now n)
 
 -- each of its n samples was read n times, as for every pair of them
 abbrev pub CountsEveryPair : MutBor Counted → Fml

@@ -1,6 +1,9 @@
 //! A list of samples that counts how often they are read.
 
-ghost use Rattle.std.specs.Prelude.{◌≡◌, ◌+◌, ◌^◌, ◌<◌, ◌≤◌, ◌↔◌, [], ◌∷◌, ◌++◌, length, IsOk, IsErrOf, IfOk, OnOk, OnErr};
+ghost use Rattle.std.specs.Prelude.{◌≡◌, ◌+◌, ◌*◌, ◌^◌, ◌<◌, ◌≤◌, ◌↔◌, [], ◌∷◌, ◌++◌, length, take, drop, slice_get, Some, IsOk, IsErrOf, IfOk, OnOk, OnErr};
+ghost use Rattle.mp_defs.specs.Series.{series_of};
+ghost use Rattle.mp_defs.specs.Window.{is_free};
+ghost use Rattle.mp_series.specs.Samples.{number_in, numbers_in, gap_in, missing_before, after_reads};
 
 use crate::limits::MAX_SAMPLES;
 use mp_nums::{Items, Memory, Sample};
@@ -30,37 +33,54 @@ impl From<Memory> for PushRefusal {
     }
 }
 
-/// A list of the same samples.
-fn copied(alloc: Global, series: &[Sample]) -> Result<Items<Sample>, Memory>
-    ensures { IfOk result (λ copy. copy.items ≡ series.now) }
+/// A sample's number, 0 where it is missing.
+fn number(sample: Sample) -> i32
+    ensures { result ≡ number_in sample }
 {
-    Ok(Items::from(Vec::from_slice(alloc, series)?))
+    match sample {
+        Sample::Value(number) => number,
+        Sample::Missing => 0,
+    }
+}
+
+/// 1 for a missing sample.
+fn gap(sample: Sample) -> u32
+    ensures { result ≡ gap_in sample }
+{
+    match sample {
+        Sample::Value(_) => 0,
+        Sample::Missing => 1,
+    }
 }
 
 /// The samples of a series, seen as their list, how often they were read, and how many more can be taken without
 /// memory. Reads are counted at the calls that give samples out, and their count stays at its greatest value.
+///
+/// The samples are kept as they are, for a reader of the whole list, and as plain numbers, for a reader of parts. Beside
+/// them stands how many were missing so far, which tells a free window without a read.
 #[derive(Debug, Drop)]
 pub struct Samples {
     stored: Items<Sample>,
+    numbers: Items<i32>,
+    missing: Items<u32>,
     reads: u128,
 }
 
 impl Model for Samples {
-    ghost use Rattle.std.specs.Prelude.{◌≤◌, length};
-    ghost use Rattle.mp_series.specs.Samples.{Counted};
-    ghost use Rattle.mp_defs.specs.Limits.{max_samples};
+    ghost use Rattle.std.specs.Prelude.{min};
+    ghost use Rattle.mp_series.specs.Samples.{Counted, IsStored};
 
     ghost Value = { Counted };
 
-    ghost view = { λ s. record { items = s.stored.items; reads = s.reads; spare = s.stored.spare } };
+    ghost view = { λ s. record { items = s.stored.items; reads = s.reads; spare = min s.stored.spare (min s.numbers.spare s.missing.spare) } };
 
-    ghost invariant = { λ s. length s.stored.items ≤ max_samples };
+    ghost invariant = { λ s. IsStored s.stored.items s.numbers.items s.missing.items };
 }
 
 impl Samples {
     ghost use Rattle.std.specs.Borrow.{sem};
     ghost use Rattle.mp_defs.specs.Limits.{max_samples};
-    ghost use Rattle.mp_series.specs.Lending.{CountsEveryPair};
+    ghost use Rattle.mp_series.specs.Lending.{CountsEveryPair, CountsReads};
 
     /// The empty series, of which nothing was read. It takes no memory.
     pub fn new(alloc: Global) -> Samples
@@ -69,6 +89,8 @@ impl Samples {
     {
         Samples {
             stored: Items::new(alloc),
+            numbers: Items::new(alloc),
+            missing: Items::new(alloc),
             reads: 0,
         }
     }
@@ -82,10 +104,23 @@ impl Samples {
         if MAX_SAMPLES < series.len() as u64 {
             return Err(PushRefusal::Full);
         }
-        Ok(Samples {
-            stored: copied(alloc, series)?,
-            reads: 0,
-        })
+        let mut samples = Samples::new(alloc);
+        samples.reserve(series.len() as u64)?;
+        samples.push_each(series);
+        Ok(samples)
+    }
+
+    /// Appends the samples of a series, for which there is room.
+    fn push_each(&mut self, series: &[Sample])
+        requires empty { self.old.items ≡ [] }
+        requires room { length series.now ≤ self.old.spare }
+        requires within { length series.now ≤ max_samples }
+        ensures items { self.new.items ≡ series.now }
+        ensures reads { self.new.reads ≡ self.old.reads }
+    {
+        for sample in series {
+            self.push(*sample).unwrap();
+        }
     }
 
     /// Makes room for `k` more samples.
@@ -96,7 +131,9 @@ impl Samples {
         ensures spare { self.old.spare ≤ self.new.spare }
         ensures succeeds { k ≤ self.old.spare → IsOk result }
     {
-        self.stored.reserve(k)
+        self.stored.reserve(k)?;
+        self.numbers.reserve(k)?;
+        self.missing.reserve(k)
     }
 
     /// Appends the sample. It is no read.
@@ -111,8 +148,65 @@ impl Samples {
         if self.len() == MAX_SAMPLES {
             return Err(PushRefusal::Full);
         }
+        self.numbers.reserve(1)?;
+        self.missing.reserve(1)?;
+        let missing = self.missing_before(self.len()) + gap(sample);
         self.stored.push(sample)?;
+        self.numbers.push(number(sample)).unwrap();
+        self.missing.push(missing).unwrap();
         Ok(())
+    }
+
+    /// Sample `i`.
+    #[inline]
+    pub fn get(&mut self, i: u64) -> Sample
+        requires { i < length self.old.items }
+        ensures value { slice_get self.old.items i ≡ Some result }
+        ensures reads { self.new ≡ after_reads self.old 1 }
+    {
+        self.reads = self.reads.saturating_add(1);
+        self.stored.as_slice()[i as usize]
+    }
+
+    /// The numbers of `count` samples from `first` on, and those of as many from `second` on. A missing sample's is 0.
+    #[inline]
+    pub fn parts(&mut self, first: u64, second: u64, count: u64) -> (&[i32], &[i32])
+        requires first { first + count ≤ length self.old.items }
+        requires second { second + count ≤ length self.old.items }
+        ensures* reads { sem 𝓛 (CountsReads self.entry (2 * count)) }
+        ensures first { result.0.now ≡ take count (drop first (numbers_in self.old.items)) }
+        ensures second { result.1.now ≡ take count (drop second (numbers_in self.old.items)) }
+        ensures reads_within { self.old.reads < 2 ^ 128 }
+    {
+        self.reads = self.reads.saturating_add(2 * count as u128);
+        let numbers = self.numbers.as_slice();
+        (
+            &numbers[first as usize..(first + count) as usize],
+            &numbers[second as usize..(second + count) as usize],
+        )
+    }
+
+    /// How many of the first `count` samples are missing.
+    #[inline]
+    fn missing_before(&self, count: u64) -> u32
+        requires { count ≤ length self.now.items }
+        ensures count { result ≡ missing_before self.now.items count }
+        ensures within { length self.now.items ≤ max_samples }
+    {
+        let missing = self.missing.as_slice();
+        if count == 0 {
+            return 0;
+        }
+        missing[count as usize - 1]
+    }
+
+    /// Whether none of the `m` samples from `i` on is missing. It is no read.
+    #[inline]
+    pub fn free(&self, i: u64, m: u32) -> bool
+        requires { i + m ≤ length self.now.items }
+        ensures { result ≡ is_free m (series_of self.now.items) i }
+    {
+        self.missing_before(i) == self.missing_before(i + u64::from(m))
     }
 
     /// The whole list, for a reader that may form every pair of its samples.
@@ -146,6 +240,8 @@ impl Samples {
     pub fn spare(&self) -> u64
         ensures { result ≡ self.now.spare }
     {
-        self.stored.spare()
+        self.stored
+            .spare()
+            .min(self.numbers.spare().min(self.missing.spare()))
     }
 }
