@@ -1,4 +1,4 @@
-//! Workers that run the pieces of a kernel side by side, and the profiles that they compute.
+//! Workers that run the pieces of a kernel side by side, and the profiles and joins that they compute.
 #![tactic(auto)]
 
 mod joins;
@@ -7,5 +7,5 @@ mod teams;
 #[cfg(test)]
 mod tests;
 
-pub use joins::self_join;
+pub use joins::{ab_join, self_join};
 pub use teams::run_all;

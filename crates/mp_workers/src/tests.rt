@@ -3,11 +3,11 @@ ghost use Rattle.mp_partial.specs.Values.{offered};
 ghost use Rattle.mp_claims.specs.Marks.{mark, mark_value, mark_has_columns};
 ghost use Rattle.mp_series.specs.declared.limits.TheConstants.{MAX_SAMPLES};
 
-use crate::{run_all, self_join};
+use crate::{ab_join, run_all, self_join};
 use mp_nums::{Memory, Near, Sample, Slot, Slots, Sq, nearer};
 use mp_outside::{Gate, MeetGate, OpenGate};
 use mp_partial::{Kernel, Profile};
-use mp_tiles::profile;
+use mp_tiles::{join, profile};
 use std::alloc::Global;
 use std::process::Abort;
 use std::sync::atomic::{AtomicU32, Ordering};
@@ -191,6 +191,45 @@ fn a_thousand_runs_find_the_same(rt: HostRuntime) -> Result<(), Fail> {
         let whole = profile(rt.alloc(), samples, 3, 256)?;
         let found = self_join(&rt, rt.alloc(), samples, 3, 1, 8, &OpenGate)?;
         expect_same(&rt, &found, &whole);
+    }
+    Ok(())
+}
+
+fn near(dist: u128, index: u64) -> Slot {
+    Some(Near {
+        dist: Sq(dist),
+        index,
+    })
+}
+
+#[test]
+fn joins_have_no_zone(rt: HostRuntime) -> Result<(), Fail> {
+    let rising = [1, 2, 3, 4].map(Sample::Value);
+    let twice = [1, 2, 3, 1, 2, 3].map(Sample::Value);
+    let itself = ab_join(&rt, rt.alloc(), &rising, &rising, 3, 256, 4, &OpenGate)?;
+    assert_eq!(rt; itself.as_slice(), [near(0, 0), near(0, 1)].as_slice());
+    let other = ab_join(&rt, rt.alloc(), &rising, &twice, 3, 256, 4, &OpenGate)?;
+    assert_eq!(rt; other.as_slice(), [near(0, 0), near(3, 0)].as_slice());
+    let empty = ab_join(&rt, rt.alloc(), &rising, &[], 3, 256, 4, &OpenGate)?;
+    assert_eq!(rt; empty.as_slice(), [None, None].as_slice());
+    let short = ab_join(&rt, rt.alloc(), &rising, &twice[..2], 3, 256, 4, &OpenGate)?;
+    assert_eq!(rt; short.as_slice(), [None, None].as_slice());
+    let of_short = ab_join(&rt, rt.alloc(), &twice[..2], &rising, 3, 256, 4, &OpenGate)?;
+    assert_eq!(rt; of_short.as_slice(), [].as_slice());
+    Ok(())
+}
+
+#[test]
+fn two_series_have_one_join(rt: HostRuntime) -> Result<(), Fail> {
+    let a = ties(rt.alloc(), 60, 1)?;
+    let b = ties(rt.alloc(), 90, 2)?;
+    let (a, b) = (a.as_slice(), b.as_slice());
+    let whole = join(rt.alloc(), a, b, 4, 256)?;
+    for tile in [1, 7, 256, 65_536] {
+        for workers in [1, 3, 32] {
+            let found = ab_join(&rt, rt.alloc(), a, b, 4, tile, workers, &OpenGate)?;
+            assert_eq!(rt; found.as_slice(), whole.as_slice());
+        }
     }
     Ok(())
 }
