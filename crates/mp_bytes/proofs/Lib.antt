@@ -2,3 +2,4 @@ pub mod FieldLemmas
 pub mod LineLemmas
 pub mod JoinedLemmas
 pub mod NumberLemmas
+pub mod ValueLemmas

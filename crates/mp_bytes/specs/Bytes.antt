@@ -20,6 +20,13 @@ space = 32
 abbrev pub number_sign : ℕ
 number_sign = 35
 
+abbrev pub comma : ℕ
+comma = 44
+
+-- the point of a number
+abbrev pub point : ℕ
+point = 46
+
 -- a space or a tab
 abbrev pub is_blank : ℕ → Bool
 is_blank b = b == space || b == tab

@@ -2,5 +2,6 @@ pub mod Bytes
 pub mod Digits
 pub mod Fields
 pub mod FieldLaws
+pub mod Values
 pub mod Lines
 pub mod Laws

@@ -5,11 +5,13 @@ mod blanks;
 mod digits;
 mod fields;
 mod laws;
+mod values;
 
 pub use blanks::{is_blank, same_text};
 pub use digits::read_number;
 pub use fields::{Fields, without_cr};
 pub use laws::{fields_are_found_again, lines_are_the_input};
+pub use values::Values;
 
 #[cfg(test)]
 mod tests;

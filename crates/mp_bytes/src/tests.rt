@@ -1,4 +1,4 @@
-use crate::{Fields, is_blank, read_number, same_text, without_cr};
+use crate::{Fields, Values, is_blank, read_number, same_text, without_cr};
 use std::test::Fail;
 
 #[test]
@@ -79,4 +79,15 @@ fn bytes_and_texts_are_compared(rt: HostRuntime) {
     assert!(rt; !same_text(b"append", b"appenD"));
     assert!(rt; !same_text(b"append", b"appen"));
     assert!(rt; same_text(b"", b""));
+}
+
+#[test]
+fn values_stand_between_commas(rt: HostRuntime) -> Result<(), Fail> {
+    let mut values = Values::of(b"12,,?,");
+    for value in [b"12".as_slice(), b"", b"?", b""] {
+        assert_eq!(rt; values.next(), Some(value));
+    }
+    assert_eq!(rt; values.next(), None);
+    assert_eq!(rt; Values::of(b"").next(), Some(b"".as_slice()));
+    Ok(())
 }
