@@ -3,3 +3,5 @@ mod WritingLemmas
 mod RoundTrip
 mod RecordLemmas
 mod TableLemmas
+mod TableBridge
+mod FirstFaults

@@ -11,7 +11,8 @@ use Rattle.mp_nums.specs.declared.samples.Sample.{Sample}
 use Rattle.mp_defs.specs.Series.{Series, reading_of, series_of}
 use Rattle.mp_defs.specs.Limits.{max_samples}
 use Rattle.std.proofs.lemmas.Simd.{map-map}
-use Rattle.mp_text.specs.Table.{Fields, added, cell, cell_fault, column_of, first_of, record_fault, table_fault, table_of, unless_faulty}
+use Rattle.mp_text.specs.Gathering.{added, cell, cell_fault, column_of, first_of, record_fault, table_fault, gathered_of, unless_faulty}
+use Rattle.mp_text.specs.Table.{Fields}
 use Rattle.csv.specs.Records.{field_at}
 
 pub added-pushed : (gathered : List (Vec Sample Global)) (k : ℕ) (old new : Vec Sample Global) (sample : Sample)
@@ -125,7 +126,7 @@ gathered_more scale columns all left rest fields number series grown g is few fi
 }
 
 pub gathered_all : (scale : ℕ) (columns : List ℕ) (all left : List Fields) (number : ℕ) (series : List Series) → Gathered scale columns all left number series
-    → left ≡ [] → table_of scale columns all ≡ Ok series
+    → left ≡ [] → gathered_of scale columns all ≡ Ok series
 gathered_all scale columns all left number series g none =
     let fine : table_fault scale columns 1 all ≡ None = g.faults ∙ ap (table_fault scale columns number) none in
     let done : all ≡ g.done = g.whole ∙ ap (λ (rows : List Fields). g.done ++ rows) none ∙ append-nil g.done in
@@ -146,12 +147,12 @@ none_part true P Q h p = absurd (cc h)
 none_part false P Q h p = p
 
 -- a table of no record
-pub table_of-none : (scale : ℕ) (columns : List ℕ) (series : List Series) → series ≡ replicate (length columns) [] → table_of scale columns [] ≡ Ok series
-table_of-none scale columns series is = gathered_all scale columns [] [] 1 series (gathered_none scale columns [] series is) refl
+pub gathered_of-none : (scale : ℕ) (columns : List ℕ) (series : List Series) → series ≡ replicate (length columns) [] → gathered_of scale columns [] ≡ Ok series
+gathered_of-none scale columns series is = gathered_all scale columns [] [] 1 series (gathered_none scale columns [] series is) refl
 
 -- the bundle of what was gathered of all records
 pub whole_table : (scale : ℕ) (columns : List ℕ) (all left : List Fields) (number : ℕ) (gathered : List (Vec Sample Global)) (bundle : List (List Sample))
     → Gathered scale columns all left number (map (λ series. series_of series.items) gathered) → left ≡ [] → bundle ≡ map (λ series. series.items) gathered
-    → table_of scale columns all ≡ Ok (map series_of bundle)
+    → gathered_of scale columns all ≡ Ok (map series_of bundle)
 whole_table scale columns all left number gathered bundle g none is =
     gathered_all scale columns all left number (map (λ series. series_of series.items) gathered) g none ∙ ap Ok (sym (bundled gathered bundle is))

@@ -1,12 +1,11 @@
 -- A table: the samples in some columns of the records of a text.
-use Rattle.std.specs.Prelude.{◌+◌, ◌==◌, ℕ, ℤ, Bool, List, [], ◌∷◌, drop, map, Option, Some, None, Result, Ok, Err, ◌++◌, slice_set, slice_index_or, if◌then◌else◌}
+use Rattle.std.specs.Prelude.{◌+◌, ◌==◌, ℕ, ℤ, Bool, List, [], ◌∷◌, drop, length, Option, Some, None, Result, Ok, Err}
+use Rattle.std.specs.Prelude.{if◌then◌else◌}
 use Rattle.csv.specs.Reading.{default_config, records, strip_bom}
 use Rattle.csv.specs.Records.{field_at}
-use Rattle.std.specs.declared.vec.Vec.{Vec}
-use Rattle.std.specs.declared.alloc.Global.{Global}
-use Rattle.mp_nums.specs.declared.samples.Sample.{Sample}
 use Rattle.mp_defs.specs.Limits.{max_samples, least_sample, greatest_sample}
-use Rattle.mp_defs.specs.Series.{Series, series_of}
+use Rattle.mp_defs.specs.Series.{Series}
+use Rattle.mp_text.specs.Rows.{Row, onto, columns_of}
 use Rattle.mp_text.specs.SampleText.{sample_of}
 use Rattle.mp_text.specs.declared.refusal.SampleFault.{SampleFault}
 use Rattle.mp_text.specs.declared.refusal.TableFault.{TableFault}
@@ -18,68 +17,58 @@ Fields = List (List ℕ)
 
 -- the records of a text that are no header
 abbrev pub data_records : Bool → List ℕ → List Fields
-data_records header text = if header then drop 1 (records default_config (strip_bom text)) else records default_config (strip_bom text)
+data_records header text =
+    if header then drop 1 (records default_config (strip_bom text)) else records default_config (strip_bom text)
+
+-- why these are no table, with the number of a record, counted from 1, and a column, counted from 0
+pub data Fault : Type 0 where
+  -- the field is no sample
+  BadField : (number column : ℕ) (fault : SampleFault) → Fault
+  -- the record has no such field
+  NoField : (number column : ℕ) → Fault
+  -- there are more records than a series has samples
+  TooManyRows : Fault
 
 -- ---- one field
 
 abbrev pub reading : ℕ → List ℕ → Result (Option ℤ) SampleFault
 reading scale text = sample_of least_sample greatest_sample scale text
 
-abbrev pub reading_fault : ℕ → ℕ → Result (Option ℤ) SampleFault → Option TableFault
-reading_fault number column (Ok sample) = None
-reading_fault number column (Err fault) = Some (table.Record number column fault)
+abbrev pub judged : ℕ → ℕ → Result (Option ℤ) SampleFault → Result (Option ℤ) Fault
+judged number column (Ok sample) = Ok sample
+judged number column (Err fault) = Err (BadField number column fault)
 
--- the fault of a record's field at a column
-abbrev pub cell_fault : ℕ → ℕ → ℕ → Option (List ℕ) → Option TableFault
-cell_fault scale number column None = Some (table.NoField number column)
-cell_fault scale number column (Some text) = reading_fault number column (reading scale text)
+-- the sample of a record's field in a column, or its fault
+abbrev pub cell_of : ℕ → ℕ → ℕ → Option (List ℕ) → Result (Option ℤ) Fault
+cell_of scale number column None = Err (NoField number column)
+cell_of scale number column (Some text) = judged number column (reading scale text)
 
-abbrev pub sample_in : Result (Option ℤ) SampleFault → Option ℤ
-sample_in (Ok sample) = sample
-sample_in (Err fault) = None
+-- ---- records in their order, and in each the columns in theirs
 
--- the sample of a field that has no fault
-abbrev pub cell : ℕ → Option (List ℕ) → Option ℤ
-cell scale None = None
-cell scale (Some text) = sample_in (reading scale text)
+-- the samples of a record in these columns, or its first fault
+abbrev pub row_of : ℕ → ℕ → Fields → List ℕ → Result Row Fault
+row_of scale number fields [] = Ok []
+row_of scale number fields (column ∷ columns) =
+    onto (cell_of scale number column (field_at fields column)) (row_of scale number fields columns)
 
--- ---- the first fault, in the order of records and of columns
+-- the same of some records, of which the first has this number
+abbrev pub rows_of : ℕ → List ℕ → ℕ → List Fields → Result (List Row) Fault
+rows_of scale columns number [] = Ok []
+rows_of scale columns number (fields ∷ rest) =
+    if number == max_samples + 1 then Err TooManyRows
+    else onto (row_of scale number fields columns) (rows_of scale columns (number + 1) rest)
 
-abbrev pub first_of : Option TableFault → Option TableFault → Option TableFault
-first_of None later = later
-first_of (Some fault) later = Some fault
-
-abbrev pub record_fault : ℕ → ℕ → Fields → List ℕ → Option TableFault
-record_fault scale number fields [] = None
-record_fault scale number fields (column ∷ columns) =
-    first_of (cell_fault scale number column (field_at fields column)) (record_fault scale number fields columns)
-
--- the first fault of these records, of which the first has this number
-abbrev pub table_fault : ℕ → List ℕ → ℕ → List Fields → Option TableFault
-table_fault scale columns number [] = None
-table_fault scale columns number (fields ∷ rest) =
-    if number == max_samples + 1 then Some table.Rows
-    else first_of (record_fault scale number fields columns) (table_fault scale columns (number + 1) rest)
-
--- ---- the columns
-
--- the samples of the records in a column
-abbrev pub column_of : ℕ → List Fields → ℕ → Series
-column_of scale rows column = map (λ fields. cell scale (field_at fields column)) rows
-
-abbrev pub unless_faulty : Option TableFault → List Series → Result (List Series) TableFault
-unless_faulty None columns = Ok columns
-unless_faulty (Some fault) columns = Err fault
+abbrev pub in_columns : ℕ → Result (List Row) Fault → Result (List Series) Fault
+in_columns count (Ok rows) = Ok (columns_of count rows)
+in_columns count (Err fault) = Err fault
 
 -- a series for each of these columns, or the first fault
-abbrev pub table_of : ℕ → List ℕ → List Fields → Result (List Series) TableFault
-table_of scale columns rows = unless_faulty (table_fault scale columns 1 rows) (map (column_of scale rows) columns)
+abbrev pub table_of : ℕ → List ℕ → List Fields → Result (List Series) Fault
+table_of scale columns rows = in_columns (length columns) (rows_of scale columns 1 rows)
 
--- ---- series that are gathered
-
-abbrev pub series_in : Vec (Vec Sample Global) Global → List Series
-series_in gathered = map (λ series. series_of series.items) gathered.items
-
--- one sample more at the end of series k
-abbrev pub added : List Series → ℕ → Option ℤ → List Series
-added series k sample = slice_set series k (slice_index_or series k [] ++ sample ∷ [])
+-- what a fault of the program tells of the table, nothing where there was no memory
+abbrev pub told : TableFault → Option Fault
+told (table.Record number column fault) = Some (BadField number column fault)
+told (table.NoField number column) = Some (NoField number column)
+told table.Rows = Some TooManyRows
+told table.Memory = None

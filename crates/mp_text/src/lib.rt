@@ -8,7 +8,7 @@ mod spelling;
 mod tables;
 mod writing;
 
-pub use laws::written_samples_are_read_back;
+pub use laws::{table_faults_are_the_first, written_samples_are_read_back};
 pub use refusal::{SampleFault, TableFault};
 pub use spelling::{GREATEST_SAMPLE, LEAST_SAMPLE, read_sample};
 pub use tables::read_table;

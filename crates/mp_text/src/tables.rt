@@ -4,7 +4,8 @@ ghost use Rattle.std.specs.Prelude.{◌≡◌, ◌≢◌, ◌≤◌, ◌<◌, �
 ghost use Rattle.csv.specs.Records.{fields_of, field_at};
 ghost use Rattle.mp_defs.specs.Series.{reading_of, series_of};
 ghost use Rattle.mp_text.specs.Records.{IsBetweenRecords, records_left};
-ghost use Rattle.mp_text.specs.Table.{Fields, added, cell, cell_fault, column_of, data_records, record_fault, series_in, table_of};
+ghost use Rattle.mp_text.specs.Gathering.{added, cell, cell_fault, column_of, gathered_of, record_fault, series_in};
+ghost use Rattle.mp_text.specs.Table.{Fault, Fields, data_records, table_of, told};
 
 use crate::records::{open_records, read_record};
 use crate::refusal::TableFault;
@@ -34,8 +35,8 @@ pub fn read_table(
     requires few { length columns.now ≤ 8 }
     ensures table { IfOk result (λ bundle.
         table_of scale columns.now (data_records header text.now) ≡ Ok (map series_of bundle)) }
-    ensures fault { IfErr result (λ fault. fault ≢ TableFault.Memory →
-        table_of scale columns.now (data_records header text.now) ≡ Err fault) }
+    ensures fault { IfErr result (λ fault. (why : Fault) → told fault ≡ Some why →
+        table_of scale columns.now (data_records header text.now) ≡ Err why) }
 {
     let mut reader = open_records(alloc, text);
     if header {
@@ -55,9 +56,9 @@ fn read_under_header(
     requires places { scale ≤ 9 }
     requires between { IsBetweenRecords reader.old }
     ensures table { IfOk result (λ bundle.
-        table_of scale columns.now (drop 1 (records_left reader.old)) ≡ Ok (map series_of bundle)) }
+        gathered_of scale columns.now (drop 1 (records_left reader.old)) ≡ Ok (map series_of bundle)) }
     ensures fault { IfErr result (λ fault. fault ≢ TableFault.Memory →
-        table_of scale columns.now (drop 1 (records_left reader.old)) ≡ Err fault) }
+        gathered_of scale columns.now (drop 1 (records_left reader.old)) ≡ Err fault) }
 {
     let mut row = ByteRecord::new(alloc);
     if !read_record(reader, &mut row)? {
@@ -145,9 +146,9 @@ fn read_rows(
     requires places { scale ≤ 9 }
     requires between { IsBetweenRecords reader.old }
     ensures table { IfOk result (λ bundle.
-        table_of scale columns.now (records_left reader.old) ≡ Ok (map series_of bundle)) }
+        gathered_of scale columns.now (records_left reader.old) ≡ Ok (map series_of bundle)) }
     ensures fault { IfErr result (λ fault. fault ≢ TableFault.Memory →
-        table_of scale columns.now (records_left reader.old) ≡ Err fault) }
+        gathered_of scale columns.now (records_left reader.old) ≡ Err fault) }
 {
     let mut row = ByteRecord::new(alloc);
     let mut series = empty_series(alloc, columns.len())?;

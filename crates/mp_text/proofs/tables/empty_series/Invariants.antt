@@ -1,5 +1,5 @@
 use Rattle.std.proofs.Common.{◌≡◌, [], replicate, vec_len}
-use Rattle.mp_text.specs.Table.{series_in}
+use Rattle.mp_text.specs.Gathering.{series_in}
 use Rattle.mp_text.proofs.tables.empty_series.Given as goal
 
 abbrev pub invariant-loop : goal.invariant-loop

@@ -1,6 +1,6 @@
 use Rattle.std.proofs.Common.{Option, Some, ℤ, ap, sym, ◌∙◌, arith}
 use Rattle.csv.specs.Records.{fields_of}
-use Rattle.mp_text.specs.Table.{added, series_in}
+use Rattle.mp_text.specs.Gathering.{added, series_in}
 use Rattle.mp_text.proofs.TableLemmas.{err_part, fault_at, fine_more, ok_part, series_more}
 use Rattle.mp_text.proofs.tables.gather.Goals as goal
 

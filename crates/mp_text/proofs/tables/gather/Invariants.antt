@@ -1,6 +1,7 @@
 use Rattle.std.proofs.Common.{◌≡◌, ◌∷◌, ◌++◌, [], List, None, length, take, drop, map, vec_len}
 use Rattle.csv.specs.Records.{fields_of}
-use Rattle.mp_text.specs.Table.{Fields, column_of, record_fault, series_in}
+use Rattle.mp_text.specs.Gathering.{column_of, record_fault, series_in}
+use Rattle.mp_text.specs.Table.{Fields}
 use Rattle.mp_text.proofs.tables.gather.Given as goal
 
 abbrev pub invariant-loop-k : goal.invariant-loop-k

@@ -1,7 +1,7 @@
 use Rattle.std.proofs.Common.{◌≡◌, ◌∙◌, true, false, [], arith}
 use Rattle.csv.specs.Records.{fields_of}
 use Rattle.mp_text.specs.Records.{records_left}
-use Rattle.mp_text.specs.Table.{series_in}
+use Rattle.mp_text.specs.Gathering.{series_in}
 use Rattle.mp_text.proofs.TableLemmas.{found_part, gathered_more, gathered_none, none_part, whole_table}
 use Rattle.mp_text.proofs.tables.read_rows.Goals as goal
 

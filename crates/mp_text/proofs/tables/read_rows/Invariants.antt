@@ -1,6 +1,6 @@
 use Rattle.std.proofs.Common.{◌≡◌, length, vec_len}
 use Rattle.mp_text.specs.Records.{IsBetweenRecords, records_left}
-use Rattle.mp_text.specs.Table.{series_in}
+use Rattle.mp_text.specs.Gathering.{series_in}
 use Rattle.mp_text.proofs.TableLemmas.{Gathered}
 use Rattle.mp_text.proofs.tables.read_rows.Given as goal
 
