@@ -1,0 +1,4 @@
+pub mod Steps
+pub mod Counterparts
+pub mod Radii
+pub mod LeastCentres

@@ -1,0 +1,5 @@
+pub mod Consensus
+pub mod Columns
+pub mod Conditions
+pub mod Laws
+pub mod Examples
