@@ -1,0 +1,4 @@
+pub mod Insertions
+pub mod LeastSums
+pub mod NearestByValue
+pub mod Pairs

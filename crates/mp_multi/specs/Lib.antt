@@ -1,0 +1,5 @@
+pub mod Rising
+pub mod Multi
+pub mod Conditions
+pub mod Laws
+pub mod Examples
