@@ -3,5 +3,9 @@ pub mod PairLemmas
 pub mod SumLemmas
 pub mod PlainLemmas
 pub mod BlockLemmas
+pub mod LaneLemmas
+pub mod LevelLemmas
+pub mod BlockSums
+pub mod LimitLemmas
 pub mod ProfileLaws
 pub mod JoinLaws

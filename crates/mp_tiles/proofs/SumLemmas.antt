@@ -11,16 +11,16 @@ use Rattle.mp_defs.specs.SeriesLaws.{series_are_of_samples}
 use Rattle.mp_defs.specs.DistanceLaws.{grows_by_one_sample}
 use Rattle.mp_tiles.specs.Sums.{filled, gap, square_at, total, gaps_from, IsSum}
 
-total_zero : (f : ℕ → ℕ → ℕ) (i j : ℕ) → total f 0 i j ≡ 0
+pub total_zero : (f : ℕ → ℕ → ℕ) (i j : ℕ) → total f 0 i j ≡ 0
 unfolding total
 total_zero f i j = refl
 
-total_more : (f : ℕ → ℕ → ℕ) (n i j : ℕ) → total f (n + 1) i j ≡ total f n i j + f (i + n) (j + n)
+pub total_more : (f : ℕ → ℕ → ℕ) (n i j : ℕ) → total f (n + 1) i j ≡ total f n i j + f (i + n) (j + n)
 unfolding total
 total_more f n i j = rw add-one refl
 
 -- one place on: what is left behind and what is new
-total_on : (f : ℕ → ℕ → ℕ) (n i j : ℕ) → total f n (i + 1) (j + 1) + f i j ≡ total f (n + 1) i j
+pub total_on : (f : ℕ → ℕ → ℕ) (n i j : ℕ) → total f n (i + 1) (j + 1) + f i j ≡ total f (n + 1) i j
 total_on f zero i j =
     let here : i + 0 ≡ i = omega arith in
     let there : j + 0 ≡ j = omega arith in
@@ -42,26 +42,26 @@ total_small f (suc n) i j h =
 
 -- ---- the distance by its sums
 
-abbrev gaps_at : Series → Series → ℕ → ℕ → ℕ
+abbrev pub gaps_at : Series → Series → ℕ → ℕ → ℕ
 gaps_at a b i j = gap (number_at a i) + gap (number_at b j)
 
-abbrev where_none : ℕ → ℕ → Option ℕ
+abbrev pub where_none : ℕ → ℕ → Option ℕ
 where_none gaps sum = if gaps == 0 then Some sum else None
 
-plus_none : (x : Option ℕ) → plus x None ≡ None
+pub plus_none : (x : Option ℕ) → plus x None ≡ None
 plus_none None = refl
 plus_none (Some x) = refl
 
-not_none : (g : ℕ) → (g == 0) ≡ false → (s : ℕ) → where_none g s ≡ None
+pub not_none : (g : ℕ) → (g == 0) ≡ false → (s : ℕ) → where_none g s ≡ None
 not_none g e s = rw e refl
 
-same_test : (g h : ℕ) → h ≡ 0 → (g + h == 0) ≡ (g == 0)
+pub same_test : (g h : ℕ) → h ≡ 0 → (g + h == 0) ≡ (g == 0)
 same_test g h e = grind (arith, nat_tests)
 
-more_test : (g h : ℕ) → 0 < h → (g + h == 0) ≡ false
+pub more_test : (g h : ℕ) → 0 < h → (g + h == 0) ≡ false
 more_test g h lt = grind (arith, nat_tests)
 
-both_there : (t : Bool) (s q : ℕ) → plus (if t then Some s else None) (Some q) ≡ (if t then Some (s + q) else None)
+pub both_there : (t : Bool) (s q : ℕ) → plus (if t then Some s else None) (Some q) ≡ (if t then Some (s + q) else None)
 both_there true s q = refl
 both_there false s q = refl
 
@@ -93,7 +93,7 @@ distance_by_sums (suc n) a i b j =
     (one_more (total (gaps_at a b) n i j) (total (square_at a b) n i j) (number_at a (i + n)) (number_at b (j + n))))
 
 -- the gaps of both windows
-gaps_of_both : (a b : Series) (n i j : ℕ) → total (gaps_at a b) n i j ≡ gaps_from a n i + gaps_from b n j
+pub gaps_of_both : (a b : Series) (n i j : ℕ) → total (gaps_at a b) n i j ≡ gaps_from a n i + gaps_from b n j
 gaps_of_both a b zero i j =
     rw (
       total_zero (gaps_at a b) i j,

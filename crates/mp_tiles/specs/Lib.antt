@@ -5,8 +5,13 @@ pub mod Plain
 pub mod Grids
 pub mod Among
 pub mod Scanning
+pub mod Lanes
+pub mod Levels
+pub mod Limits
+pub mod Blocks
 pub mod Offering
 pub mod TakenLaws
 pub mod OfferingLaws
+pub mod LimitLaws
 pub mod Laws
 pub mod Pieces

@@ -24,7 +24,7 @@ use Rattle.mp_tiles.specs.Scanning.{taken}
 abbrev pub HasTaken : (ℕ → ℕ → Bool) → ℕ → Series → Series → Column → Column → Type 0
 HasTaken pairs m a b old new = new ≡ merged_column old (nearest_column pairs m a b)
 
-as_long : (p : ℕ → ℕ → Bool) (m : ℕ) (a b : Series) → length (nearest_column p m a b) ≡ windows_of m a
+pub as_long : (p : ℕ → ℕ → Bool) (m : ℕ) (a b : Series) → length (nearest_column p m a b) ≡ windows_of m a
 as_long p m a b = columns_have_places.count (λ i. nearest m (p i) a i b) (windows_of m a)
 
 pub taken_places : (p : ℕ → ℕ → Bool) (m : ℕ) (a b : Series) (old new : Column) → length old ≡ windows_of m a

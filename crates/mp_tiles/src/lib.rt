@@ -2,15 +2,22 @@
 //! scanned with running sums.
 #![tactic(auto)]
 
+mod blocks;
 mod cuts;
 mod diagonals;
+mod groups;
 mod joins;
 mod kernels;
 mod laws;
+mod levels;
+mod limits;
 mod offers;
+mod runs;
 mod scans;
+mod strips;
 #[cfg(test)]
 mod tests;
+mod vectors;
 mod windows;
 
 pub use cuts::{Cut, MAX_TILE, Tile, cut_both, cut_own};

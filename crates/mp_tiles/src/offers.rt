@@ -9,7 +9,11 @@ ghost use Rattle.mp_tiles.specs.Offering.{IsOffering};
 ghost use Rattle.mp_tiles.specs.OfferingLaws.{fits_each, may_each, is_scanned_each, each_to_other};
 ghost use Rattle.mp_tiles.specs.OfferingLaws.{fits_rows, may_row, is_scanned_rows, column_to_row};
 ghost use Rattle.mp_tiles.specs.OfferingLaws.{fits_columns, may_column, is_scanned_columns, row_to_column};
+ghost use Rattle.mp_tiles.specs.Limits.{IsReach, IsLimiting};
+ghost use Rattle.mp_tiles.specs.LimitLaws.{keeps_row_each, keeps_column_each, each_limits};
+ghost use Rattle.mp_tiles.specs.LimitLaws.{keeps_slot, keeps_all, row_limits, column_limits};
 
+use crate::limits::reach_at;
 use mp_nums::{Slots, Sq};
 use mp_partial::{Profile, offer_at};
 
@@ -36,8 +40,25 @@ pub(crate) trait Offers {
         ensures { (m : ℕ) (a b : Series) → fits m a b into.old → row < windows_of m a → column < windows_of m b
             → distance m a row b column ≡ Some dist.0 → is_scanned m a b (only row column) into.old into.new };
 
+    /// The row has something that comes before each window at this distance.
+    ghost keeps_row: { Self.Into → ℕ → ℕ → Type 0 };
+
+    /// The same of the column.
+    ghost keeps_column: { Self.Into → ℕ → ℕ → Type 0 };
+
+    /// The distance above which a column gives the row nothing, as far as 63 bits tell it.
+    fn row_limit(into: &Self::Into, row: u64) -> i64
+        ensures { IsReach (keeps_row into.now row) result };
+
+    /// The distance above which a row gives the column nothing, as far as 63 bits tell it.
+    fn column_limit(into: &Self::Into, column: u64) -> i64
+        ensures { IsReach (keeps_column into.now column) result };
+
     /// Offers of more pairs give what these pairs give together.
     ghost laws: { IsOffering least fits may_offer is_scanned };
+
+    /// Distances above the limits give nothing.
+    ghost limits: { IsLimiting least fits is_scanned keeps_row keeps_column };
 }
 
 /// Each of two windows of one series is offered to the other.
@@ -62,10 +83,26 @@ impl Offers for EachToOther {
 
     ghost laws = { each_to_other };
 
+    ghost keeps_row = { keeps_row_each };
+
+    ghost keeps_column = { keeps_column_each };
+
+    ghost limits = { each_limits };
+
     #[inline]
     fn offer(into: &mut Profile, row: u64, column: u64, dist: Sq) {
         into.offer(row, column, dist);
         into.offer(column, row, dist);
+    }
+
+    #[inline]
+    fn row_limit(into: &Profile, row: u64) -> i64 {
+        reach_at(into.right(), row).max(reach_at(into.all(), row))
+    }
+
+    #[inline]
+    fn column_limit(into: &Profile, column: u64) -> i64 {
+        reach_at(into.left(), column).max(reach_at(into.all(), column))
     }
 }
 
@@ -82,9 +119,25 @@ impl Offers for ColumnToRow {
 
     ghost laws = { column_to_row };
 
+    ghost keeps_row = { keeps_slot };
+
+    ghost keeps_column = { keeps_all };
+
+    ghost limits = { row_limits };
+
     #[inline]
     fn offer(into: &mut Slots, row: u64, column: u64, dist: Sq) {
         offer_at(into, row, column, dist);
+    }
+
+    #[inline]
+    fn row_limit(into: &Slots, row: u64) -> i64 {
+        reach_at(into.as_slice(), row)
+    }
+
+    #[inline]
+    fn column_limit(_into: &Slots, _column: u64) -> i64 {
+        0
     }
 }
 
@@ -101,8 +154,24 @@ impl Offers for RowToColumn {
 
     ghost laws = { row_to_column };
 
+    ghost keeps_row = { keeps_all };
+
+    ghost keeps_column = { keeps_slot };
+
+    ghost limits = { column_limits };
+
     #[inline]
     fn offer(into: &mut Slots, row: u64, column: u64, dist: Sq) {
         offer_at(into, column, row, dist);
+    }
+
+    #[inline]
+    fn row_limit(_into: &Slots, _row: u64) -> i64 {
+        0
+    }
+
+    #[inline]
+    fn column_limit(into: &Slots, column: u64) -> i64 {
+        reach_at(into.as_slice(), column)
     }
 }

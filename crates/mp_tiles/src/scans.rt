@@ -14,6 +14,8 @@ ghost use Rattle.mp_tiles.specs.Scanning.{in_block, on_diagonals};
 
 use crate::cuts::Tile;
 use crate::diagonals::{first_sum, scan_rows};
+use crate::groups::{LANES, scan_groups};
+use crate::levels::find_scale;
 use crate::offers::{ColumnToRow, EachToOther, Offers, RowToColumn};
 use crate::windows::{Grid, PlainWindow, Windows, count_gaps, take_windows};
 use mp_nums::{Sample, Slots};
@@ -153,8 +155,9 @@ fn scan_strip<O: Offers>(grid: &Grid, first: usize, sums: &mut [u128], into: &mu
     }
 }
 
-/// Offers the pairs of each row and the columns that start from `first` on and before `end` behind it.
-fn scan_offsets<O: Offers>(grid: &Grid, first: usize, end: usize, into: &mut O::Into)
+/// Offers the pairs of each row and the columns that start from `first` on and before `end` behind it, by sums of 128
+/// bits, which hold every distance.
+fn scan_wide<O: Offers>(grid: &Grid, first: usize, end: usize, into: &mut O::Into)
     requires apart { O.least ≤ first }
     requires ordered { first ≤ end }
     requires within { end ≤ grid.now.columns.count }
@@ -167,6 +170,26 @@ fn scan_offsets<O: Offers>(grid: &Grid, first: usize, end: usize, into: &mut O::
         let start = first + k * STRIP;
         let width = (end - start).min(STRIP);
         scan_strip::<O>(grid, start, &mut sums[..width], into);
+    }
+}
+
+/// Offers the pairs of each row and the columns that start from `first` on and before `end` behind it, by sums of 64
+/// bits where these hold every distance. Where there are fewer diagonals than run at once, they are not worth a block's
+/// windows.
+fn scan_offsets<O: Offers>(grid: &Grid, first: usize, end: usize, into: &mut O::Into)
+    requires apart { O.least ≤ first }
+    requires ordered { first ≤ end }
+    requires within { end ≤ grid.now.columns.count }
+    requires fits { O.fits (window_length grid.now) (row_series grid.now) (column_series grid.now) into.old }
+    ensures scanned { O.is_scanned (window_length grid.now) (row_series grid.now) (column_series grid.now)
+        (on_diagonals first end) into.old into.new }
+{
+    if end - first < LANES {
+        return scan_wide::<O>(grid, first, end, into);
+    }
+    match find_scale(grid) {
+        Some(scale) => scan_groups::<O>(grid, &scale, first, end, 0, grid.rows.count, into),
+        None => scan_wide::<O>(grid, first, end, into),
     }
 }
 

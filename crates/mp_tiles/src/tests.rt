@@ -56,6 +56,28 @@ fn ties(alloc: Global, count: u64, seed: u64) -> Result<Vec<Sample>, Memory>
     Ok(samples)
 }
 
+/// A series of the least number, the greatest, and one in the middle, in which some samples are missing: the first and
+/// the last of sixteen, of 1,024, and others.
+fn spread(alloc: Global, count: u64, low: i32, high: i32) -> Result<Vec<Sample>, Memory>
+    ensures { IfOk result (λ samples. vec_len samples ≡ count) }
+{
+    let mut samples = Vec::new(alloc);
+    let mut state = count;
+    for k in 0..count {
+        state = state
+            .wrapping_mul(6_364_136_223_846_793_005)
+            .wrapping_add(1_442_695_040_888_963_407);
+        let is_missing = [15, 16, 300, 1_023, 1_024, 1_025].contains(&k);
+        samples.push(match state >> 62 {
+            _ if is_missing => Sample::Missing,
+            0 => Sample::Value(low),
+            1 => Sample::Value(high),
+            _ => Sample::Value(low / 2 + high / 2),
+        })?;
+    }
+    Ok(samples)
+}
+
 #[test]
 fn last_sample_is_missing(rt: HostRuntime) -> Result<(), Fail> {
     let samples = [
@@ -219,6 +241,49 @@ fn joins_give_what_every_pair_gives(rt: HostRuntime) -> Result<(), Fail> {
                 let tiled = join(rt.alloc(), a, b, m, tile)?;
                 assert_eq!(rt; tiled.as_slice(), every.as_slice());
             }
+        }
+    }
+    Ok(())
+}
+
+#[test]
+fn long_series_give_what_every_pair_gives(rt: HostRuntime) -> Result<(), Fail> {
+    for (low, high) in [(-3, 4), (7, 7), (2_000_000_000, 2_000_000_009)] {
+        let samples = spread(rt.alloc(), 1_100, low, high)?;
+        let every = mp_plain::profile(rt.alloc(), samples.as_slice(), 5)?;
+        for tile in [1, 7, 256, 65_536] {
+            let tiled = profile(rt.alloc(), samples.as_slice(), 5, tile)?;
+            assert_eq!(rt; tiled.all(), every.all.as_slice());
+            assert_eq!(rt; tiled.left(), every.left.as_slice());
+            assert_eq!(rt; tiled.right(), every.right.as_slice());
+        }
+    }
+    Ok(())
+}
+
+/// At window 8 numbers that lie 2^30 - 1 apart have sums below 2^63, and those that lie further apart may not. At
+/// window 9 the greatest range is 1,012,333,498.
+#[test]
+fn ranges_on_both_sides_of_64_bits(rt: HostRuntime) -> Result<(), Fail> {
+    for (m, high) in [
+        (8, 1_073_741_823),
+        (8, 1_073_741_824),
+        (9, 1_012_333_498),
+        (9, 1_012_333_499),
+        (9, i32::MAX),
+    ] {
+        for low in [0, i32::MIN] {
+            let samples = spread(rt.alloc(), 90, low, high.wrapping_add(low))?;
+            let samples = samples.as_slice();
+            let every = mp_plain::profile(rt.alloc(), samples, m)?;
+            let tiled = profile(rt.alloc(), samples, m, 256)?;
+            assert_eq!(rt; tiled.all(), every.all.as_slice());
+            assert_eq!(rt; tiled.left(), every.left.as_slice());
+            assert_eq!(rt; tiled.right(), every.right.as_slice());
+            let (a, b) = samples.split_at(40);
+            let every = mp_plain::join(rt.alloc(), a, b, m)?;
+            let tiled = join(rt.alloc(), a, b, m, 256)?;
+            assert_eq!(rt; tiled.as_slice(), every.as_slice());
         }
     }
     Ok(())

@@ -5,6 +5,7 @@ ghost use Rattle.mp_series.specs.declared.limits.TheConstants.{MAX_SAMPLES};
 ghost use Rattle.mp_defs.specs.Series.{reading_of, series_of};
 ghost use Rattle.mp_tiles.specs.Sums.{filled, gap as gap_of, gaps_from};
 ghost use Rattle.mp_tiles.specs.Plain.{ArePlain};
+ghost use Rattle.mp_tiles.specs.Limits.{has_no_gap, IsMark, AreMarks};
 
 use mp_nums::Sample;
 use mp_series::MAX_SAMPLES;
@@ -130,4 +131,35 @@ pub(crate) fn take_windows(
         gaps = gaps_within - gap(first);
     }
     gaps
+}
+
+/// The mark of a window: 0 where no sample is missing, and else -1, also past the last window. `gaps` is how many
+/// samples of the window are missing, its last one aside, and then the same of the next window.
+#[inline]
+fn next_mark(of: &Windows, place: usize, gaps: &mut u32) -> i64
+    requires place { place < 2 ^ 32 }
+    requires gaps { place < of.now.count → gaps.old ≡ gaps_from (series_of of.now.samples.now) of.now.rest place }
+    ensures mark { IsMark (has_no_gap (of.now.rest + 1) (series_of of.now.samples.now) place) result }
+    ensures gaps { place + 1 < of.now.count
+        → gaps.new ≡ gaps_from (series_of of.now.samples.now) of.now.rest (place + 1) }
+{
+    if place < of.count {
+        let within = *gaps + gap(of.samples[place + of.rest]);
+        *gaps = within - gap(of.samples[place]);
+        if within == 0 { 0 } else { -1 }
+    } else {
+        -1
+    }
+}
+
+/// Marks of the windows from `start` on: 0 where no sample is missing, and else -1, also past the last window.
+pub(crate) fn mark_whole(of: &Windows, start: usize, marks: &mut [i64])
+    requires { start + length marks.old < 2 ^ 32 }
+    ensures marks { AreMarks (of.now.rest + 1) (series_of of.now.samples.now) start marks.new }
+    ensures places { length marks.new ≡ length marks.old }
+{
+    let mut gaps = count_gaps(of, start.min(of.count));
+    for k in 0..marks.len() {
+        marks[k] = next_mark(of, start + k, &mut gaps);
+    }
 }

@@ -2,7 +2,7 @@ use Rattle.std.proofs.Common.{◌≡◌, ◌+◌, ◌*◌, length, min}
 use Rattle.mp_defs.specs.Series.{series_of}
 use Rattle.mp_tiles.specs.declared.scans.TheConstants.{STRIP}
 use Rattle.mp_tiles.specs.Scanning.{on_diagonals}
-use Rattle.mp_tiles.proofs.scans.scan_offsets.Given as goal
+use Rattle.mp_tiles.proofs.scans.scan_wide.Given as goal
 
 abbrev pub invariant-loop-k : goal.invariant-loop-k
 invariant-loop-k g l =

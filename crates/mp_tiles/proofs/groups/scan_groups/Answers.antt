@@ -1,0 +1,28 @@
+use Rattle.std.proofs.Common.{◌+◌, arith}
+use Rattle.mp_tiles.specs.Grids.{row_series, column_series, window_length}
+use Rattle.mp_tiles.specs.Scanning.{in_block}
+use Rattle.mp_tiles.proofs.BlockLemmas.{scanned_next}
+use Rattle.mp_tiles.proofs.LimitLemmas.{diagonals_next}
+use Rattle.mp_tiles.proofs.groups.scan_groups.Goals as goal
+
+pub loop-start-preserved : goal.loop-start-preserved
+loop-start-preserved g c =
+    let laws = g.met.O.Offers.laws in
+    let a = row_series c.args.grid.now in
+    let b = column_series c.args.grid.now in
+    let m = window_length c.args.grid.now in
+    let before = c.loop-start.invariant in
+    let next = c.scan_group.ensures in
+    let start = c.loop-start.start in
+    let stop = start + c.min-width.result in
+    record {
+      after = omega (arith, before.after);
+      within = omega (arith, c.min-width.ensures, c.loop-start-test.true);
+      fits = laws.still_fits m a b (in_block start stop c.args.top c.args.bottom) _ _ before.fits next.scanned;
+      scanned = scanned_next laws m a b (in_block c.args.first start c.args.top c.args.bottom)
+          (in_block start stop c.args.top c.args.bottom) (in_block c.args.first stop c.args.top c.args.bottom) _ _ _
+          c.requires.fits before.scanned next.scanned
+          (λ i j _ _. diagonals_next c.args.first start stop stop c.args.top c.args.bottom i j before.after (omega
+          arith)
+          (omega arith));
+    }

@@ -1,0 +1,418 @@
+//! Groups of diagonals, block by block, by sums of 64 bits.
+
+ghost use Rattle.std.specs.Prelude.{◌≡◌, ℕ, ◌+◌, ◌-◌, ◌*◌, ◌^◌, ◌<◌, ◌≤◌, length, pos, Bool};
+ghost use Rattle.std.specs.Int.{div_ceil};
+ghost use Rattle.mp_defs.specs.Series.{series_of};
+ghost use Rattle.mp_tiles.specs.Scanning.{in_block};
+ghost use Rattle.mp_tiles.specs.Levels.{level, AreNarrow};
+ghost use Rattle.mp_tiles.specs.Grids.{row_series, column_series, window_length};
+ghost use Rattle.mp_tiles.specs.Limits.{IsMark, IsLimit, AreLimits};
+ghost use Rattle.mp_tiles.specs.Lanes.{lane};
+ghost use Rattle.mp_tiles.specs.Blocks.{rows_of, columns_of, length_in, sum_in, AreLimitsIn, AreStripSums};
+
+use crate::blocks::{Block, Steps};
+use crate::levels::{Scale, fill_steps, first_sum};
+use crate::offers::Offers;
+use crate::strips::scan_sixteen;
+use crate::vectors::{load, store};
+use crate::windows::{Grid, Windows, mark_whole};
+use std::simd::prelude::*;
+
+/// The diagonals of a strip, whose sums run at once.
+pub(crate) const LANES: usize = 16;
+
+/// The most diagonals in a group.
+const GROUP: usize = 256;
+
+/// The most rows in a block. What its rows and columns are compared with stays in a small cache.
+const ROWS: usize = 1_024;
+
+/// The most columns in a block.
+const COLUMNS: usize = ROWS + GROUP;
+
+/// Makes the mark of a row its limit.
+#[inline]
+fn raise_row_limit<O: Offers>(into: &O::Into, row: usize, limit: &mut i64)
+    ensures { (whole : Bool) → IsMark whole limit.old → IsLimit whole (O.keeps_row into.now row) limit.new }
+{
+    if *limit >= 0 {
+        *limit = O::row_limit(into, row as u64);
+    }
+}
+
+/// Makes the mark of a column its limit.
+#[inline]
+fn raise_column_limit<O: Offers>(into: &O::Into, column: usize, limit: &mut i64)
+    ensures { (whole : Bool) → IsMark whole limit.old → IsLimit whole (O.keeps_column into.now column) limit.new }
+{
+    if *limit >= 0 {
+        *limit = O::column_limit(into, column as u64);
+    }
+}
+
+/// The limits of the windows from `start` on, as rows.
+fn fill_row_limits<O: Offers>(of: &Windows, start: usize, limits: &mut [i64], into: &O::Into)
+    requires { start + length limits.old < 2 ^ 32 }
+    ensures limits { AreLimits (of.now.rest + 1) (series_of of.now.samples.now) start (O.keeps_row into.now) limits.new }
+    ensures places { length limits.new ≡ length limits.old }
+{
+    mark_whole(of, start, limits);
+    for k in 0..limits.len() {
+        raise_row_limit::<O>(into, start + k, &mut limits[k]);
+    }
+}
+
+/// The limits of the windows from `start` on, as columns.
+fn fill_column_limits<O: Offers>(of: &Windows, start: usize, limits: &mut [i64], into: &O::Into)
+    requires { start + length limits.old < 2 ^ 32 }
+    ensures limits { AreLimits (of.now.rest + 1) (series_of of.now.samples.now) start (O.keeps_column into.now)
+        limits.new }
+    ensures places { length limits.new ≡ length limits.old }
+{
+    mark_whole(of, start, limits);
+    for k in 0..limits.len() {
+        raise_column_limit::<O>(into, start + k, &mut limits[k]);
+    }
+}
+
+/// The first sums of diagonals: of a row, and of each column from one on.
+fn start_sums(grid: &Grid, scale: &Scale, row: usize, column: usize, sums: &mut [i64])
+    requires row { row < 2 ^ 31 }
+    requires column { column + length sums.old < 2 ^ 31 }
+    requires narrow { AreNarrow (level scale.now.low (row_series grid.now)) (level scale.now.low (column_series
+        grid.now))
+        (window_length grid.now) scale.now.range }
+    ensures sums { AreStripSums (level scale.now.low (row_series grid.now)) (level scale.now.low (column_series
+        grid.now))
+        (window_length grid.now) grid.now.columns.count row column sums.new }
+    ensures places { length sums.new ≡ length sums.old }
+{
+    for t in 0..sums.len() {
+        sums[t] = first_sum(grid, scale, row, column + t) as i64;
+    }
+}
+
+/// Offers the pairs of the rows before `end` on as many successive diagonals as `width` says, by sixteen sums of those
+/// that are given. On the first of these diagonals a row has the column that comes `offset` places later.
+fn scan_strip_of<O: Offers>(
+    block: &Block,
+    end: usize,
+    offset: usize,
+    width: usize,
+    row_limits: &mut [i64],
+    column_limits: &mut [i64],
+    sums: &mut [i64],
+    into: &mut O::Into,
+)
+    requires rows { end ≤ length block.now.rows.e.now }
+    requires columns { end + offset + 15 ≤ length block.now.columns.e.now }
+    requires width { width ≤ 16 }
+    requires places { offset + 16 ≤ length sums.old }
+    requires apart { block.now.row + O.least ≤ block.now.column + offset }
+    requires sums { (t : ℕ) → t < 16 → lane sums.old (offset + t) ≡ pos (sum_in block.now 0 (offset + t)) }
+    requires fits { O.fits (length_in block.now) (rows_of block.now) (columns_of block.now) into.old }
+    requires limits { AreLimitsIn block.now (O.keeps_row into.old) (O.keeps_column into.old) row_limits.old
+        column_limits.old }
+    ensures scanned { O.is_scanned (length_in block.now) (rows_of block.now) (columns_of block.now)
+        (in_block (block.now.column + offset - block.now.row) (block.now.column + offset - block.now.row + width)
+        block.now.row (block.now.row + end)) into.old into.new }
+    ensures limits { AreLimitsIn block.now (O.keeps_row into.new) (O.keeps_column into.new) row_limits.new
+        column_limits.new }
+    ensures stored { (t : ℕ) → t < 16 → lane sums.new (offset + t) ≡ pos (sum_in block.now end (end + offset + t)) }
+    ensures before { (k : ℕ) → k < offset → lane sums.new k ≡ lane sums.old k }
+    ensures behind { (k : ℕ) → offset + 16 ≤ k → lane sums.new k ≡ lane sums.old k }
+    ensures places { length sums.new ≡ length sums.old }
+{
+    let mut sixteen = i64x16::splat(0);
+    load(&mut sixteen, sums, offset);
+    scan_sixteen::<O>(
+        block,
+        end,
+        offset,
+        width,
+        row_limits,
+        column_limits,
+        &mut sixteen,
+        into,
+    );
+    store(&sixteen, sums, offset);
+}
+
+/// Offers the pairs of a block on as many successive diagonals as `width` says, as far as there are columns. On the
+/// first of these diagonals a row has the column that comes `offset` places later.
+fn scan_strip_at<O: Offers>(
+    block: &Block,
+    offset: usize,
+    width: usize,
+    row_limits: &mut [i64],
+    column_limits: &mut [i64],
+    sums: &mut [i64],
+    into: &mut O::Into,
+)
+    requires columns { length block.now.rows.e.now + offset + 15 ≤ length block.now.columns.e.now }
+    requires width { width ≤ 16 }
+    requires places { offset + 16 ≤ length sums.old }
+    requires apart { block.now.row + O.least ≤ block.now.column + offset }
+    requires sums { block.now.column + offset < block.now.grid.columns.count
+        → (t : ℕ) → t < 16 → lane sums.old (offset + t) ≡ pos (sum_in block.now 0 (offset + t)) }
+    requires fits { O.fits (length_in block.now) (rows_of block.now) (columns_of block.now) into.old }
+    requires limits { AreLimitsIn block.now (O.keeps_row into.old) (O.keeps_column into.old) row_limits.old
+        column_limits.old }
+    ensures scanned { O.is_scanned (length_in block.now) (rows_of block.now) (columns_of block.now)
+        (in_block (block.now.column + offset - block.now.row) (block.now.column + offset - block.now.row + width)
+        block.now.row (block.now.row + length block.now.rows.e.now)) into.old into.new }
+    ensures limits { AreLimitsIn block.now (O.keeps_row into.new) (O.keeps_column into.new) row_limits.new
+        column_limits.new }
+    ensures stored { block.now.column + length block.now.rows.e.now + offset < block.now.grid.columns.count
+        → (t : ℕ) → t < 16 → lane sums.new (offset + t)
+        ≡ pos (sum_in block.now (length block.now.rows.e.now) (length block.now.rows.e.now + offset + t)) }
+    ensures before { (k : ℕ) → k < offset → lane sums.new k ≡ lane sums.old k }
+    ensures behind { (k : ℕ) → offset + 16 ≤ k → lane sums.new k ≡ lane sums.old k }
+    ensures places { length sums.new ≡ length sums.old }
+{
+    let left = block
+        .grid
+        .columns
+        .count
+        .saturating_sub(block.column + offset);
+    if left > 0 {
+        let end = block.rows.e.len().min(left);
+        scan_strip_of::<O>(
+            block,
+            end,
+            offset,
+            width,
+            row_limits,
+            column_limits,
+            sums,
+            into,
+        );
+    }
+}
+
+/// Offers the pairs of a block on as many successive diagonals as `width` says, strip by strip. On the first of these
+/// the first row has the first column.
+fn scan_strips<O: Offers>(
+    block: &Block,
+    width: usize,
+    row_limits: &mut [i64],
+    column_limits: &mut [i64],
+    sums: &mut [i64],
+    into: &mut O::Into,
+)
+    requires width { width < 2 ^ 31 }
+    requires strips { length sums.old ≡ div_ceil width 16 * 16 }
+    requires columns { length block.now.rows.e.now + div_ceil width 16 * 16 ≤ length block.now.columns.e.now + 1 }
+    requires apart { block.now.row + O.least ≤ block.now.column }
+    requires sums { AreStripSums (level block.now.scale.low (rows_of block.now))
+        (level block.now.scale.low (columns_of block.now)) (length_in block.now) block.now.grid.columns.count
+        block.now.row block.now.column sums.old }
+    requires fits { O.fits (length_in block.now) (rows_of block.now) (columns_of block.now) into.old }
+    requires limits { AreLimitsIn block.now (O.keeps_row into.old) (O.keeps_column into.old) row_limits.old
+        column_limits.old }
+    ensures scanned { O.is_scanned (length_in block.now) (rows_of block.now) (columns_of block.now)
+        (in_block (block.now.column - block.now.row) (block.now.column - block.now.row + width) block.now.row
+        (block.now.row + length block.now.rows.e.now)) into.old into.new }
+    ensures sums { AreStripSums (level block.now.scale.low (rows_of block.now))
+        (level block.now.scale.low (columns_of block.now)) (length_in block.now) block.now.grid.columns.count
+        (block.now.row + length block.now.rows.e.now) (block.now.column + length block.now.rows.e.now) sums.new }
+    ensures places { length sums.new ≡ length sums.old }
+{
+    for strip in 0..width.div_ceil(LANES) {
+        let offset = strip * LANES;
+        scan_strip_at::<O>(
+            block,
+            offset,
+            (width - offset).min(LANES),
+            row_limits,
+            column_limits,
+            sums,
+            into,
+        );
+    }
+}
+
+/// Offers the pairs of `rows` rows from `row` on, on as many successive diagonals as `width` says. On the first of
+/// these the first row has the column at `column`.
+fn scan_rows_of<O: Offers>(
+    grid: &Grid,
+    scale: &Scale,
+    row: usize,
+    column: usize,
+    rows: usize,
+    width: usize,
+    sums: &mut [i64],
+    into: &mut O::Into,
+)
+    requires rows { rows ≤ ROWS }
+    requires width { width ≤ GROUP }
+    requires some { 1 ≤ width }
+    requires strips { length sums.old ≡ div_ceil width 16 * 16 }
+    requires row { row < 2 ^ 30 }
+    requires column { column < 2 ^ 30 }
+    requires apart { row + O.least ≤ column }
+    requires narrow { AreNarrow (level scale.now.low (row_series grid.now)) (level scale.now.low (column_series
+        grid.now))
+        (window_length grid.now) scale.now.range }
+    requires sums { AreStripSums (level scale.now.low (row_series grid.now)) (level scale.now.low (column_series
+        grid.now))
+        (window_length grid.now) grid.now.columns.count row column sums.old }
+    requires fits { O.fits (window_length grid.now) (row_series grid.now) (column_series grid.now) into.old }
+    ensures scanned { O.is_scanned (window_length grid.now) (row_series grid.now) (column_series grid.now)
+        (in_block (column - row) (column - row + width) row (row + rows)) into.old into.new }
+    ensures sums { AreStripSums (level scale.now.low (row_series grid.now)) (level scale.now.low (column_series
+        grid.now))
+        (window_length grid.now) grid.now.columns.count (row + rows) (column + rows) sums.new }
+    ensures places { length sums.new ≡ length sums.old }
+{
+    let (mut row_e, mut row_s, mut row_limits) = ([0; ROWS], [0; ROWS], [0; ROWS]);
+    let (mut column_e, mut column_s, mut column_limits) = (
+        [0; COLUMNS],
+        [0; COLUMNS],
+        [0; COLUMNS],
+    );
+    let columns = rows + width.div_ceil(LANES) * LANES - 1;
+    fill_steps(
+        &grid.rows,
+        scale,
+        row,
+        &mut row_e[..rows],
+        &mut row_s[..rows],
+    );
+    fill_steps(
+        &grid.columns,
+        scale,
+        column,
+        &mut column_e[..columns],
+        &mut column_s[..columns],
+    );
+    fill_row_limits::<O>(&grid.rows, row, &mut row_limits[..rows], into);
+    fill_column_limits::<O>(&grid.columns, column, &mut column_limits[..columns], into);
+    let block = Block {
+        grid: *grid,
+        scale: *scale,
+        row,
+        column,
+        rows: Steps {
+            e: &row_e[..rows],
+            s: &row_s[..rows],
+        },
+        columns: Steps {
+            e: &column_e[..columns],
+            s: &column_s[..columns],
+        },
+    };
+    scan_strips::<O>(
+        &block,
+        width,
+        &mut row_limits[..rows],
+        &mut column_limits[..columns],
+        sums,
+        into,
+    );
+}
+
+/// Offers the pairs of the rows from `top` on and before `bottom`, on as many successive diagonals from `first` on as
+/// `width` says. Each strip of these has sixteen places for sums.
+fn scan_group_by<O: Offers>(
+    grid: &Grid,
+    scale: &Scale,
+    first: usize,
+    width: usize,
+    top: usize,
+    bottom: usize,
+    sums: &mut [i64],
+    into: &mut O::Into,
+)
+    requires apart { O.least ≤ first }
+    requires some { 1 ≤ width }
+    requires width { width ≤ GROUP }
+    requires strips { length sums.old ≡ div_ceil width 16 * 16 }
+    requires top { top ≤ bottom }
+    requires bottom { bottom ≤ grid.now.rows.count }
+    requires within { first + width ≤ grid.now.columns.count }
+    requires narrow { AreNarrow (level scale.now.low (row_series grid.now)) (level scale.now.low (column_series
+        grid.now))
+        (window_length grid.now) scale.now.range }
+    requires fits { O.fits (window_length grid.now) (row_series grid.now) (column_series grid.now) into.old }
+    ensures scanned { O.is_scanned (window_length grid.now) (row_series grid.now) (column_series grid.now)
+        (in_block first (first + width) top bottom) into.old into.new }
+{
+    start_sums(grid, scale, top, top + first, sums);
+    let end = bottom.min(grid.columns.count - first);
+    let mut row = top;
+    while row < end {
+        let rows = (end - row).min(ROWS);
+        scan_rows_of::<O>(grid, scale, row, row + first, rows, width, sums, into);
+        row += rows;
+    }
+}
+
+/// Offers the pairs of the rows from `top` on and before `bottom`, on as many successive diagonals from `first` on as
+/// `width` says.
+fn scan_group<O: Offers>(
+    grid: &Grid,
+    scale: &Scale,
+    first: usize,
+    width: usize,
+    top: usize,
+    bottom: usize,
+    into: &mut O::Into,
+)
+    requires apart { O.least ≤ first }
+    requires some { 1 ≤ width }
+    requires width { width ≤ GROUP }
+    requires top { top ≤ bottom }
+    requires bottom { bottom ≤ grid.now.rows.count }
+    requires within { first + width ≤ grid.now.columns.count }
+    requires narrow { AreNarrow (level scale.now.low (row_series grid.now)) (level scale.now.low (column_series
+        grid.now))
+        (window_length grid.now) scale.now.range }
+    requires fits { O.fits (window_length grid.now) (row_series grid.now) (column_series grid.now) into.old }
+    ensures scanned { O.is_scanned (window_length grid.now) (row_series grid.now) (column_series grid.now)
+        (in_block first (first + width) top bottom) into.old into.new }
+{
+    let mut sums = [0; GROUP];
+    let places = width.div_ceil(LANES) * LANES;
+    scan_group_by::<O>(
+        grid,
+        scale,
+        first,
+        width,
+        top,
+        bottom,
+        &mut sums[..places],
+        into,
+    );
+}
+
+/// Offers the pairs of the rows from `top` on and before `bottom` and the columns that start from `first` on and before
+/// `end` behind them.
+pub(crate) fn scan_groups<O: Offers>(
+    grid: &Grid,
+    scale: &Scale,
+    first: usize,
+    end: usize,
+    top: usize,
+    bottom: usize,
+    into: &mut O::Into,
+)
+    requires apart { O.least ≤ first }
+    requires ordered { first ≤ end }
+    requires within { end ≤ grid.now.columns.count }
+    requires top { top ≤ bottom }
+    requires bottom { bottom ≤ grid.now.rows.count }
+    requires narrow { AreNarrow (level scale.now.low (row_series grid.now)) (level scale.now.low (column_series
+        grid.now))
+        (window_length grid.now) scale.now.range }
+    requires fits { O.fits (window_length grid.now) (row_series grid.now) (column_series grid.now) into.old }
+    ensures scanned { O.is_scanned (window_length grid.now) (row_series grid.now) (column_series grid.now)
+        (in_block first end top bottom) into.old into.new }
+{
+    let mut start = first;
+    while start < end {
+        let width = (end - start).min(GROUP);
+        scan_group::<O>(grid, scale, start, width, top, bottom, into);
+        start += width;
+    }
+}
