@@ -1,0 +1,542 @@
+-- What is kept of the windows of a series that has one sample more.
+use Rattle.std.proofs.Common.{◌≡◌, ℕ, zero, suc, ◌+◌, ◌-◌, ◌<◌, ◌≤◌, inl, inr, List, [], ◌∷◌, ◌++◌, length, get_or}
+use Rattle.std.proofs.Common.{take}
+use Rattle.std.proofs.Common.{Bool, true, false, refl, sym, ap, ◌∙◌, arith, subst}
+use Rattle.std.specs.Prelude.{Option, Some, None, ℤ, pos, ◌≤ℤ◌, slice_index, nat_eq}
+use Rattle.std.specs.List.{range_with_len}
+use Rattle.std.proofs.Math.ListN.{get_or-append}
+use Rattle.std.proofs.Math.Seq.{get_or-append_seam, take-length}
+use Rattle.std.proofs.lemmas.Bool.{cases_lt}
+use Rattle.std.proofs.lemmas.List.{ext_get_or, length-append, length-map, length-set, map-append, take_more}
+use Rattle.std.proofs.lemmas.List.{get_or-set_same, get_or-set_other, length-take-le}
+use Rattle.std.proofs.lemmas.Bool.Decides.{nat_tests}
+use Rattle.std.proofs.lemmas.Int.{ints}
+use Rattle.std.proofs.lemmas.Simd.{zip2-map}
+use Rattle.mp_nums.specs.declared.nearest.Near.{Near}
+use Rattle.mp_nums.specs.declared.samples.Sample.{Sample}
+use Rattle.mp_nums.specs.declared.samples.Sample.TheVariants.{Missing, Value}
+use Rattle.mp_nums.specs.Near.{nearer_of}
+use Rattle.mp_defs.specs.Series.{Series, reading_of, series_of}
+use Rattle.mp_defs.specs.SeriesLaws.{series_are_of_samples}
+use Rattle.mp_defs.specs.Window.{is_free, excl, is_allowed, windows}
+use Rattle.mp_defs.specs.Least.{near}
+use Rattle.mp_defs.specs.LeastLaws.{near_same}
+use Rattle.mp_defs.specs.Profile.{column, entry, left_entry, right_entry, windows_of, matrix_profile}
+use Rattle.mp_defs.specs.ColumnLaws.{columns_have_places}
+use Rattle.mp_defs.specs.NearestLaws.{entries_are_of_both_sides, zone_is_mutual}
+use Rattle.mp_partial.specs.Values.{merged_column}
+use Rattle.mp_series.specs.Samples.{number_in, numbers_in}
+use Rattle.mp_stream.specs.Rows.{IsTaken, lowered, row_candidate, sum_at, square_at, with_best, IsRow}
+use Rattle.mp_stream.specs.Appended.{with_one, filled, AreNumbers}
+use Rattle.mp_stream.specs.Ranges.{AreWithin, Reaches}
+use Rattle.mp_stream.specs.Streams.{IsOf, without_last}
+use Rattle.mp_stream.specs.declared.kept.Kept.{Kept}
+use Rattle.mp_stream.specs.declared.ranges.Range.{Range}
+use Rattle.mp_stream.proofs.SumLemmas.{sum_none, sum_more}
+use Rattle.mp_stream.proofs.Steps.{push_more}
+use Rattle.mp_stream.proofs.Entries.{free_front, left_stays, left_last, left_last_none, right_entries}
+use Rattle.mp_stream.proofs.Entries.{right_entries_stay, windows_more}
+
+-- ---- columns
+
+pub column_is : (f : ℕ → Option Near) (w : ℕ) (list : List (Option Near)) → length list ≡ w
+    → ((i : ℕ) → i < w → get_or list i None ≡ f i) → list ≡ column f w
+column_is f w list long each =
+    ext_get_or None list (column f w) (long ∙ sym (columns_have_places.count f w))
+    (λ i lt. let below : i < w = omega (arith, lt, long) in
+    each i below ∙ sym (columns_have_places.at_place f w i below))
+
+-- the entries, from the left and the right ones
+pub all_entries : (m : ℕ) (a : Series) (all left right : List (Option Near)) → all ≡ merged_column left right
+    → left ≡ (matrix_profile m a).left → right ≡ (matrix_profile m a).right → all ≡ (matrix_profile m a).all
+all_entries m a all left right e f g =
+    let w = windows_of m a in
+    let both = λ (i : ℕ). nearer_of (left_entry (is_allowed m) m a i) (right_entry (is_allowed m) m a i) in
+    e ∙ ap (λ x. merged_column x right) f ∙ ap (merged_column (matrix_profile m a).left) g
+    ∙ zip2-map nearer_of (left_entry (is_allowed m) m a) (right_entry (is_allowed m) m a) (range_with_len 0 w)
+    ∙ column_is (entry (is_allowed m) m a) w (column both w) (columns_have_places.count both w)
+    (λ i lt. columns_have_places.at_place both w i lt
+    ∙ sym (entries_are_of_both_sides (is_allowed m) (zone_is_mutual.irreflexive m) m a i))
+
+-- ---- samples
+
+pub split_last : (items : List Sample) → 1 ≤ length items
+    → items ≡ without_last items ++ get_or items (length items - 1) Missing ∷ []
+split_last items le =
+    let n = length items - 1 in
+    let all : n + 1 ≡ length items = omega arith in
+    sym (take-length items) ∙ ap (λ k. take k items) (sym all) ∙ take_more items n Missing (omega arith)
+
+pub without_last_long : (items : List Sample) → length (without_last items) ≡ length items - 1
+without_last_long items = length-take-le (length items - 1) items (omega arith)
+
+pub series_with : (items : List Sample) (s : Sample) → series_of (items ++ s ∷ []) ≡ with_one (series_of items)
+    (reading_of s)
+series_with items s = map-append reading_of items (s ∷ [])
+
+number_filled : (s : Sample) → number_in s ≡ filled (reading_of s)
+number_filled Missing = refl
+number_filled (Value n) = refl
+
+number_of : (items : List Sample) (i : ℕ) → get_or (numbers_in items) i (pos 0) ≡ number_in (get_or items i Missing)
+number_of [] i = refl
+number_of (x ∷ items) zero = refl
+number_of (x ∷ items) (suc i) = number_of items i
+
+pub numbers_are : (items : List Sample) → AreNumbers (series_of items) (numbers_in items)
+numbers_are items i =
+    number_of items i ∙ number_filled (get_or items i Missing)
+    ∙ ap filled (sym (series_are_of_samples.numbers items i))
+
+-- ---- sums of the windows before a last sample
+
+square_front : (xs ys : List ℤ) (i j : ℕ) → i < length xs → j < length xs
+    → square_at (xs ++ ys) i j ≡ square_at xs i j
+square_front xs ys i j lt lt' =
+    rw (get_or-append xs ys (pos 0) i lt, get_or-append xs ys (pos 0) j lt') refl
+
+pub sum_front : (xs ys : List ℤ) (m i j : ℕ) → i + m ≤ length xs → j + m ≤ length xs
+    → sum_at (xs ++ ys) m i j ≡ sum_at xs m i j
+sum_front xs ys zero i j le le' = sum_none (xs ++ ys) i j ∙ sym (sum_none xs i j)
+sum_front xs ys (suc m) i j le le' =
+    let one : m + 1 ≡ suc m = omega arith in
+    subst (λ n. sum_at (xs ++ ys) n i j ≡ sum_at xs n i j) one
+    (rw (
+      sum_more (xs ++ ys) m i j,
+      sum_more xs m i j,
+      sum_front xs ys m i j (omega arith) (omega arith),
+      square_front xs ys (i + m) (j + m) (omega arith) (omega arith),
+    ) refl)
+
+-- the sums before the last window, in a row that has room for one more
+pub row_before : (m : ℕ) (items : List Sample) (row grown : List ℕ) → 1 ≤ m → 1 ≤ length items
+    → length row ≡ windows (length (without_last items)) m
+    → IsRow (numbers_in (without_last items)) m (windows (length (without_last items)) m - 1) row
+    → grown ≡ row ++ 0 ∷ [] → (i : ℕ) → i < length grown - 1
+    → get_or grown i 0 ≡ sum_at (numbers_in items) m i (length grown - 1 - 1)
+row_before m items row grown least some long before e i lt =
+    let front = without_last items in
+    let last = get_or items (length items - 1) Missing in
+    let w = length row in
+    let count : length grown ≡ w + 1 = ap length e ∙ length-append row (0 ∷ []) in
+    let whole : numbers_in items ≡ numbers_in front ++ number_in last ∷ [] =
+    ap numbers_in (split_last items some) ∙ map-append number_in front (last ∷ []) in
+    let many : length (numbers_in front) ≡ length front = length-map front number_in in
+    let here : length grown - 1 - 1 ≡ w - 1 = omega (arith, count) in
+    let there : windows (length front) m - 1 ≡ w - 1 = omega (arith, long) in
+    let below : i < w = omega (arith, lt, count) in
+    ap (λ list. get_or list i 0) e ∙ get_or-append row (0 ∷ []) 0 i below ∙ before i below
+    ∙ ap (sum_at (numbers_in front) m i) there
+    ∙ sym (sum_front (numbers_in front) (number_in last ∷ []) m i (w - 1) (omega (arith, below, long, many))
+    (omega (arith, below, long, many)))
+    ∙ ap (λ list. sum_at list m i (w - 1)) (sym whole)
+    ∙ ap (sum_at (numbers_in items) m i) (sym here)
+
+-- ---- one window more
+
+-- a column that grew by a place without an entry
+pushed_before : (column : List (Option Near)) (i : ℕ) → i < length column
+    → get_or (column ++ None ∷ []) i None ≡ get_or column i None
+pushed_before column i lt = get_or-append column (None ∷ []) None i lt
+
+pushed_last : (column : List (Option Near)) (w : ℕ) → length column ≡ w → get_or (column ++ None ∷ []) w None ≡ None
+pushed_last column w e =
+    ap (λ k. get_or (column ++ None ∷ []) k None) (sym e) ∙ get_or-append_seam column None [] None
+
+best_other : (column : List (Option Near)) (w i : ℕ) (best : Option Near) → (i ≡ w → ⊥)
+    → get_or (with_best column w best) i None ≡ get_or column i None
+best_other column w i None ne = refl
+best_other column w i (Some found) ne = get_or-set_other column w i (nearer_of (get_or column w None)
+    (Some found)) None ne
+
+first_found : (x : Option Near) (found : Near) → x ≡ None → nearer_of x (Some found) ≡ Some found
+first_found None found e = refl
+first_found (Some y) found e = absurd (cc)
+
+best_here : (column : List (Option Near)) (w : ℕ) (best : Option Near) → w < length column → get_or column w None ≡ None
+    → get_or (with_best column w best) w None ≡ best
+best_here column w None lt e = e
+best_here column w (Some found) lt e =
+    get_or-set_same column w (nearer_of (get_or column w None) (Some found)) None lt
+    ∙ first_found (get_or column w None) found e
+
+pub best_long : (column : List (Option Near)) (w : ℕ) (best : Option Near)
+    → length (with_best column w best) ≡ length column
+best_long column w None = refl
+best_long column w (Some found) = length-set column w (nearer_of (get_or column w None) (Some found))
+
+-- the windows that were there, one sample before
+pub record IsBefore (m : ℕ) (a : Series) (s : Option ℤ) (xs : List ℤ) : Type 0 where
+  pub long : m ≤ length a + 1
+  pub numbers : AreNumbers (with_one a s) xs
+
+pub frees_grow : (m : ℕ) (a : Series) (s : Option ℤ) (free : List Bool) (is_free_last : Bool) → m ≤ length a + 1
+    → length free ≡ windows_of m a → ((i : ℕ) → i < windows_of m a → get_or free i false ≡ is_free m a i)
+    → is_free_last ≡ is_free m (with_one a s) (windows_of m a)
+    → (i : ℕ) → i < windows_of m a + 1
+    → get_or (free ++ is_free_last ∷ []) i false ≡ is_free m (with_one a s) i
+frees_grow m a s free is_free_last le long before last =
+    push_more false (λ i x. x ≡ is_free m (with_one a s) i) free (windows_of m a) is_free_last long
+    (λ i lt. before i lt ∙ sym (free_front m a s i (omega (arith, lt)))) last
+
+-- the left column where the last window is free
+pub lefts_grow : (m : ℕ) (a : Series) (s : Option ℤ) (xs : List ℤ) (free : List Bool) (row : List ℕ)
+    (left new : List (Option Near)) → IsBefore m a s xs
+    → ((i : ℕ) → i < windows_of m a + 1 → get_or free i false ≡ is_free m (with_one a s) i)
+    → is_free m (with_one a s) (windows_of m a) ≡ true
+    → ((i : ℕ) → i < windows_of m a + 1 → get_or row i 0 ≡ sum_at xs m i (windows_of m a))
+    → left ≡ (matrix_profile m a).left
+    → new ≡ with_best (left ++ None ∷ []) (windows_of m a)
+    (near (row_candidate free (slice_index row)) (windows_of m a - excl m))
+    → new ≡ (matrix_profile m (with_one a s)).left
+lefts_grow m a s xs free row left new h frees last sums e f =
+    let b = with_one a s in
+    let w = windows_of m a in
+    let more = windows_more m a s h.long in
+    let grown = left ++ None ∷ [] in
+    let best = near (row_candidate free (slice_index row)) (w - excl m) in
+    let count : length left ≡ w = ap length e ∙ columns_have_places.count (left_entry (is_allowed m) m a) w in
+    let found : best ≡ left_entry (is_allowed m) m b w =
+    near_same (row_candidate free (slice_index row)) (row_candidate free (λ i. sum_at xs m i w)) (w - excl m)
+    (λ i lt. ap (row_candidate_at free i) (sums i (omega (arith, lt))))
+    ∙ left_last m a s xs free h.long h.numbers frees last in
+    let long : length new ≡ w + 1 = ap length f ∙ best_long grown w best ∙ length-append left (None ∷ [])
+    ∙ ap (λ n. n + 1) count in
+    f ∙ column_is (left_entry (is_allowed m) m b) (windows_of m b) (with_best grown w best)
+    (ap length (sym f) ∙ long ∙ sym more)
+    (λ i lt. elim (cases_lt i w) [
+      | inl less ↦ best_other grown w i best (λ same. omega (arith, same, less))
+          ∙ pushed_before left i (omega (arith, less, count))
+          ∙ ap (λ list. get_or list i None) e
+          ∙ columns_have_places.at_place (left_entry (is_allowed m) m a) w i less
+          ∙ sym (left_stays (is_allowed m) m a s i h.long less)
+      | inr ge ↦ let same : w ≡ i = omega (arith, ge, lt, more) in
+          subst (λ k. get_or (with_best grown w best) k None ≡ left_entry (is_allowed m) m b k) same
+          (best_here grown w best (omega (arith, length-append left (None ∷ []), count)) (pushed_last left w count)
+          ∙ found)
+    ])
+  where
+    row_candidate_at : List Bool → ℕ → ℕ → Option Near
+    row_candidate_at free i d = row_candidate free (λ _. d) i
+
+-- where the last window isn't free
+pub lefts_stay : (m : ℕ) (a : Series) (s : Option ℤ) (xs : List ℤ) (left new : List (Option Near)) → IsBefore m a s xs
+    → is_free m (with_one a s) (windows_of m a) ≡ false → left ≡ (matrix_profile m a).left
+    → new ≡ left ++ None ∷ [] → new ≡ (matrix_profile m (with_one a s)).left
+lefts_stay m a s xs left new h last e f =
+    let b = with_one a s in
+    let w = windows_of m a in
+    let more = windows_more m a s h.long in
+    let count : length left ≡ w = ap length e ∙ columns_have_places.count (left_entry (is_allowed m) m a) w in
+    f ∙ column_is (left_entry (is_allowed m) m b) (windows_of m b) (left ++ None ∷ [])
+    (length-append left (None ∷ []) ∙ ap (λ n. n + 1) count ∙ sym more)
+    (λ i lt. elim (cases_lt i w) [
+      | inl less ↦ pushed_before left i (omega (arith, less, count)) ∙ ap (λ list. get_or list i None) e
+          ∙ columns_have_places.at_place (left_entry (is_allowed m) m a) w i less
+          ∙ sym (left_stays (is_allowed m) m a s i h.long less)
+      | inr ge ↦ let same : w ≡ i = omega (arith, ge, lt, more) in
+          subst (λ k. get_or (left ++ None ∷ []) k None ≡ left_entry (is_allowed m) m b k) same
+          (pushed_last left w count ∙ sym (left_last_none m a s xs h.long h.numbers last))
+    ])
+
+taken_as : (free : List Bool) (dist dist' : ℕ → ℕ) (j end : ℕ) (old new : List (Option Near))
+    → ((i : ℕ) → i < end → dist i ≡ dist' i) → IsTaken free dist j 0 end old new → IsTaken free dist' j 0 end old new
+taken_as free dist dist' j end old new same h = record {
+  places = h.places;
+  within = λ i low high. h.within i low high ∙ ap (lowered_at free j i (get_or old i None)) (same i high);
+  before = h.before;
+  behind = h.behind;
+}
+  where
+    lowered_at : List Bool → ℕ → ℕ → Option Near → ℕ → Option Near
+    lowered_at free j i old d = lowered free (λ _. d) j i old
+
+-- the right column where the last window is free
+pub rights_grow : (m : ℕ) (a : Series) (s : Option ℤ) (xs : List ℤ) (free : List Bool) (row : List ℕ)
+    (right new : List (Option Near)) → IsBefore m a s xs
+    → ((i : ℕ) → i < windows_of m a + 1 → get_or free i false ≡ is_free m (with_one a s) i)
+    → is_free m (with_one a s) (windows_of m a) ≡ true
+    → ((i : ℕ) → i < windows_of m a + 1 → get_or row i 0 ≡ sum_at xs m i (windows_of m a))
+    → right ≡ (matrix_profile m a).right
+    → IsTaken free (slice_index row) (windows_of m a) 0 (windows_of m a - excl m) (right ++ None ∷ []) new
+    → new ≡ (matrix_profile m (with_one a s)).right
+rights_grow m a s xs free row right new h frees last sums e taken =
+    let b = with_one a s in
+    let w = windows_of m a in
+    let more = windows_more m a s h.long in
+    let count : length right ≡ w = ap length e ∙ columns_have_places.count (right_entry (is_allowed m) m a) w in
+    column_is (right_entry (is_allowed m) m b) (windows_of m b) new
+    (taken.places ∙ length-append right (None ∷ []) ∙ ap (λ n. n + 1) count ∙ sym more)
+    (λ i lt. right_entries m a s xs free (right ++ None ∷ []) new h.long h.numbers frees last
+    (λ k less. pushed_before right k (omega (arith, less, count)) ∙ ap (λ list. get_or list k None) e
+    ∙ columns_have_places.at_place (right_entry (is_allowed m) m a) w k less)
+    (pushed_last right w count)
+    (taken_as free (slice_index row) (λ k. sum_at xs m k w) w (w - excl m) (right ++ None ∷ []) new
+    (λ k less. sums k (omega (arith, less))) taken) i (omega (arith, lt, more)))
+
+pub rights_stay : (m : ℕ) (a : Series) (s : Option ℤ) (xs : List ℤ) (right new : List (Option Near)) → IsBefore m a s xs
+    → is_free m (with_one a s) (windows_of m a) ≡ false → right ≡ (matrix_profile m a).right
+    → new ≡ right ++ None ∷ [] → new ≡ (matrix_profile m (with_one a s)).right
+rights_stay m a s xs right new h last e f =
+    let b = with_one a s in
+    let w = windows_of m a in
+    let more = windows_more m a s h.long in
+    let count : length right ≡ w = ap length e ∙ columns_have_places.count (right_entry (is_allowed m) m a) w in
+    f ∙ column_is (right_entry (is_allowed m) m b) (windows_of m b) (right ++ None ∷ [])
+    (length-append right (None ∷ []) ∙ ap (λ n. n + 1) count ∙ sym more)
+    (λ i lt. right_entries_stay m a s xs (right ++ None ∷ []) h.long h.numbers last
+    (λ k less. pushed_before right k (omega (arith, less, count)) ∙ ap (λ list. get_or list k None) e
+    ∙ columns_have_places.at_place (right_entry (is_allowed m) m a) w k less)
+    (pushed_last right w count) i (omega (arith, lt, more)))
+
+-- ---- all that is kept
+
+-- what is kept once the last window has its place and its row
+pub record IsTurned (m : ℕ) (items : List Sample) (last_free : Bool) (before turned : Kept) : Type 0 where
+  pub left : turned.profile.left ≡ before.profile.left ++ None ∷ []
+  pub right : turned.profile.right ≡ before.profile.right ++ None ∷ []
+  pub free : turned.free.items ≡ before.free.items ++ last_free ∷ []
+  pub range : AreWithin turned.range (numbers_in items)
+  pub sums : length turned.row.items ≡ length before.row.items + 1
+  pub room : length turned.next.items ≡ length before.row.items + 1
+  pub row : IsRow (numbers_in items) m (length before.row.items) turned.row.items
+
+-- the series with its last sample, and the windows that it had before
+pub record IsSplit (m : ℕ) (items : List Sample) (w : ℕ) : Type 0 where
+  pub series : series_of items
+      ≡ with_one (series_of (without_last items)) (reading_of (get_or items (length items - 1) Missing))
+  pub count : windows_of m (series_of (without_last items)) ≡ w
+  pub more : windows (length items) m ≡ w + 1
+  pub before : IsBefore m (series_of (without_last items)) (reading_of (get_or items (length items - 1) Missing))
+      (numbers_in items)
+
+pub is_split : (m : ℕ) (items : List Sample) (w : ℕ) → 1 ≤ m → m ≤ length items
+    → w ≡ windows (length (without_last items)) m → IsSplit m items w
+is_split m items w least le e =
+    let front = without_last items in
+    let last = get_or items (length items - 1) Missing in
+    let long = without_last_long items in
+    let series : series_of items ≡ with_one (series_of front) (reading_of last) =
+    ap series_of (split_last items (omega arith)) ∙ series_with front last in
+    record {
+      series = series;
+      count = ap (λ n. windows n m) (length-map front reading_of) ∙ sym e;
+      more = omega (arith, long, e);
+      before = record {
+        long = omega (arith, long, length-map front reading_of);
+        numbers = subst (λ a. AreNumbers a (numbers_in items)) series (numbers_are items);
+      };
+    }
+
+frees_of : (m : ℕ) (items : List Sample) (last_free : Bool) (before turned : Kept) → IsOf m (without_last items) before
+    → IsSplit m items (length before.row.items) → IsTurned m items last_free before turned
+    → last_free ≡ is_free m (series_of items) (length before.row.items)
+    → (i : ℕ) → i < windows_of m (series_of (without_last items)) + 1
+    → get_or turned.free.items i false
+    ≡ is_free m (with_one (series_of (without_last items)) (reading_of (get_or items (length items - 1) Missing))) i
+frees_of m items last_free before turned h split turned_is last i lt =
+    let front = without_last items in
+    let t = reading_of (get_or items (length items - 1) Missing) in
+    let w = windows_of m (series_of front) in
+    let many : w ≡ windows (length front) m = ap (λ n. windows n m) (length-map front reading_of) in
+    ap (λ list. get_or list i false) turned_is.free
+    ∙ frees_grow m (series_of front) t before.free.items last_free split.before.long (h.frees ∙ sym many)
+    (λ k less. h.free k (omega (arith, less, many)))
+    (last ∙ ap (is_free m (series_of items)) (sym split.count) ∙ ap (λ a. is_free m a w) split.series) i lt
+
+last_is : (m : ℕ) (items : List Sample) (last_free value : Bool) (w : ℕ) → IsSplit m items w
+    → last_free ≡ is_free m (series_of items) w → last_free ≡ value
+    → is_free m (with_one (series_of (without_last items)) (reading_of (get_or items (length items - 1) Missing)))
+    (windows_of m (series_of (without_last items))) ≡ value
+last_is m items last_free value w split last e =
+    ap (λ a. is_free m a (windows_of m (series_of (without_last items)))) (sym split.series)
+    ∙ ap (is_free m (series_of items)) split.count ∙ sym last ∙ e
+
+pub kept_stays : (m : ℕ) (items : List Sample) (last_free : Bool) (before turned : Kept)
+    → IsOf m (without_last items) before → IsSplit m items (length before.row.items)
+    → IsTurned m items last_free before turned → last_free ≡ is_free m (series_of items) (length before.row.items)
+    → last_free ≡ false → IsOf m items turned
+kept_stays m items last_free before turned h split turned_is last none =
+    let front = without_last items in
+    let t = reading_of (get_or items (length items - 1) Missing) in
+    let w = length before.row.items in
+    let not_free = last_is m items last_free false w split last none in
+    let row_at : windows (length items) m - 1 ≡ w = omega (arith, split.more) in
+    record {
+      left = lefts_stay m (series_of front) t (numbers_in items) before.profile.left turned.profile.left split.before
+          not_free h.left turned_is.left ∙ ap (λ a. (matrix_profile m a).left) (sym split.series);
+      right = rights_stay m (series_of front) t
+          (numbers_in items) before.profile.right turned.profile.right split.before
+          not_free h.right turned_is.right ∙ ap (λ a. (matrix_profile m a).right) (sym split.series);
+      frees = ap length turned_is.free ∙ length-append before.free.items (last_free ∷ [])
+          ∙ ap (λ n. n + 1) (h.frees ∙ sym h.sums) ∙ sym split.more;
+      free = λ i lt. frees_of m items last_free before turned h split turned_is last i
+          (omega (arith, lt, split.more, split.count)) ∙ ap (λ a. is_free m a i) (sym split.series);
+      sums = turned_is.sums ∙ sym split.more;
+      room = turned_is.room ∙ sym split.more;
+      range = turned_is.range;
+      row = subst (λ j. IsRow (numbers_in items) m j turned.row.items) (sym row_at) turned_is.row;
+    }
+
+pub kept_grows : (m : ℕ) (items : List Sample) (last_free : Bool) (before turned after : Kept)
+    → IsOf m (without_last items) before → IsSplit m items (length before.row.items)
+    → IsTurned m items last_free before turned → last_free ≡ is_free m (series_of items) (length before.row.items)
+    → last_free ≡ true
+    → IsTaken turned.free.items (slice_index turned.row.items) (length turned.row.items - 1) 0
+    (length turned.row.items - 1 - excl m) turned.profile.right after.profile.right
+    → after.profile.left ≡ with_best turned.profile.left (length turned.row.items - 1)
+    (near (row_candidate turned.free.items (slice_index turned.row.items)) (length turned.row.items - 1 - excl m))
+    → after.free ≡ turned.free → after.range ≡ turned.range → after.row ≡ turned.row → after.next ≡ turned.next
+    → IsOf m items after
+kept_grows m items last_free before turned after h split turned_is last some taken best free_is range_is row_is
+    next_is =
+    let front = without_last items in
+    let t = reading_of (get_or items (length items - 1) Missing) in
+    let w = length before.row.items in
+    let is_free_last = last_is m items last_free true w split last some in
+    let row_at : windows (length items) m - 1 ≡ w = omega (arith, split.more) in
+    let at : length turned.row.items - 1 ≡ windows_of m (series_of front) = omega
+    (arith, turned_is.sums, split.count) in
+    let sums = λ (i : ℕ) (lt : i < windows_of m (series_of front) + 1).
+    turned_is.row i (omega (arith, lt, turned_is.sums, split.count))
+    ∙ ap (sum_at (numbers_in items) m i) (sym split.count) in
+    let frees = frees_of m items last_free before turned h split turned_is last in
+    record {
+      left = lefts_grow m (series_of front) t (numbers_in items) turned.free.items turned.row.items before.profile.left
+          after.profile.left split.before frees is_free_last sums h.left
+          (subst (λ j. after.profile.left ≡ with_best (before.profile.left ++ None ∷ []) j
+          (near (row_candidate turned.free.items (slice_index turned.row.items)) (j - excl m))) at
+          (subst (λ column. after.profile.left ≡ with_best column (length turned.row.items - 1)
+          (near (row_candidate turned.free.items (slice_index turned.row.items))
+          (length turned.row.items - 1 - excl m))) turned_is.left best))
+          ∙ ap (λ a. (matrix_profile m a).left) (sym split.series);
+      right = rights_grow m (series_of front) t (numbers_in items) turned.free.items turned.row.items
+          before.profile.right after.profile.right split.before frees is_free_last sums h.right
+          (subst (λ j. IsTaken turned.free.items (slice_index turned.row.items) j 0 (j - excl m)
+          (before.profile.right ++ None ∷ []) after.profile.right) at
+          (subst (λ column. IsTaken turned.free.items (slice_index turned.row.items) (length turned.row.items - 1) 0
+          (length turned.row.items - 1 - excl m) column after.profile.right) turned_is.right taken))
+          ∙ ap (λ a. (matrix_profile m a).right) (sym split.series);
+      frees = ap (λ free. length free.items) free_is ∙ ap length turned_is.free
+          ∙ length-append before.free.items (last_free ∷ []) ∙ ap (λ n. n + 1) (h.frees ∙ sym h.sums) ∙ sym split.more;
+      free = λ i lt. ap (λ free. get_or free.items i false) free_is
+          ∙ frees i (omega (arith, lt, split.more, split.count)) ∙ ap (λ a. is_free m a i) (sym split.series);
+      sums = ap (λ row. length row.items) row_is ∙ turned_is.sums ∙ sym split.more;
+      room = ap (λ next. length next.items) next_is ∙ turned_is.room ∙ sym split.more;
+      range = subst (λ range. AreWithin range (numbers_in items)) (sym range_is) turned_is.range;
+      row = subst (λ row. IsRow (numbers_in items) m (windows (length items) m - 1) row.items) (sym row_is)
+          (subst (λ j. IsRow (numbers_in items) m j turned.row.items) (sym row_at) turned_is.row);
+    }
+
+pub turned_is : (m : ℕ) (items : List Sample) (last_free : Bool) (before grown turned : Kept)
+    → grown.profile.left ≡ before.profile.left ++ None ∷ [] → grown.profile.right ≡ before.profile.right ++ None ∷ []
+    → grown.free.items ≡ before.free.items ++ last_free ∷ [] → grown.range ≡ before.range
+    → grown.row.items ≡ before.row.items ++ 0 ∷ [] → turned.profile ≡ grown.profile → turned.free ≡ grown.free
+    → turned.range ≡ grown.range → length turned.row.items ≡ length grown.row.items
+    → length turned.next.items ≡ length grown.row.items
+    → IsRow (numbers_in items) m (length grown.row.items - 1) turned.row.items → AreWithin before.range
+    (numbers_in items)
+    → IsTurned m items last_free before turned
+turned_is m items last_free before grown turned left right free range row profile_is free_is range_is long next sums
+    within =
+    let count : length grown.row.items ≡ length before.row.items + 1 = ap length row ∙ length-append before.row.items
+    (0 ∷ []) in
+    let last : length grown.row.items - 1 ≡ length before.row.items = omega (arith, count) in
+    record {
+      left = ap (λ p. p.left) profile_is ∙ left;
+      right = ap (λ p. p.right) profile_is ∙ right;
+      free = ap (λ f. f.items) free_is ∙ free;
+      range = subst (λ r. AreWithin r (numbers_in items)) (sym (range_is ∙ range)) within;
+      sums = long ∙ count;
+      room = next ∙ count;
+      row = subst (λ j. IsRow (numbers_in items) m j turned.row.items) last sums;
+    }
+
+-- the columns have a place for each window
+pub rights_count : (m : ℕ) (items : List Sample) (kept : Kept) → IsOf m items kept
+    → length kept.profile.right ≡ length kept.row.items
+rights_count m items kept h =
+    ap length h.right
+    ∙ columns_have_places.count (right_entry (is_allowed m) m (series_of items)) (windows_of m (series_of items))
+    ∙ ap (λ n. windows n m) (length-map items reading_of) ∙ sym h.sums
+
+-- ---- a sample without a window
+
+no_windows : (m : ℕ) (items : List Sample) (f g : ℕ → Option Near) (list : List (Option Near)) → length items < m
+    → list ≡ column f (windows_of m (series_of (without_last items))) → list ≡ column g (windows_of m (series_of items))
+no_windows m items f g list lt e =
+    let front = without_last items in
+    let before : windows_of m (series_of front) ≡ 0 =
+    omega (arith, length-map front reading_of, without_last_long items) in
+    let after : windows_of m (series_of items) ≡ 0 = omega (arith, length-map items reading_of) in
+    let none : length list ≡ windows_of m (series_of items) =
+    ap length e ∙ columns_have_places.count f (windows_of m (series_of front)) ∙ before ∙ sym after in
+    column_is g (windows_of m (series_of items)) list none (λ i less. absurd (omega (arith, less, after)))
+
+pub kept_waits : (m : ℕ) (items : List Sample) (before : Kept) → length items < m
+    → AreWithin before.range (numbers_in items) → IsOf m (without_last items) before → IsOf m items before
+kept_waits m items before lt range h =
+    let front = without_last items in
+    let none : windows (length front) m ≡ windows (length items) m = omega (arith, without_last_long items) in
+    let zeros : windows (length items) m ≡ 0 = omega arith in
+    record {
+      left = no_windows m items (left_entry (is_allowed m) m (series_of front))
+          (left_entry (is_allowed m) m (series_of items)) before.profile.left lt h.left;
+      right = no_windows m items (right_entry (is_allowed m) m (series_of front))
+          (right_entry (is_allowed m) m (series_of items)) before.profile.right lt h.right;
+      frees = h.frees ∙ none;
+      free = λ i less. absurd (omega (arith, less, zeros));
+      sums = h.sums ∙ none;
+      room = h.room ∙ none;
+      range = range;
+      row = λ i less. absurd (omega (arith, less, h.sums, none, zeros));
+    }
+
+-- ---- a wider range
+
+pub kept_wider : (m : ℕ) (items : List Sample) (before after : Kept) → AreWithin after.range (numbers_in items)
+    → after ≡ record before { range = after.range } → IsOf m items before → IsOf m items after
+kept_wider m items before after range e h = subst (IsOf m items) (sym e) (record {
+  left = h.left;
+  right = h.right;
+  frees = h.frees;
+  free = h.free;
+  sums = h.sums;
+  room = h.room;
+  range = range;
+  row = h.row;
+})
+
+pub wider_within : (old new : Range) (numbers : List ℤ) → (0 < length numbers → Reaches new old) → AreWithin old numbers
+    → AreWithin new numbers
+wider_within old new numbers wider h k lt =
+    let reach = wider (omega (arith, lt)) in
+    let within = h k lt in
+    (omega (arith, ints, reach, within), omega (arith, ints, reach, within))
+
+pub range_grows : (new : Range) (front items : List Sample) (sample : Sample) → items ≡ front ++ sample ∷ []
+    → AreWithin new (numbers_in front) → AreWithin new (number_in sample ∷ []) → AreWithin new (numbers_in items)
+range_grows new front items sample e h last =
+    let whole : numbers_in items ≡ numbers_in front ++ number_in sample ∷ [] =
+    ap numbers_in e ∙ map-append number_in front (sample ∷ []) in
+    subst (AreWithin new) (sym whole)
+    (λ k lt. push_more (pos 0) (λ _ x. (new.low ≤ℤ x) × (x ≤ℤ new.high)) (numbers_in front) (length (numbers_in front))
+    (number_in sample) refl h (last 0 (omega arith)) k
+    (omega (arith, lt, length-append (numbers_in front) (number_in sample ∷ []))))
+
+first_only : (count long : ℕ) → count ≡ long → 0 < long - 1 → nat_eq count 1 ≡ false
+first_only count long e lt = grind (arith, nat_tests)
+
+-- the range of the samples before the last one, where it only widens behind the first
+pub front_within : (items : List Sample) (old new : Range) (count : ℕ) → count ≡ length items
+    → (nat_eq count 1 ≡ false → Reaches new old) → AreWithin old (numbers_in (without_last items))
+    → AreWithin new (numbers_in (without_last items))
+front_within items old new count e wider =
+    let front = without_last items in
+    wider_within old new (numbers_in front)
+    (λ some. wider (first_only count (length items) e (omega (
+      arith,
+      some,
+      length-map front number_in,
+      without_last_long items,
+    ))))

@@ -1,0 +1,243 @@
+-- Sums of squares: one place on, and how large they are.
+use Rattle.std.proofs.Common.{◌≡◌, ℕ, zero, suc, ◌+◌, ◌-◌, ◌*◌, ◌^◌, ◌<◌, ◌≤◌, List, length, get_or, take, drop}
+use Rattle.std.proofs.Common.{refl, sym, ap, ◌∙◌, arith, subst, add-one, w32, FitsSigned, to_z, of_z}
+use Rattle.std.proofs.Common.{mul-le-mul}
+use Rattle.std.specs.Prelude.{ℤ, pos, ◌-ℤ◌, ◌≤ℤ◌, unsigned_abs}
+use Rattle.std.proofs.lemmas.Int.{ints, to_z-of_z}
+use Rattle.std.proofs.lemmas.List.{get_or-take, get_or-drop, length-take-le, length-drop}
+use Rattle.mp_defs.specs.Distance.{square_gap}
+use Rattle.mp_stream.specs.Rows.{square_at, sum_at, sum_between, next_of, CanStep, moved, CanMove, last_of, IsRow}
+
+-- ---- sums in one list
+
+pub sum_none : (xs : List ℤ) (i j : ℕ) → sum_at xs 0 i j ≡ 0
+unfolding sum_at
+sum_none xs i j = refl
+
+pub sum_more : (xs : List ℤ) (m i j : ℕ)
+    → sum_at xs (m + 1) i j ≡ sum_at xs m i j + square_at xs (i + m) (j + m)
+unfolding sum_at
+sum_more xs m i j = rw add-one refl
+
+-- one place on: what is left behind and what is new
+pub sum_on : (xs : List ℤ) (m i j : ℕ)
+    → sum_at xs m (i + 1) (j + 1) + square_at xs i j ≡ sum_at xs m i j + square_at xs (i + m) (j + m)
+sum_on xs zero i j =
+    let here : i + 0 ≡ i = omega arith in
+    let there : j + 0 ≡ j = omega arith in
+    rw (sum_none xs (i + 1) (j + 1), sum_none xs i j, here, there) refl
+sum_on xs (suc m) i j =
+    let one : m + 1 ≡ suc m = omega arith in
+    subst (λ k. sum_at xs k (i + 1) (j + 1) + square_at xs i j ≡ sum_at xs k i j + square_at xs (i + k) (j + k)) one (
+    let here : i + 1 + m ≡ i + (m + 1) = omega arith in
+    let there : j + 1 + m ≡ j + (m + 1) = omega arith in
+    rw (sum_more xs m (i + 1) (j + 1), sum_more xs m i j, here, there) (omega (arith, sum_on xs m i j)))
+
+-- the first square is in the sum
+pub first_within : (xs : List ℤ) (m i j : ℕ) → 1 ≤ m → square_at xs i j ≤ sum_at xs m i j
+first_within xs zero i j le = absurd (omega arith)
+first_within xs (suc zero) i j le =
+    let here : i + 0 ≡ i = omega arith in
+    let there : j + 0 ≡ j = omega arith in
+    rw (sum_more xs 0 i j, sum_none xs i j, here, there) (omega arith)
+first_within xs (suc (suc m)) i j le =
+    let one : m + 1 + 1 ≡ suc (suc m) = omega arith in
+    let before : m + 1 ≡ suc m = omega arith in
+    subst (λ k. square_at xs i j ≤ sum_at xs k i j) one
+    (omega (
+      arith,
+      sum_more xs (m + 1) i j,
+      subst (λ k. square_at xs i j ≤ sum_at xs k i j) (sym before) (first_within xs (suc m) i j (omega arith)),
+    ))
+
+-- the same from either side
+pub swapped : (x y : ℤ) → square_gap x y ≡ square_gap y x
+swapped x y = let e : unsigned_abs (x -ℤ y) ≡ unsigned_abs (y -ℤ x) = omega (arith, ints) in rw e refl
+
+-- a bound on each square
+pub at_most : (xs : List ℤ) (bound m i j : ℕ)
+    → ((k : ℕ) → k < m → square_at xs (i + k) (j + k) ≤ bound) → sum_at xs m i j ≤ m * bound
+at_most xs bound zero i j h = rw sum_none (omega arith)
+at_most xs bound (suc m) i j h =
+    let one : m + 1 ≡ suc m = omega arith in
+    subst (λ k. sum_at xs k i j ≤ k * bound) one
+    (omega (arith, sum_more xs m i j, h m (omega arith), at_most xs bound m i j (λ k lt. h k (omega (arith, lt)))))
+
+-- ---- sums between two lists
+
+pub between_none : (xs ys : List ℤ) → sum_between xs ys 0 ≡ 0
+unfolding sum_between
+between_none xs ys = refl
+
+pub between_more : (xs ys : List ℤ) (m : ℕ)
+    → sum_between xs ys (m + 1) ≡ sum_between xs ys m + square_gap (get_or xs m (pos 0)) (get_or ys m (pos 0))
+unfolding sum_between
+between_more xs ys m = rw add-one refl
+
+-- two parts of one list
+pub part_at : (xs : List ℤ) (first count k : ℕ) → k < count
+    → get_or (take count (drop first xs)) k (pos 0) ≡ get_or xs (first + k) (pos 0)
+part_at xs first count k lt = get_or-take count (drop first xs) k (pos 0) lt ∙ get_or-drop first xs k (pos 0)
+
+pub between_parts : (xs ys zs : List ℤ) (first second count n : ℕ) → n ≤ count
+    → ys ≡ take count (drop first xs) → zs ≡ take count (drop second xs)
+    → sum_between ys zs n ≡ sum_at xs n first second
+between_parts xs ys zs first second count zero le e f = between_none ys zs ∙ sym (sum_none xs first second)
+between_parts xs ys zs first second count (suc n) le e f =
+    let one : n + 1 ≡ suc n = omega arith in
+    let here : get_or ys n (pos 0) ≡ get_or xs (first + n) (pos 0) =
+    ap (λ list. get_or list n (pos 0)) e ∙ part_at xs first count n (omega arith) in
+    let there : get_or zs n (pos 0) ≡ get_or xs (second + n) (pos 0) =
+    ap (λ list. get_or list n (pos 0)) f ∙ part_at xs second count n (omega arith) in
+    subst (λ k. sum_between ys zs k ≡ sum_at xs k first second) one
+    (between_more ys zs n ∙ sym (sum_more xs n first second
+    ∙ ap (λ sum. sum + square_at xs (first + n) (second + n))
+    (sym (between_parts xs ys zs first second count n (omega arith) e f))
+    ∙ ap (λ x. sum_between ys zs n + square_gap x (get_or xs (second + n) (pos 0))) (sym here)
+    ∙ ap (λ y. sum_between ys zs n + square_gap (get_or ys n (pos 0)) y) (sym there)))
+
+-- ---- the bounds of squares and sums
+
+gap_within : (low high x y : ℤ) → FitsSigned w32 low → FitsSigned w32 high → low ≤ℤ x → x ≤ℤ high → low ≤ℤ y → y ≤ℤ high
+    → unsigned_abs (x -ℤ y) ≤ 2 ^ 32 - 1
+gap_within low high x y f g a b c d = omega (arith, ints)
+
+-- the greatest square of a difference of 32 bits
+abbrev pub greatest_square : ℕ
+greatest_square = (2 ^ 32 - 1) * (2 ^ 32 - 1)
+
+pub square_fits : (low high x y : ℤ) → FitsSigned w32 low → FitsSigned w32 high → low ≤ℤ x → x ≤ℤ high → low ≤ℤ y
+    → y ≤ℤ high → square_gap x y ≤ greatest_square
+square_fits low high x y f g a b c d =
+    let gap = gap_within low high x y f g a b c d in mul-le-mul gap gap
+
+-- ---- all sums one place on
+
+steps_can : (limit bound : ℕ) (xs : List ℤ) (m i j sum : ℕ) (enters leaves last_enters last_leaves : ℤ) → 1 ≤ m
+    → i + m < length xs → j + m < length xs
+    → ((p q : ℕ) → p < length xs → q < length xs → square_at xs p q ≤ bound) → m * bound + bound < limit
+    → sum ≡ sum_at xs m i j → enters ≡ get_or xs (i + m) (pos 0) → leaves ≡ get_or xs i (pos 0)
+    → last_enters ≡ get_or xs (j + m) (pos 0) → last_leaves ≡ get_or xs j (pos 0)
+    → CanStep limit sum enters leaves last_enters last_leaves
+steps_can limit bound xs m i j sum enters leaves last_enters last_leaves le lt lt' each small e a b c d =
+    let left : square_gap last_leaves leaves ≡ square_at xs i j =
+    ap (λ x. square_gap x leaves) d ∙ ap (square_gap (get_or xs j (pos 0))) b
+    ∙ swapped (get_or xs j (pos 0)) (get_or xs i (pos 0)) in
+    let entered : square_gap last_enters enters ≡ square_at xs (i + m) (j + m) =
+    ap (λ x. square_gap x enters) c ∙ ap (square_gap (get_or xs (j + m) (pos 0))) a
+    ∙ swapped (get_or xs (j + m) (pos 0)) (get_or xs (i + m) (pos 0)) in
+    let whole = at_most xs bound m i j (λ k below. each (i + k) (j + k) (omega arith) (omega arith)) in
+    record {
+      leaves_sum = omega (arith, left, e, first_within xs m i j le);
+      fits = omega (arith, entered, e, whole, each (i + m) (j + m) lt lt');
+    }
+
+pub steps_on : (xs : List ℤ) (m i j sum next : ℕ) (enters leaves last_enters last_leaves : ℤ) → 1 ≤ m
+    → sum ≡ sum_at xs m i j → enters ≡ get_or xs (i + m) (pos 0) → leaves ≡ get_or xs i (pos 0)
+    → last_enters ≡ get_or xs (j + m) (pos 0) → last_leaves ≡ get_or xs j (pos 0)
+    → next ≡ next_of sum enters leaves last_enters last_leaves → next ≡ sum_at xs m (i + 1) (j + 1)
+steps_on xs m i j sum next enters leaves last_enters last_leaves le e a b c d f =
+    let left : square_gap last_leaves leaves ≡ square_at xs i j =
+    ap (λ x. square_gap x leaves) d ∙ ap (square_gap (get_or xs j (pos 0))) b
+    ∙ swapped (get_or xs j (pos 0)) (get_or xs i (pos 0)) in
+    let entered : square_gap last_enters enters ≡ square_at xs (i + m) (j + m) =
+    ap (λ x. square_gap x enters) c ∙ ap (square_gap (get_or xs (j + m) (pos 0))) a
+    ∙ swapped (get_or xs (j + m) (pos 0)) (get_or xs (i + m) (pos 0)) in
+    omega (arith, left, entered, e, f, sum_on xs m i j)
+
+-- what leaves and what enters the windows before a last one, in a list with just as many numbers
+pub record ArePassed (xs : List ℤ) (m : ℕ) (before : List ℕ) (enters leaves : List ℤ) : Type 0 where
+  pub least : 1 ≤ m
+  pub long : length xs ≡ length before + m
+  pub sums : IsRow xs m (length before - 1) before
+  pub enter : enters ≡ take (length before) (drop m xs)
+  pub leave : leaves ≡ take (length before) xs
+
+enter_long : (xs : List ℤ) (m : ℕ) (before : List ℕ) (enters leaves : List ℤ) → ArePassed xs m before enters leaves
+    → length enters ≡ length before
+enter_long xs m before enters leaves h =
+    ap length h.enter ∙ length-take-le (length before) (drop m xs) (omega (arith, length-drop m xs, h.long))
+
+leave_long : (xs : List ℤ) (m : ℕ) (before : List ℕ) (enters leaves : List ℤ) → ArePassed xs m before enters leaves
+    → length leaves ≡ length before
+leave_long xs m before enters leaves h =
+    ap length h.leave ∙ length-take-le (length before) xs (omega (arith, h.long))
+
+enter_at : (xs : List ℤ) (m : ℕ) (before : List ℕ) (enters leaves : List ℤ) → ArePassed xs m before enters leaves
+    → (i : ℕ) → i < length before → get_or enters i (pos 0) ≡ get_or xs (i + m) (pos 0)
+enter_at xs m before enters leaves h i lt =
+    let same : m + i ≡ i + m = omega arith in
+    ap (λ list. get_or list i (pos 0)) h.enter ∙ part_at xs m (length before) i lt ∙ ap (λ k. get_or xs k (pos 0)) same
+
+leave_at : (xs : List ℤ) (m : ℕ) (before : List ℕ) (enters leaves : List ℤ) → ArePassed xs m before enters leaves
+    → (i : ℕ) → i < length before → get_or leaves i (pos 0) ≡ get_or xs i (pos 0)
+leave_at xs m before enters leaves h i lt =
+    ap (λ list. get_or list i (pos 0)) h.leave ∙ get_or-take (length before) xs i (pos 0) lt
+
+last_enter : (xs : List ℤ) (m : ℕ) (before : List ℕ) (enters leaves : List ℤ) → ArePassed xs m before enters leaves
+    → 0 < length before → last_of enters ≡ get_or xs (length before - 1 + m) (pos 0)
+last_enter xs m before enters leaves h lt =
+    ap (λ n. get_or enters (n - 1) (pos 0)) (enter_long xs m before enters leaves h)
+    ∙ enter_at xs m before enters leaves h (length before - 1) (omega arith)
+
+last_leave : (xs : List ℤ) (m : ℕ) (before : List ℕ) (enters leaves : List ℤ) → ArePassed xs m before enters leaves
+    → 0 < length before → last_of leaves ≡ get_or xs (length before - 1) (pos 0)
+last_leave xs m before enters leaves h lt =
+    ap (λ n. get_or leaves (n - 1) (pos 0)) (leave_long xs m before enters leaves h)
+    ∙ leave_at xs m before enters leaves h (length before - 1) (omega arith)
+
+pub can_move : (limit bound : ℕ) (xs : List ℤ) (m : ℕ) (before : List ℕ) (enters leaves : List ℤ)
+    → ArePassed xs m before enters leaves
+    → ((p q : ℕ) → p < length xs → q < length xs → square_at xs p q ≤ bound) → m * bound + bound < limit
+    → CanMove limit before enters leaves
+can_move limit bound xs m before enters leaves h each small = record {
+  enter = enter_long xs m before enters leaves h;
+  leave = leave_long xs m before enters leaves h;
+  steps = λ i lt. steps_can limit bound xs m i (length before - 1) _ _ _ _ _ h.least (omega (arith, lt, h.long))
+      (omega (arith, lt, h.long)) each small (h.sums i lt)
+      (enter_at xs m before enters leaves h i lt) (leave_at xs m before enters leaves h i lt)
+      (last_enter xs m before enters leaves h (omega (arith, lt)))
+      (last_leave xs m before enters leaves h (omega (arith, lt)));
+}
+
+-- the sums of the windows one place on
+pub moves_on : (xs : List ℤ) (m : ℕ) (before : List ℕ) (enters leaves : List ℤ) → ArePassed xs m before enters leaves
+    → (i : ℕ) → i < length before → moved before enters leaves i ≡ sum_at xs m (i + 1) (length before)
+moves_on xs m before enters leaves h i lt =
+    let last : length before - 1 + 1 ≡ length before = omega (arith, lt) in
+    subst (λ j. moved before enters leaves i ≡ sum_at xs m (i + 1) j) last
+    (steps_on xs m i (length before - 1) _ _ _ _ _ _ h.least (h.sums i lt)
+    (enter_at xs m before enters leaves h i lt) (leave_at xs m before enters leaves h i lt)
+    (last_enter xs m before enters leaves h (omega (arith, lt)))
+    (last_leave xs m before enters leaves h (omega (arith, lt))) refl)
+
+-- ---- signed numbers that are passed on
+
+pub next_passed : (sum : ℕ) (enters leaves last_enters last_leaves : ℤ) (r : ℕ) → FitsSigned w32 enters
+    → FitsSigned w32 leaves → FitsSigned w32 last_enters → FitsSigned w32 last_leaves
+    → r ≡ next_of sum (to_z w32 (of_z w32 enters)) (to_z w32 (of_z w32 leaves)) (to_z w32 (of_z w32 last_enters))
+    (to_z w32 (of_z w32 last_leaves))
+    → r ≡ next_of sum enters leaves last_enters last_leaves
+next_passed sum enters leaves last_enters last_leaves r f g h k e =
+    e ∙ ap (λ z. next_of sum z (to_z w32 (of_z w32 leaves)) (to_z w32 (of_z w32 last_enters))
+    (to_z w32 (of_z w32 last_leaves))) (to_z-of_z w32 enters f)
+    ∙ ap (λ z. next_of sum enters z (to_z w32 (of_z w32 last_enters)) (to_z w32 (of_z w32 last_leaves)))
+    (to_z-of_z w32 leaves g)
+    ∙ ap (λ z. next_of sum enters leaves z (to_z w32 (of_z w32 last_leaves))) (to_z-of_z w32 last_enters h)
+    ∙ ap (λ z. next_of sum enters leaves last_enters z) (to_z-of_z w32 last_leaves k)
+
+pub square_passed : (x y : ℤ) (square : ℕ) → FitsSigned w32 x → FitsSigned w32 y
+    → square ≡ square_gap (to_z w32 (of_z w32 x)) (to_z w32 (of_z w32 y)) → square ≡ square_gap x y
+square_passed x y square f g e =
+    e ∙ ap (λ z. square_gap z (to_z w32 (of_z w32 y))) (to_z-of_z w32 x f) ∙ ap (square_gap x) (to_z-of_z w32 y g)
+
+-- the row of the last window, by its first sum and those of the windows one place on
+pub row_whole : (xs : List ℤ) (m : ℕ) (before : List ℕ) (enters leaves : List ℤ) (new : List ℕ)
+    → ArePassed xs m before enters leaves → get_or new 0 0 ≡ sum_at xs m 0 (length before)
+    → ((i : ℕ) → i < length before → get_or new (i + 1) 0 ≡ moved before enters leaves i)
+    → (i : ℕ) → i < length before + 1 → get_or new i 0 ≡ sum_at xs m i (length before)
+row_whole xs m before enters leaves new h first next zero lt = first
+row_whole xs m before enters leaves new h first next (suc i) lt =
+    let one : i + 1 ≡ suc i = omega arith in
+    subst (λ k. get_or new k 0 ≡ sum_at xs m k (length before)) one
+    (next i (omega arith) ∙ moves_on xs m before enters leaves h i (omega arith))

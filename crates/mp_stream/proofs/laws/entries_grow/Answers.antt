@@ -1,0 +1,5 @@
+use Rattle.mp_stream.proofs.Entries as proved
+use Rattle.mp_stream.proofs.laws.entries_grow.Goals as goal
+
+pub returns : goal.returns
+returns c = proved.entries_grow

@@ -1,0 +1,13 @@
+-- From which number up to which some numbers reach.
+use Rattle.std.specs.Prelude.{ℕ, ◌<◌, List, length, slice_index_or, ℤ, pos, ◌≤ℤ◌}
+use Rattle.mp_stream.specs.declared.ranges.Range.{Range}
+
+-- the numbers lie between the ends of a range
+abbrev pub AreWithin : Range → List ℤ → Type 0
+AreWithin range numbers =
+    (k : ℕ) → k < length numbers
+    → (range.low ≤ℤ slice_index_or numbers k (pos 0)) × (slice_index_or numbers k (pos 0) ≤ℤ range.high)
+
+-- one range reaches as far as another on both sides
+abbrev pub Reaches : Range → Range → Type 0
+Reaches wide narrow = (wide.low ≤ℤ narrow.low) × (narrow.high ≤ℤ wide.high)

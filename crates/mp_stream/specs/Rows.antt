@@ -1,0 +1,81 @@
+-- The distances of one window to all windows, in which a missing sample counts as 0, and what they make of a profile.
+use Rattle.std.specs.Prelude.{◌≡◌, ℕ, zero, suc, ◌+◌, ◌-◌, ◌<◌, ◌≤◌, Bool, false, if◌then◌else◌, List, length}
+use Rattle.std.specs.Prelude.{slice_index}
+use Rattle.std.specs.Prelude.{slice_index_or, ℤ, pos, Option, Some, None}
+use Rattle.mp_nums.specs.declared.nearest.Near.{Near}
+use Rattle.mp_nums.specs.Near.{nearer_of}
+use Rattle.mp_defs.specs.Distance.{square_gap}
+use Rattle.mp_defs.specs.Least.{near_at}
+use Rattle.mp_partial.specs.Values.{Column, offered}
+
+-- ---- sums
+
+-- the squared difference of the numbers at two places
+abbrev pub square_at : List ℤ → ℕ → ℕ → ℕ
+square_at xs i j = square_gap (slice_index_or xs i (pos 0)) (slice_index_or xs j (pos 0))
+
+-- the sum of the squared differences of the m numbers from i and those from j on
+unfoldable pub sum_at : List ℤ → ℕ → ℕ → ℕ → ℕ
+sum_at xs zero i j = 0
+sum_at xs (suc m) i j = sum_at xs m i j + square_at xs (i + m) (j + m)
+
+-- the sum of the squared differences of two lists, over their first m places
+unfoldable pub sum_between : List ℤ → List ℤ → ℕ → ℕ
+sum_between xs ys zero = 0
+sum_between xs ys (suc m) = sum_between xs ys m + square_gap (slice_index_or xs m (pos 0)) (slice_index_or ys m (pos 0))
+
+-- the sums of the first windows with window j
+abbrev pub IsRow : List ℤ → ℕ → ℕ → List ℕ → Type 0
+IsRow xs m j sums = (i : ℕ) → i < length sums → slice_index sums i ≡ sum_at xs m i j
+
+-- ---- one place on
+
+-- the sum of two windows one place on: with two numbers that enter, and without two that leave
+abbrev pub next_of : ℕ → ℤ → ℤ → ℤ → ℤ → ℕ
+next_of sum enters leaves last_enters last_leaves =
+    sum + square_gap last_enters enters - square_gap last_leaves leaves
+
+-- it can be computed below a limit
+pub record CanStep (limit sum : ℕ) (enters leaves last_enters last_leaves : ℤ) : Type 0 where
+  pub leaves_sum : square_gap last_leaves leaves ≤ sum
+  pub fits : sum + square_gap last_enters enters < limit
+
+abbrev pub last_of : List ℤ → ℤ
+last_of xs = slice_index_or xs (length xs - 1) (pos 0)
+
+-- the sum with the window one place behind i, from the sums of the windows before, the numbers that enter their
+-- windows and those that leave them. The last of these are those of the last window
+abbrev pub moved : List ℕ → List ℤ → List ℤ → ℕ → ℕ
+moved before enters leaves i =
+    next_of (slice_index before i) (slice_index_or enters i (pos 0)) (slice_index_or leaves i (pos 0))
+    (last_of enters) (last_of leaves)
+
+-- all of them can be computed below a limit
+pub record CanMove (limit : ℕ) (before : List ℕ) (enters leaves : List ℤ) : Type 0 where
+  pub enter : length enters ≡ length before
+  pub leave : length leaves ≡ length before
+  pub steps : (i : ℕ) → i < length before → CanStep limit (slice_index before i) (slice_index_or enters i (pos 0))
+      (slice_index_or leaves i (pos 0)) (last_of enters) (last_of leaves)
+
+-- ---- offers
+
+-- window i, where it is free, at its distance
+abbrev pub row_candidate : List Bool → (ℕ → ℕ) → ℕ → Option Near
+row_candidate free dist i = if slice_index_or free i false then Some (near_at i (dist i)) else None
+
+-- what window j makes of the nearest window to the right of window i
+abbrev pub lowered : List Bool → (ℕ → ℕ) → ℕ → ℕ → Option Near → Option Near
+lowered free dist j i old = if slice_index_or free i false then nearer_of old (Some (near_at j (dist i))) else old
+
+-- window j was offered to the free windows from first on and before end, on the right
+pub record IsTaken (free : List Bool) (dist : ℕ → ℕ) (j first end : ℕ) (old new : List (Option Near)) : Type 0 where
+  pub places : length new ≡ length old
+  pub within : (i : ℕ) → first ≤ i → i < end
+      → slice_index_or new i None ≡ lowered free dist j i (slice_index_or old i None)
+  pub before : (i : ℕ) → i < first → slice_index_or new i None ≡ slice_index_or old i None
+  pub behind : (i : ℕ) → end ≤ i → slice_index_or new i None ≡ slice_index_or old i None
+
+-- a column to which the nearest window of window i was offered, where there is one
+abbrev pub with_best : Column → ℕ → Option Near → Column
+with_best column i None = column
+with_best column i (Some best) = offered column i best

@@ -1,0 +1,19 @@
+//! A matrix profile that grows with its series, one sample at a time.
+//!
+//! Beside the profile stands a row: the distances of the last window to all windows. One sample more moves each pair of
+//! windows one place on, and so each distance loses one square and gains one. This is the step of STUMPY's `aampi`,
+//! in whole numbers.
+#![tactic(auto)]
+
+mod kept;
+mod laws;
+mod offers;
+mod ranges;
+mod rows;
+mod streams;
+mod sums;
+#[cfg(test)]
+mod tests;
+
+pub use laws::entries_grow;
+pub use streams::{AppendRefusal, Stream};

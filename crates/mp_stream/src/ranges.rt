@@ -1,0 +1,53 @@
+//! From which number up to which the numbers of a series reach.
+
+ghost use Rattle.std.specs.Prelude.{◌≤ℤ◌};
+ghost use Rattle.mp_stream.specs.Ranges.{AreWithin, Reaches};
+
+/// From which number up to which some numbers reach.
+#[derive(Clone, Copy, Debug)]
+pub(crate) struct Range {
+    pub(crate) low: i32,
+    pub(crate) high: i32,
+}
+
+impl Range {
+    /// The range with this number in it.
+    #[inline]
+    pub(crate) fn around(self, number: i32) -> Range
+        ensures low { result.low ≤ℤ number }
+        ensures high { number ≤ℤ result.high }
+        ensures wider { Reaches result self }
+    {
+        Range {
+            low: self.low.min(number),
+            high: self.high.max(number),
+        }
+    }
+}
+
+/// The range with these numbers in it.
+fn widened(range: Range, numbers: &[i32]) -> Range
+    ensures { AreWithin result numbers.now }
+{
+    let mut wide = range;
+    for number in numbers {
+        wide = wide.around(*number);
+    }
+    wide
+}
+
+/// The range of the numbers.
+pub(crate) fn range_of(numbers: &[i32]) -> Range
+    ensures { AreWithin result numbers.now }
+{
+    match numbers.first() {
+        Some(first) => widened(
+            Range {
+                low: *first,
+                high: *first,
+            },
+            numbers,
+        ),
+        None => Range { low: 0, high: 0 },
+    }
+}
