@@ -8,7 +8,7 @@ use Rattle.mp_defs.specs.Profile.{windows_of}
 use Rattle.mp_defs.specs.SeriesLaws.{series_are_of_samples}
 use Rattle.mp_tiles.specs.declared.cuts.Tile.{Tile}
 use Rattle.mp_tiles.specs.Pairs.{has_pair, only}
-use Rattle.mp_tiles.specs.Scanning.{on_diagonals, in_block}
+use Rattle.mp_tiles.specs.Scanning.{in_block, in_columns}
 use Rattle.mp_tiles.specs.Offering.{IsOffering}
 
 pub windows_are : (samples : List Sample) (count rest : ℕ) → count + rest ≡ length samples
@@ -43,65 +43,52 @@ pub no_diagonals : (first end top bottom i j : ℕ) → end ≤ first → in_blo
 no_diagonals first end top bottom i j le = grind (arith, nat_tests)
 
 -- a diagonal has the rows that there are
-pub one_diagonal : (first d next here behind top bottom end wa wb i j : ℕ) → first ≤ d → next ≡ d + 1 → here ≡ d
-    → behind ≡ d + 1 → end ≡ min (min bottom wa) (wb - d) → i < wa → j < wb
+pub one_diagonal : (first d next here behind top bottom end wb i j : ℕ) → first ≤ d → next ≡ d + 1 → here ≡ d
+    → behind ≡ d + 1 → end ≡ min bottom (wb - d) → j < wb
     → (in_block first d top bottom i j || in_block here behind top end i j) ≡ in_block first next top bottom i j
-one_diagonal first d next here behind top bottom end wa wb i j le n h b e lt lt' = grind (arith, nat_tests)
+one_diagonal first d next here behind top bottom end wb i j le n h b e lt = grind (arith, nat_tests)
 
 -- and the others have none in the block
 pub all_diagonals : (first d end top bottom w i j : ℕ) → d ≡ min end (w - top) → j < w
     → in_block first d top bottom i j ≡ in_block first end top bottom i j
 all_diagonals first d end top bottom w i j e lt = grind (arith, nat_tests)
 
--- ---- a strip, block by block
+-- ---- diagonals, as far as there are columns
 
-pub one_block : (first end stop middle bottom next i j : ℕ) → stop ≡ end → middle ≤ bottom → next ≡ bottom
-    → (in_block first end 0 middle i j || in_block first stop middle bottom i j) ≡ in_block first end 0 next i j
-one_block first end stop middle bottom next i j s le e = grind (arith, nat_tests)
-
-pub all_blocks : (first end stop bottom wa wb i j : ℕ) → stop ≡ end → min wa (wb - first) ≤ bottom → i < wa → j < wb
-    → in_block first stop 0 bottom i j ≡ on_diagonals first end i j
-all_blocks first end stop bottom wa wb i j s le lt lt' = grind (arith, nat_tests)
-
--- ---- diagonals, strip by strip
-
-pub no_strips : (first end i j : ℕ) → end ≤ first → on_diagonals first end i j ≡ false
-no_strips first end i j le = grind (arith, nat_tests)
-
-pub one_strip : (first middle start stop end next i j : ℕ) → first ≤ middle → middle ≤ end → start ≡ middle
-    → stop ≡ end → next ≡ end
-    → (on_diagonals first middle i j || on_diagonals start stop i j) ≡ on_diagonals first next i j
-one_strip first middle start stop end next i j le le' s t e = grind (arith, nat_tests)
+-- those that start behind the last column have no pair
+pub columns_cut : (first end stop top bottom wb i j : ℕ) → stop ≡ min end (wb - top) → j < wb
+    → in_block first stop top bottom i j ≡ in_block first end top bottom i j
+columns_cut first end stop top bottom wb i j e lt = grind (arith, nat_tests)
 
 -- ---- a tile
 
-pub own_pairs : (tile : Tile) (end i j : ℕ) → end ≡ tile.last + 1
-    → on_diagonals tile.first end i j ≡ has_pair 0 tile i j
-own_pairs tile end i j e = grind (arith, nat_tests)
+pub own_pairs : (tile : Tile) (end bottom i j : ℕ) → end ≡ tile.last + 1 → bottom ≡ tile.last_row + 1
+    → in_block tile.first end tile.first_row bottom i j ≡ has_pair 0 tile i j
+own_pairs tile end bottom i j e f = grind (arith, nat_tests)
 
 -- the windows of b that start earlier, and those that start later
-pub both_sides : (tile : Tile) (origin before behind from to i j : ℕ) → tile.first ≤ tile.last
+pub both_sides : (tile : Tile) (origin before behind from to bottom i j : ℕ) → tile.first ≤ tile.last
     → before + min (tile.last + 1) origin ≡ origin + 1 → behind + min tile.first origin ≡ origin + 1
-    → from ≡ tile.first - origin → to ≡ tile.last + 1 - origin
-    → (on_diagonals before behind j i || on_diagonals from to i j) ≡ has_pair origin tile i j
-both_sides tile origin before behind from to i j le e f g h = grind (arith, nat_tests)
+    → from ≡ tile.first - origin → to ≡ tile.last + 1 - origin → bottom ≡ tile.last_row + 1
+    → (in_columns before behind tile.first_row bottom j i || in_block from to tile.first_row bottom i j)
+    ≡ has_pair origin tile i j
+both_sides tile origin before behind from to bottom i j le e f g h b = grind (arith, nat_tests)
 
 -- ---- the places of a block
 
 -- how many rows a diagonal has in a block
-pub rows_here : (row first t wa wb sums rows columns : ℕ) → row < wa → row + first < wb
-    → rows ≡ min (min (wa - row) (wb - (row + first))) 256 → columns ≡ min (wb - (row + first)) (rows + sums - 1)
-    → t < min columns sums → row + min rows (columns - t) ≡ min (min (row + 256) wa) (wb - (first + t))
-rows_here row first t wa wb sums rows columns lt lt' r c here = omega arith
+pub rows_here : (row first t n wb sums columns : ℕ) → row + first + n ≤ wb
+    → columns ≡ min (wb - (row + first)) (n + sums - 1) → t < min columns sums
+    → row + min n (columns - t) ≡ min (row + n) (wb - (first + t))
+rows_here row first t n wb sums columns le e here = omega arith
 
 -- a diagonal that goes on behind the block has all rows in it
-pub rows_full : (row first t wa wb sums rows columns : ℕ) → row + 256 < wa → row + 256 + first + t < wb
-    → rows ≡ min (min (wa - row) (wb - (row + first))) 256 → columns ≡ min (wb - (row + first)) (rows + sums - 1)
-    → t < min columns sums → min rows (columns - t) ≡ 256
-rows_full row first t wa wb sums rows columns lt lt' r c here = omega arith
+pub rows_full : (row first t n wb sums columns : ℕ) → row + n + first + t < wb
+    → columns ≡ min (wb - (row + first)) (n + sums - 1) → t < min columns sums → min n (columns - t) ≡ n
+rows_full row first t n wb sums columns lt e here = omega arith
 
 -- past the last diagonal of the block none is left
-pub none_left : (row first wa wb sums rows columns t : ℕ) → row < wa → row + first < wb
-    → rows ≡ min (min (wa - row) (wb - (row + first))) 256 → columns ≡ min (wb - (row + first)) (rows + sums - 1)
-    → t ≡ min columns sums → first + t ≡ min (first + sums) (wb - row)
-none_left row first wa wb sums rows columns t lt lt' r c e = omega arith
+pub none_left : (row first n wb sums columns t : ℕ) → 1 ≤ n → row + first + n ≤ wb
+    → columns ≡ min (wb - (row + first)) (n + sums - 1) → t ≡ min columns sums
+    → first + t ≡ min (first + sums) (wb - row)
+none_left row first n wb sums columns t some le c e = omega arith

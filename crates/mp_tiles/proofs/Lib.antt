@@ -1,8 +1,10 @@
 pub mod TileLemmas
+pub mod CutLemmas
 pub mod PairLemmas
 pub mod SumLemmas
 pub mod PlainLemmas
 pub mod BlockLemmas
+pub mod ColumnLemmas
 pub mod LaneLemmas
 pub mod LevelLemmas
 pub mod BlockSums

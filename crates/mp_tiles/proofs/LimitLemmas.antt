@@ -424,6 +424,10 @@ pub diagonals_next : (first u l next top bottom i j : ℕ) → first ≤ u → u
     → (in_block first u top bottom i j || in_block u l top bottom i j) ≡ in_block first next top bottom i j
 diagonals_next first u l next top bottom i j le le' e = grind (arith, nat_tests)
 
+pub diagonals_done : (first end start top bottom i j : ℕ) → end ≤ start → (start ≤ end) ⊎ (start ≡ first)
+    → in_block first start top bottom i j ≡ in_block first end top bottom i j
+diagonals_done first end start top bottom i j le order = grind (arith, nat_tests)
+
 pub no_strips : (d width top bottom i j : ℕ) → in_block d (d + min 0 width) top bottom i j ≡ false
 no_strips d width top bottom i j = grind (arith, nat_tests)
 

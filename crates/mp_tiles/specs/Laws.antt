@@ -1,5 +1,5 @@
 -- What tiles give together.
-use Rattle.std.specs.Prelude.{◌≡◌, ℕ, ◌-◌, ◌<◌, List, [], ◌∷◌, length, slice_index_or, Bool, ◌&&◌, nat_lt}
+use Rattle.std.specs.Prelude.{◌≡◌, ℕ, ◌+◌, ◌-◌, ◌<◌, List, [], ◌∷◌, length, slice_index_or, Bool, ◌&&◌, nat_lt}
 use Rattle.std.specs.Prelude.{count_by, if◌then◌else◌}
 use Rattle.mp_defs.specs.Series.{Series}
 use Rattle.mp_defs.specs.Window.{excl}
@@ -18,7 +18,7 @@ HoldEachOnce may w tiles = (i j : ℕ) → j < w
 
 -- what stands for a tile past the last one
 abbrev pub no_tile : Tile
-no_tile = record { first = 0; last = 0 }
+no_tile = record { first = 0; last = 0; first_row = 0; last_row = 0 }
 
 -- the value of a tile: the profile of its pairs
 abbrev pub tile_value : ℕ → Series → List Tile → ℕ → Value
@@ -63,3 +63,12 @@ pub record TilesMakeTheJoin : Type 0 where
   -- and so of the cut of all pairs, however wide its tiles are
   pub both : (m width : ℕ) (a b : Series) → 0 < width
       → join_tiles_value m a b (both_tiles (windows_of m a) (windows_of m b) width) ≡ ab_join m a b ∷ []
+
+-- ---- the cuts
+
+-- each pair that is cut is a pair of exactly one of the tiles, and no other pair of any
+pub record CutsHoldEachPairOnce : Type 0 where
+  -- of w windows, those that lie further apart than the exclusion zone
+  pub own : (w excl width : ℕ) → 0 < width → HoldEachOnce (λ i j. nat_lt (i + excl) j) w (own_tiles w excl width)
+  -- of two series, all
+  pub both : (wa wb width : ℕ) → 0 < width → HoldEveryPairOnce wa wb (both_tiles wa wb width)

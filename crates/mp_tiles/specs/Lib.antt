@@ -15,3 +15,4 @@ pub mod OfferingLaws
 pub mod LimitLaws
 pub mod Laws
 pub mod Pieces
+pub mod Examples

@@ -30,7 +30,7 @@ pub record IsOwnTiling (samples : List Sample) (m : ℕ) (tiles : List Tile) : T
   pub shortest : MIN_WINDOW ≤ m
   pub longest : m ≤ MAX_WINDOW
   pub few : length samples ≤ MAX_SAMPLES
-  pub each : All (IsTileBetween (excl m + 1) (windows (length samples) m)) tiles
+  pub each : All (IsTileBetween (excl m + 1) (windows (length samples) m) (windows (length samples) m)) tiles
 
 -- the number of windows
 abbrev pub own_size : OwnTiling → ℕ
@@ -59,7 +59,8 @@ pub record IsJoinTiling (a b : List Sample) (m : ℕ) (tiles : List Tile) : Type
   pub longest : m ≤ MAX_WINDOW
   pub first : length a ≤ MAX_SAMPLES
   pub second : length b ≤ MAX_SAMPLES
-  pub each : All (IsTileBetween 0 (diagonals_between (windows (length a) m) (windows (length b) m))) tiles
+  pub each : All (IsTileBetween 0 (diagonals_between (windows (length a) m) (windows (length b) m))
+      (windows (length a) m)) tiles
 
 -- the number of windows of a
 abbrev pub join_size : JoinTiling → ℕ

@@ -1,5 +1,5 @@
 -- What a scan makes of what keeps the nearest windows.
-use Rattle.std.specs.Prelude.{◌≡◌, ℕ, ◌+◌, Bool, ◌&&◌, nat_le, nat_lt, length, slice_index_or, slice_set}
+use Rattle.std.specs.Prelude.{◌≡◌, ℕ, ◌+◌, Bool, ◌&&◌, ◌||◌, nat_le, nat_lt, length, slice_index_or, slice_set}
 use Rattle.std.specs.Prelude.{Option, None}
 use Rattle.mp_nums.specs.declared.nearest.Near.{Near}
 use Rattle.mp_nums.specs.Near.{nearer_of}
@@ -18,6 +18,16 @@ on_diagonals first end row column = nat_le (row + first) column && nat_lt column
 abbrev pub in_block : ℕ → ℕ → ℕ → ℕ → ℕ → ℕ → Bool
 in_block first end top bottom row column =
     on_diagonals first end row column && (nat_le top row && nat_lt row bottom)
+
+-- the column starts so far behind its row, and is from left on and before right
+abbrev pub in_columns : ℕ → ℕ → ℕ → ℕ → ℕ → ℕ → Bool
+in_columns first end left right row column =
+    on_diagonals first end row column && (nat_le left column && nat_lt column right)
+
+-- and the row isn't one of those from top on and before bottom
+abbrev pub in_ends : ℕ → ℕ → ℕ → ℕ → ℕ → ℕ → ℕ → ℕ → Bool
+in_ends first end left right top bottom row column =
+    in_columns first end left right row column && (nat_lt row top || nat_le bottom row)
 
 -- the profile has so many windows
 pub record HasPlaces (w : ℕ) (p : Profiled) : Type 0 where

@@ -1,9 +1,11 @@
 //! Tiles, and how pairs of windows are cut into them.
 
-ghost use Rattle.std.specs.Prelude.{◌≡◌, ℕ, ◌+◌, ◌-◌, ◌<◌, ◌≤◌, All, count_by, nat_lt, if◌then◌else◌, length};
+ghost use Rattle.std.specs.Prelude.{◌≡◌, ℕ, ◌+◌, ◌-◌, ◌*◌, ◌<◌, ◌≤◌, All, count_by, nat_lt, if◌then◌else◌, length, map};
 ghost use Rattle.std.specs.Prelude.{slice_get, Some};
+ghost use Rattle.std.specs.List.{range_with_len};
 ghost use Rattle.mp_tiles.specs.Pairs.{has_pair, IsTileBetween};
 ghost use Rattle.mp_tiles.specs.Cutting.{own_tiles, both_tiles, diagonals_between};
+ghost use Rattle.mp_tiles.specs.Cutting.{bands_of, tile_at, tiles_in, IsRegion};
 
 use mp_series::MAX_SAMPLES;
 use std::marker::Model;
@@ -11,70 +13,108 @@ use std::marker::Model;
 /// The most diagonals in a tile.
 pub const MAX_TILE: u32 = 65_536;
 
-/// Successive diagonals, from the first to the last. In a series, diagonal `d` holds the pairs of the windows that
-/// start at `i` and at `i + d`. From one series with `w` windows to another, it holds the pairs of the windows that
-/// start at `i` in the one and at `i + d - (w - 1)` in the other.
+/// The most rows in a tile, and how many a band has.
+pub const MAX_ROWS: u64 = 65_536;
+
+/// The most tiles in a cut.
+pub const MAX_TILES: u64 = 2_097_152;
+
+/// Some rows of successive diagonals: those from the first to the last of each. The row of a pair is its first window.
+///
+/// In a series, diagonal `d` holds the pairs of the windows that start at `i` and at `i + d`. From one series with `w`
+/// windows to another, it holds the pairs of the windows that start at `i` in the one and at `i + d - (w - 1)` in the
+/// other. In both cases `i` is the row.
 #[derive(Clone, Copy, Debug, PartialEq, Eq)]
 pub struct Tile {
     pub first: u64,
     pub last: u64,
+    pub first_row: u64,
+    pub last_row: u64,
 }
 
-/// Tiles, in rising order of their diagonals.
+/// Tiles, band by band of rows, and in a band in rising order of their diagonals.
 #[derive(Debug, Drop)]
 pub struct Cut {
+    region: Region,
+}
+
+/// The pairs that are cut: those on the diagonals from `first` on and before `end` whose rows come before `rows`.
+/// Windows that start equally far lie on the diagonal `origin`. A group has `width` diagonals, and the last one may have
+/// fewer.
+#[derive(Clone, Copy, Debug)]
+struct Region {
     first: u64,
     end: u64,
+    origin: u64,
+    rows: u64,
     width: u64,
 }
 
+/// Successive groups of diagonals.
+#[derive(Clone, Copy)]
+struct Groups {
+    first: u64,
+    count: u64,
+}
+
 impl Model for Cut {
-    ghost use Rattle.std.specs.Prelude.{◌<◌, ◌≤◌, List};
+    ghost use Rattle.std.specs.Prelude.{List};
     ghost use Rattle.mp_tiles.specs.declared.cuts.Tile.{Tile};
-    ghost use Rattle.mp_tiles.specs.Cutting.{tiles_between, IsCut};
+    ghost use Rattle.mp_tiles.specs.Cutting.{tiles_of, IsRegion};
 
     ghost Value = { List Tile };
 
-    ghost view = { λ cut. tiles_between cut.first cut.end cut.width };
+    ghost view = { λ cut. tiles_of cut.region };
 
-    ghost invariant = { λ cut. IsCut cut.first cut.end cut.width };
+    ghost invariant = { λ cut. IsRegion cut.region };
 }
 
 /// Cuts the pairs of the `w` windows of a series that start further apart than `excl`: their diagonals, counted from
-/// the first one, in groups of `tile`, of which the last may have fewer.
+/// the first one, in groups of `tile`, of which the last may have fewer, and the rows of each group at the multiples of
+/// `MAX_ROWS`.
 pub fn cut_own(w: u64, excl: u64, tile: u32) -> Cut
     requires windows { w ≤ MAX_SAMPLES }
     requires least { 1 ≤ tile }
     requires greatest { tile ≤ MAX_TILE }
     ensures tiles { result ≡ own_tiles w excl tile }
-    ensures each { All (IsTileBetween (excl + 1) w) result }
+    ensures each { All (IsTileBetween (excl + 1) w w) result }
     ensures pairs { (i j : ℕ) → j < w
         → count_by (λ t. has_pair 0 t i j) result ≡ (if nat_lt (i + excl) j then 1 else 0) }
+    ensures few { length result ≤ MAX_TILES }
 {
-    let first = excl.saturating_add(1);
     Cut {
-        first,
-        end: w.max(first),
-        width: u64::from(tile),
+        region: Region {
+            first: excl.saturating_add(1),
+            end: w,
+            origin: 0,
+            rows: w,
+            width: u64::from(tile),
+        },
     }
 }
 
 /// Cuts all pairs of the `wa` windows of one series and the `wb` windows of another: their diagonals, from the one
 /// with the last window of the first series and the first window of the second on, in groups of `tile`, of which the
-/// last may have fewer.
+/// last may have fewer, and the rows of each group, which are windows of the first series, at the multiples of
+/// `MAX_ROWS`.
 pub fn cut_both(wa: u64, wb: u64, tile: u32) -> Cut
     requires first { wa ≤ MAX_SAMPLES }
     requires second { wb ≤ MAX_SAMPLES }
     requires least { 1 ≤ tile }
     requires greatest { tile ≤ MAX_TILE }
     ensures tiles { result ≡ both_tiles wa wb tile }
-    ensures each { All (IsTileBetween 0 (diagonals_between wa wb)) result }
+    ensures each { All (IsTileBetween 0 (diagonals_between wa wb) wa) result }
     ensures pairs { (i j : ℕ) → i < wa → j < wb → count_by (λ t. has_pair (wa - 1) t i j) result ≡ 1 }
+    ensures few { length result ≤ MAX_TILES }
 {
     Cut {
-        first: 0,
-        end: diagonals(wa, wb),
-        width: u64::from(tile),
+        region: Region {
+            first: 0,
+            end: diagonals(wa, wb),
+            origin: wa.saturating_sub(1),
+            rows: wa,
+            width: u64::from(tile),
+        },
     }
 }
 
@@ -87,12 +127,65 @@ fn diagonals(wa: u64, wb: u64) -> u64
     if wa == 0 || wb == 0 { 0 } else { wa + wb - 1 }
 }
 
+impl Region {
+    /// The number of bands.
+    fn bands(&self) -> u64
+        ensures { result ≡ bands_of self.now }
+    {
+        self.rows.div_ceil(MAX_ROWS)
+    }
+
+    /// The groups that have rows in a band. They follow each other, since the rows of a diagonal and of the next one
+    /// overlap or touch.
+    fn groups_in(&self, band: u64) -> Groups
+        requires region { IsRegion self.now }
+        requires band { band < bands_of self.now }
+        ensures tiles { tiles_in self.now band
+            ≡ map (tile_at self.now band) (range_with_len result.first result.count) }
+        ensures each { (k : ℕ) → k < result.count
+            → self.now.first + (result.first + k) * self.now.width < self.now.end }
+    {
+        let top = band * MAX_ROWS;
+        // the first of these diagonals have no row before the band's end, the last ones none behind its top
+        let first = (self.origin + 1).saturating_sub(top + MAX_ROWS);
+        let end = self.end.saturating_sub(top);
+        let from = first.saturating_sub(self.first) / self.width;
+        let to = end.saturating_sub(self.first).div_ceil(self.width);
+        Groups {
+            first: from,
+            count: to.saturating_sub(from),
+        }
+    }
+
+    /// What a group has in a band.
+    fn tile(&self, band: u64, group: u64) -> Tile
+        requires region { IsRegion self.now }
+        requires band { band < bands_of self.now }
+        requires group { self.now.first + group * self.now.width < self.now.end }
+        ensures { result ≡ tile_at self.now band group }
+    {
+        let first = self.first + group * self.width;
+        let last = (first + self.width).min(self.end) - 1;
+        let top = band * MAX_ROWS;
+        Tile {
+            first,
+            last,
+            first_row: self.origin.saturating_sub(last).max(top),
+            last_row: self.rows.min(self.end - first).min(top + MAX_ROWS) - 1,
+        }
+    }
+}
+
 impl Cut {
     /// The number of tiles.
     pub fn count(&self) -> u64
         ensures { result ≡ length self.now }
     {
-        (self.end - self.first).div_ceil(self.width)
+        let mut count = 0;
+        for band in 0..self.region.bands() {
+            count += self.region.groups_in(band).count;
+        }
+        count
     }
 
     /// Tile `k`, counted from 0.
@@ -100,10 +193,13 @@ impl Cut {
         requires { k < length self.now }
         ensures { slice_get self.now k ≡ Some result }
     {
-        let first = self.first + k * self.width;
-        Tile {
-            first,
-            last: (first + self.width).min(self.end) - 1,
+        let (mut band, mut place) = (0, k);
+        let mut groups = self.region.groups_in(band);
+        while groups.count <= place {
+            place -= groups.count;
+            band += 1;
+            groups = self.region.groups_in(band);
         }
+        self.region.tile(band, groups.first + place)
     }
 }

@@ -30,15 +30,16 @@ fn sample_square(x: Sample, y: Sample) -> u64
     square(number(x), number(y))
 }
 
-/// The sum of the squared differences of the first row and of a column, both without their last samples, where a
-/// missing sample counts as 0.
-pub(crate) fn first_sum(grid: &Grid, column: usize) -> u128
-    requires { column < grid.now.columns.count }
-    ensures { IsSumIn grid.now 0 column result }
+/// The sum of the squared differences of a row and of a column, both without their last samples, where a missing sample
+/// counts as 0.
+pub(crate) fn first_sum(grid: &Grid, row: usize, column: usize) -> u128
+    requires row { row ≤ grid.now.rows.count }
+    requires column { column ≤ grid.now.columns.count }
+    ensures { IsSumIn grid.now row column result }
 {
     let mut sum: u128 = 0;
     for k in 0..grid.rows.rest {
-        let square = sample_square(grid.rows.samples[k], grid.columns.samples[column + k]);
+        let square = sample_square(grid.rows.samples[row + k], grid.columns.samples[column + k]);
         sum += u128::from(square);
     }
     sum

@@ -22,7 +22,7 @@ use std::simd::prelude::*;
 pub(crate) const LANES: usize = 16;
 
 /// The most diagonals in a group.
-const GROUP: usize = 256;
+pub(crate) const GROUP: usize = 256;
 
 /// The most rows in a block. What its rows and columns are compared with stays in a small cache.
 const ROWS: usize = 1_024;

@@ -5,7 +5,7 @@ ghost use Rattle.mp_series.specs.declared.limits.TheConstants.{MAX_SAMPLES, MAX_
 ghost use Rattle.mp_defs.specs.Series.{series_of};
 ghost use Rattle.mp_defs.specs.Profile.{ab_join};
 
-use crate::cuts::{Cut, MAX_TILE, cut_both};
+use crate::cuts::{Cut, MAX_TILE, MAX_TILES, cut_both};
 use crate::scans::scan_both;
 use mp_nums::{Memory, Sample, Slots};
 use mp_partial::{Kernel, run_in_order};
@@ -51,6 +51,7 @@ impl<'a> JoinTiles<'a> {
         ensures b { result.b ≡ b.now }
         ensures m { result.m ≡ m }
         ensures tiles { result.tiles ≡ both_tiles (windows_in (length a.now) m) (windows_in (length b.now) m) tile }
+        ensures few { length result.tiles ≤ MAX_TILES }
         ensures together { join_together result ≡ ab_join m (series_of a.now) (series_of b.now) ∷ [] }
     {
         let (first, second) = (windows(a.len() as u64, m), windows(b.len() as u64, m));

@@ -5,7 +5,7 @@ ghost use Rattle.mp_series.specs.declared.limits.TheConstants.{MAX_SAMPLES, MAX_
 ghost use Rattle.mp_defs.specs.Series.{series_of};
 ghost use Rattle.mp_defs.specs.Profile.{matrix_profile};
 
-use crate::cuts::{Cut, MAX_TILE, cut_own};
+use crate::cuts::{Cut, MAX_TILE, MAX_TILES, cut_own};
 use crate::scans::scan_own;
 use mp_nums::{Memory, Sample};
 use mp_partial::{Kernel, Profile, run_in_order};
@@ -47,6 +47,7 @@ impl<'a> OwnTiles<'a> {
         ensures samples { result.samples ≡ samples.now }
         ensures m { result.m ≡ m }
         ensures tiles { result.tiles ≡ own_tiles (windows_in (length samples.now) m) (zone m) tile }
+        ensures few { length result.tiles ≤ MAX_TILES }
         ensures together { own_together result ≡ columns_value (matrix_profile m (series_of samples.now)) }
     {
         let count = windows(samples.len() as u64, m);

@@ -3,8 +3,10 @@
 #![tactic(auto)]
 
 mod blocks;
+mod columns;
 mod cuts;
 mod diagonals;
+mod examples;
 mod groups;
 mod joins;
 mod kernels;
@@ -20,8 +22,9 @@ mod tests;
 mod vectors;
 mod windows;
 
-pub use cuts::{Cut, MAX_TILE, Tile, cut_both, cut_own};
+pub use cuts::{Cut, MAX_ROWS, MAX_TILE, MAX_TILES, Tile, cut_both, cut_own};
+pub use examples::worked_cuts;
 pub use joins::{JoinTiles, join};
 pub use kernels::{OwnTiles, profile};
-pub use laws::{tiles_make_the_join, tiles_make_the_profile};
+pub use laws::{cuts_hold_each_pair_once, tiles_make_the_join, tiles_make_the_profile};
 pub use scans::{scan_both, scan_own};

@@ -12,6 +12,7 @@ ghost use Rattle.mp_tiles.specs.Plain.{ArePlain};
 ghost use Rattle.mp_tiles.specs.Grids.{row_series, column_series, window_length, AreSumsIn, AreGapsIn};
 ghost use Rattle.mp_tiles.specs.Scanning.{in_block, on_diagonals};
 
+use crate::columns::scan_columns;
 use crate::cuts::Tile;
 use crate::diagonals::{first_sum, scan_rows};
 use crate::groups::{LANES, scan_groups};
@@ -38,14 +39,15 @@ struct Gaps {
     column: u32,
 }
 
-/// The first sum of each diagonal from `first` on.
-fn start_sums(grid: &Grid, first: usize, sums: &mut [u128])
-    requires { first + length sums.old ≤ grid.now.columns.count }
-    ensures sums { AreSumsIn grid.now first 0 sums.new }
+/// The sum at a row of each diagonal from `first` on.
+fn start_sums(grid: &Grid, row: usize, first: usize, sums: &mut [u128])
+    requires row { row ≤ grid.now.rows.count }
+    requires columns { row + first + length sums.old ≤ grid.now.columns.count }
+    ensures sums { AreSumsIn grid.now first row sums.new }
     ensures places { length sums.new ≡ length sums.old }
 {
     for t in 0..sums.len() {
-        sums[t] = first_sum(grid, first + t);
+        sums[t] = first_sum(grid, row, row + first + t);
     }
 }
 
@@ -61,19 +63,18 @@ fn scan_diagonals<O: Offers>(
     into: &mut O::Into,
 )
     requires apart { O.least ≤ first }
-    requires some_row { row < grid.now.rows.count }
-    requires some_column { row + first < grid.now.columns.count }
+    requires some_rows { 1 ≤ length rows.now }
+    requires last_row { row + length rows.now ≤ grid.now.rows.count }
+    requires last_column { row + first + length rows.now ≤ grid.now.columns.count }
     requires rows { ArePlain grid.now.rows.rest row (row_series grid.now) rows.now }
     requires columns { ArePlain grid.now.rows.rest (row + first) (column_series grid.now) columns.now }
-    requires row_places { length rows.now
-        ≡ min (min (grid.now.rows.count - row) (grid.now.columns.count - (row + first))) ROWS }
-    requires column_places { length columns.now
+    requires places { length columns.now
         ≡ min (grid.now.columns.count - (row + first)) (length rows.now + length sums.old - 1) }
     requires sums { AreSumsIn grid.now first row sums.old }
     requires fits { O.fits (window_length grid.now) (row_series grid.now) (column_series grid.now) into.old }
     ensures scanned { O.is_scanned (window_length grid.now) (row_series grid.now) (column_series grid.now)
-        (in_block first (first + length sums.old) row (row + ROWS)) into.old into.new }
-    ensures sums { AreSumsIn grid.now first (row + ROWS) sums.new }
+        (in_block first (first + length sums.old) row (row + length rows.now)) into.old into.new }
+    ensures sums { AreSumsIn grid.now first (row + length rows.now) sums.new }
     ensures places { length sums.new ≡ length sums.old }
 {
     for t in 0..columns.len().min(sums.len()) {
@@ -83,35 +84,35 @@ fn scan_diagonals<O: Offers>(
     }
 }
 
-/// Offers the pairs of `ROWS` rows from `row` on, on each diagonal from `first` on that has a sum.
+/// Offers the pairs of `rows` rows from `row` on, on each diagonal from `first` on that has a sum.
 fn scan_block<O: Offers>(
     grid: &Grid,
     row: usize,
+    rows: usize,
     first: usize,
     gaps: &mut Gaps,
     sums: &mut [u128],
     into: &mut O::Into,
 )
     requires apart { O.least ≤ first }
-    requires some_row { row < grid.now.rows.count }
-    requires some_column { row + first < grid.now.columns.count }
+    requires some_rows { 1 ≤ rows }
+    requires few_rows { rows ≤ ROWS }
+    requires last_row { row + rows ≤ grid.now.rows.count }
+    requires last_column { row + first + rows ≤ grid.now.columns.count }
     requires some_sums { 1 ≤ length sums.old }
     requires few_sums { length sums.old ≤ STRIP }
     requires gaps { AreGapsIn grid.now row (row + first) gaps.old }
     requires sums { AreSumsIn grid.now first row sums.old }
     requires fits { O.fits (window_length grid.now) (row_series grid.now) (column_series grid.now) into.old }
     ensures scanned { O.is_scanned (window_length grid.now) (row_series grid.now) (column_series grid.now)
-        (in_block first (first + length sums.old) row (row + ROWS)) into.old into.new }
-    ensures gaps { row + ROWS < grid.now.rows.count → row + ROWS + first < grid.now.columns.count
-        → AreGapsIn grid.now (row + ROWS) (row + ROWS + first) gaps.new }
-    ensures sums { AreSumsIn grid.now first (row + ROWS) sums.new }
+        (in_block first (first + length sums.old) row (row + rows)) into.old into.new }
+    ensures gaps { AreGapsIn grid.now (row + rows) (row + first + rows) gaps.new }
+    ensures sums { AreSumsIn grid.now first (row + rows) sums.new }
     ensures places { length sums.new ≡ length sums.old }
 {
     let mut row_windows = [PlainWindow::NONE; ROWS];
     let mut column_windows = [PlainWindow::NONE; COLUMNS];
-    let left = grid.columns.count - (row + first);
-    let rows = (grid.rows.count - row).min(left).min(ROWS);
-    let columns = left.min(rows + sums.len() - 1);
+    let columns = (grid.columns.count - (row + first)).min(rows + sums.len() - 1);
     gaps.row = take_windows(&grid.rows, row, &mut row_windows, 0, rows, gaps.row);
     gaps.column = take_windows(
         &grid.columns,
@@ -133,63 +134,97 @@ fn scan_block<O: Offers>(
     scan_diagonals::<O>(grid, row, first, rows, columns, sums, into);
 }
 
-/// Offers the pairs of a strip: each diagonal from `first` on that has a place for a sum.
-fn scan_strip<O: Offers>(grid: &Grid, first: usize, sums: &mut [u128], into: &mut O::Into)
+/// Offers the pairs of the rows from `top` on and before `bottom` on each diagonal from `first` on that has a place for
+/// a sum.
+fn scan_strip<O: Offers>(
+    grid: &Grid,
+    first: usize,
+    top: usize,
+    bottom: usize,
+    sums: &mut [u128],
+    into: &mut O::Into,
+)
     requires apart { O.least ≤ first }
+    requires top { top ≤ bottom }
+    requires bottom { bottom ≤ grid.now.rows.count }
     requires some_sums { 1 ≤ length sums.old }
     requires few_sums { length sums.old ≤ STRIP }
-    requires within { first + length sums.old ≤ grid.now.columns.count }
+    requires within { top + first + length sums.old ≤ grid.now.columns.count }
     requires fits { O.fits (window_length grid.now) (row_series grid.now) (column_series grid.now) into.old }
     ensures scanned { O.is_scanned (window_length grid.now) (row_series grid.now) (column_series grid.now)
-        (on_diagonals first (first + length sums.old)) into.old into.new }
+        (in_block first (first + length sums.old) top bottom) into.old into.new }
     ensures places { length sums.new ≡ length sums.old }
 {
     let mut gaps = Gaps {
-        row: count_gaps(&grid.rows, 0),
-        column: count_gaps(&grid.columns, first),
+        row: count_gaps(&grid.rows, top),
+        column: count_gaps(&grid.columns, top + first),
     };
-    start_sums(grid, first, sums);
-    let rows = grid.rows.count.min(grid.columns.count - first);
-    for block in 0..rows.div_ceil(ROWS) {
-        scan_block::<O>(grid, block * ROWS, first, &mut gaps, sums, into);
+    start_sums(grid, top, first, sums);
+    let end = bottom.min(grid.columns.count - first);
+    let mut row = top;
+    while row < end {
+        let rows = (end - row).min(ROWS);
+        scan_block::<O>(grid, row, rows, first, &mut gaps, sums, into);
+        row += rows;
     }
 }
 
-/// Offers the pairs of each row and the columns that start from `first` on and before `end` behind it, by sums of 128
-/// bits, which hold every distance.
-fn scan_wide<O: Offers>(grid: &Grid, first: usize, end: usize, into: &mut O::Into)
+/// Offers the pairs of the rows from `top` on and before `bottom` and the columns that start from `first` on and before
+/// `end` behind them, by sums of 128 bits, which hold every distance.
+pub(crate) fn scan_wide<O: Offers>(
+    grid: &Grid,
+    first: usize,
+    end: usize,
+    top: usize,
+    bottom: usize,
+    into: &mut O::Into,
+)
     requires apart { O.least ≤ first }
-    requires ordered { first ≤ end }
-    requires within { end ≤ grid.now.columns.count }
+    requires top { top ≤ bottom }
+    requires bottom { bottom ≤ grid.now.rows.count }
+    requires within { first < end → top < bottom → top + end ≤ grid.now.columns.count }
     requires fits { O.fits (window_length grid.now) (row_series grid.now) (column_series grid.now) into.old }
     ensures scanned { O.is_scanned (window_length grid.now) (row_series grid.now) (column_series grid.now)
-        (on_diagonals first end) into.old into.new }
+        (in_block first end top bottom) into.old into.new }
 {
+    if top == bottom {
+        return;
+    }
     let mut sums = [0; STRIP];
-    for k in 0..(end - first).div_ceil(STRIP) {
-        let start = first + k * STRIP;
+    let mut start = first;
+    while start < end {
         let width = (end - start).min(STRIP);
-        scan_strip::<O>(grid, start, &mut sums[..width], into);
+        scan_strip::<O>(grid, start, top, bottom, &mut sums[..width], into);
+        start += width;
     }
 }
 
-/// Offers the pairs of each row and the columns that start from `first` on and before `end` behind it, by sums of 64
-/// bits where these hold every distance. Where there are fewer diagonals than run at once, they are not worth a block's
-/// windows.
-fn scan_offsets<O: Offers>(grid: &Grid, first: usize, end: usize, into: &mut O::Into)
+/// Offers the pairs of the rows from `top` on and before `bottom` and the columns that start from `first` on and before
+/// `end` behind them, by sums of 64 bits where these hold every distance. Where there are fewer diagonals than run at
+/// once, they are not worth a block's windows.
+pub(crate) fn scan_offsets<O: Offers>(
+    grid: &Grid,
+    first: usize,
+    end: usize,
+    top: usize,
+    bottom: usize,
+    into: &mut O::Into,
+)
     requires apart { O.least ≤ first }
-    requires ordered { first ≤ end }
-    requires within { end ≤ grid.now.columns.count }
+    requires top { top ≤ bottom }
+    requires bottom { bottom ≤ grid.now.rows.count }
     requires fits { O.fits (window_length grid.now) (row_series grid.now) (column_series grid.now) into.old }
     ensures scanned { O.is_scanned (window_length grid.now) (row_series grid.now) (column_series grid.now)
-        (on_diagonals first end) into.old into.new }
+        (in_block first end top bottom) into.old into.new }
 {
-    if end - first < LANES {
-        return scan_wide::<O>(grid, first, end, into);
+    // on the diagonals behind these every row from `top` on is past the last column
+    let end = end.min(grid.columns.count.saturating_sub(top));
+    if end.saturating_sub(first) < LANES {
+        return scan_wide::<O>(grid, first, end, top, bottom, into);
     }
     match find_scale(grid) {
-        Some(scale) => scan_groups::<O>(grid, &scale, first, end, 0, grid.rows.count, into),
-        None => scan_wide::<O>(grid, first, end, into),
+        Some(scale) => scan_groups::<O>(grid, &scale, first, end, top, bottom, into),
+        None => scan_wide::<O>(grid, first, end, top, bottom, into),
     }
 }
 
@@ -199,7 +234,8 @@ pub fn scan_own(samples: &[Sample], m: u32, tile: &Tile, into: &mut Profile)
     requires shortest { MIN_WINDOW ≤ m }
     requires longest { m ≤ MAX_WINDOW }
     requires samples { length samples.now ≤ MAX_SAMPLES }
-    requires tile { IsTileBetween (excl m + 1) (windows (length samples.now) m) tile.now }
+    requires tile { IsTileBetween (excl m + 1) (windows (length samples.now) m) (windows (length samples.now) m)
+        tile.now }
     requires places { length into.old.all ≡ windows (length samples.now) m }
     ensures all { into.new.all
         ≡ merged_column into.old.all (profile_among (has_pair 0 tile.now) m (series_of samples.now)).all }
@@ -220,7 +256,9 @@ pub fn scan_own(samples: &[Sample], m: u32, tile: &Tile, into: &mut Profile)
         rows: windows,
         columns: windows,
     };
-    scan_offsets::<EachToOther>(&grid, tile.first as usize, tile.last as usize + 1, into);
+    let (first, end) = (tile.first as usize, tile.last as usize + 1);
+    let (top, bottom) = (tile.first_row as usize, tile.last_row as usize + 1);
+    scan_offsets::<EachToOther>(&grid, first, end, top, bottom, into);
 }
 
 /// Merges what the tile's pairs give into the slots of the windows of `a`: of each pair, where no sample is missing,
@@ -231,7 +269,7 @@ pub fn scan_both(a: &[Sample], b: &[Sample], m: u32, tile: &Tile, into: &mut Slo
     requires first { length a.now ≤ MAX_SAMPLES }
     requires second { length b.now ≤ MAX_SAMPLES }
     requires tile { IsTileBetween 0 (diagonals_between (windows (length a.now) m) (windows (length b.now) m))
-        tile.now }
+        (windows (length a.now) m) tile.now }
     requires places { length into.old.items ≡ windows (length a.now) m }
     ensures items { into.new.items ≡ merged_column into.old.items
         (nearest_column (has_pair (windows (length a.now) m - 1) tile.now) m (series_of a.now) (series_of b.now)) }
@@ -240,17 +278,20 @@ pub fn scan_both(a: &[Sample], b: &[Sample], m: u32, tile: &Tile, into: &mut Slo
 {
     let rest = m as usize - 1;
     let (first, second) = (Windows::of(a, rest), Windows::of(b, rest));
-    // the diagonal of equal starts: on those before it the windows of `b` start earlier
+    // the diagonal of equal starts: on those before it the windows of `b` start earlier, and those of `a` are columns
     let origin = first.count - 1;
     let (start, end) = (tile.first as usize, tile.last as usize + 1);
+    let (top, bottom) = (tile.first_row as usize, tile.last_row as usize + 1);
     let earlier = Grid {
         rows: second,
         columns: first,
     };
-    scan_offsets::<RowToColumn>(
+    scan_columns::<RowToColumn>(
         &earlier,
         origin + 1 - end.min(origin),
         origin + 1 - start.min(origin),
+        top,
+        bottom,
         into,
     );
     let later = Grid {
@@ -261,6 +302,8 @@ pub fn scan_both(a: &[Sample], b: &[Sample], m: u32, tile: &Tile, into: &mut Slo
         &later,
         start.saturating_sub(origin),
         end.saturating_sub(origin),
+        top,
+        bottom,
         into,
     );
 }

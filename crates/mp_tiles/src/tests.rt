@@ -1,8 +1,13 @@
-ghost use Rattle.std.specs.Prelude.{◌≡◌, IfOk, vec_len};
+ghost use Rattle.std.specs.Prelude.{◌≡◌, ◌+◌, ◌≤◌, IfOk, length, vec_len};
+ghost use Rattle.mp_series.specs.declared.limits.TheConstants.{MAX_SAMPLES, MAX_WINDOW, MIN_WINDOW};
+ghost use Rattle.mp_defs.specs.Window.{windows as windows_in, excl as zone};
+ghost use Rattle.mp_tiles.specs.Cutting.{diagonals_between};
+ghost use Rattle.mp_tiles.specs.Pairs.{IsTileBetween};
 
-use crate::{Tile, cut_both, cut_own, join, profile};
+use crate::{MAX_TILE, Tile, cut_both, cut_own, join, profile, scan_both, scan_own};
 use mp_nums::{Memory, Near, Sample, Slot, Slots, Sq};
 use mp_partial::{Part, Profile};
+use mp_series::{excl, windows};
 use std::alloc::Global;
 use std::test::Fail;
 
@@ -183,17 +188,65 @@ fn units_and_growth(rt: HostRuntime) -> Result<(), Fail> {
     Ok(())
 }
 
+/// The tile of these diagonals and rows.
+fn tile(first: u64, last: u64, first_row: u64, last_row: u64) -> Tile {
+    Tile {
+        first,
+        last,
+        first_row,
+        last_row,
+    }
+}
+
 #[test]
 fn groups_of_three_diagonals(rt: HostRuntime) {
     let cut = cut_own(10, 1, 3);
     assert_eq!(rt; cut.count(), 3);
-    assert_eq!(rt; cut.tile(0), Tile { first: 2, last: 4 });
-    assert_eq!(rt; cut.tile(2), Tile { first: 8, last: 9 });
+    assert_eq!(rt; cut.tile(0), tile(2, 4, 0, 7));
+    assert_eq!(rt; cut.tile(1), tile(5, 7, 0, 4));
+    assert_eq!(rt; cut.tile(2), tile(8, 9, 0, 1));
     let cut = cut_both(3, 2, 3);
     assert_eq!(rt; cut.count(), 2);
-    assert_eq!(rt; cut.tile(0), Tile { first: 0, last: 2 });
-    assert_eq!(rt; cut.tile(1), Tile { first: 3, last: 3 });
+    assert_eq!(rt; cut.tile(0), tile(0, 2, 0, 2));
+    assert_eq!(rt; cut.tile(1), tile(3, 3, 0, 0));
     assert_eq!(rt; cut_both(0, 2, 3).count(), 0);
+    assert_eq!(rt; cut_own(9, u64::MAX, 3).count(), 0);
+}
+
+#[test]
+fn groups_of_one_diagonal(rt: HostRuntime) {
+    let cut = cut_own(4, 1, 1);
+    assert_eq!(rt; cut.count(), 2);
+    assert_eq!(rt; cut.tile(0), tile(2, 2, 0, 1));
+    assert_eq!(rt; cut.tile(1), tile(3, 3, 0, 0));
+}
+
+#[test]
+fn rows_are_cut_in_bands(rt: HostRuntime) {
+    let cut = cut_own(65_539, 1, 65_536);
+    assert_eq!(rt; cut.count(), 3);
+    assert_eq!(rt; cut.tile(0), tile(2, 65_537, 0, 65_535));
+    assert_eq!(rt; cut.tile(1), tile(65_538, 65_538, 0, 0));
+    assert_eq!(rt; cut.tile(2), tile(2, 65_537, 65_536, 65_536));
+    let cut = cut_both(65_537, 2, 65_536);
+    assert_eq!(rt; cut.count(), 3);
+    assert_eq!(rt; cut.tile(0), tile(0, 65_535, 1, 65_535));
+    assert_eq!(rt; cut.tile(1), tile(65_536, 65_537, 0, 1));
+    assert_eq!(rt; cut.tile(2), tile(0, 65_535, 65_536, 65_536));
+}
+
+/// Each of four bands has 65,536 rows and 262,144 columns, and so 327,679 diagonals.
+#[test]
+fn bands_of_the_longest_series(rt: HostRuntime) {
+    let cut = cut_both(262_144, 262_144, 1);
+    assert_eq!(rt; cut.count(), 1_310_716);
+    assert_eq!(rt; cut.tile(0), tile(196_608, 196_608, 65_535, 65_535));
+    assert_eq!(rt; cut.tile(327_678), tile(524_286, 524_286, 0, 0));
+    assert_eq!(rt; cut.tile(327_679), tile(131_072, 131_072, 131_071, 131_071));
+    assert_eq!(rt;
+        cut.tile(1_310_715),
+        tile(327_678, 327_678, 196_608, 196_608)
+    );
 }
 
 #[test]
@@ -207,6 +260,164 @@ fn tiles_give_what_every_pair_gives(rt: HostRuntime) -> Result<(), Fail> {
                 assert_eq!(rt; tiled.all(), every.all.as_slice());
                 assert_eq!(rt; tiled.left(), every.left.as_slice());
                 assert_eq!(rt; tiled.right(), every.right.as_slice());
+            }
+        }
+    }
+    Ok(())
+}
+
+/// Scans the tile's rows, so many at once.
+fn scan_own_in_parts(samples: &[Sample], m: u32, tile: &Tile, rows: u64, into: &mut Profile)
+    requires shortest { MIN_WINDOW ≤ m }
+    requires longest { m ≤ MAX_WINDOW }
+    requires samples { length samples.now ≤ MAX_SAMPLES }
+    requires tile { IsTileBetween (zone m + 1) (windows_in (length samples.now) m) (windows_in (length samples.now) m)
+        tile.now }
+    requires some_rows { 1 ≤ rows }
+    requires few_rows { rows ≤ 65536 }
+    requires places { length into.old.all ≡ windows_in (length samples.now) m }
+    ensures places { length into.new.all ≡ length into.old.all }
+{
+    let mut first_row = tile.first_row;
+    while first_row <= tile.last_row {
+        let last_row = tile.last_row.min(first_row + rows - 1);
+        let part = Tile {
+            first: tile.first,
+            last: tile.last,
+            first_row,
+            last_row,
+        };
+        scan_own(samples, m, &part, into);
+        first_row = last_row + 1;
+    }
+}
+
+/// The profile by tiles of so many diagonals, each of which is scanned so many rows at once.
+fn profile_in_parts(
+    alloc: Global,
+    samples: &[Sample],
+    m: u32,
+    tile: u32,
+    rows: u64,
+) -> Result<Profile, Memory>
+    requires shortest { MIN_WINDOW ≤ m }
+    requires longest { m ≤ MAX_WINDOW }
+    requires samples { length samples.now ≤ MAX_SAMPLES }
+    requires least { 1 ≤ tile }
+    requires greatest { tile ≤ MAX_TILE }
+    requires some_rows { 1 ≤ rows }
+    requires few_rows { rows ≤ 65536 }
+{
+    let count = windows(samples.len() as u64, m);
+    let cut = cut_own(count, excl(m), tile);
+    let mut profile: Profile = unit(alloc, count)?;
+    for k in 0..cut.count() {
+        scan_own_in_parts(samples, m, &cut.tile(k), rows, &mut profile);
+    }
+    Ok(profile)
+}
+
+#[test]
+fn rows_in_parts_give_what_every_pair_gives(rt: HostRuntime) -> Result<(), Fail> {
+    for (low, high) in [(-3, 4), (7, 7), (i32::MIN, i32::MAX)] {
+        let samples = spread(rt.alloc(), 330, low, high)?;
+        let samples = samples.as_slice();
+        for m in [3, 20] {
+            let every = mp_plain::profile(rt.alloc(), samples, m)?;
+            for (tile, rows) in [
+                (1, 100),
+                (7, 64),
+                (65, 7),
+                (256, 1),
+                (256, 90),
+                (65_536, 33),
+            ] {
+                let parts = profile_in_parts(rt.alloc(), samples, m, tile, rows)?;
+                assert_eq!(rt; parts.all(), every.all.as_slice());
+                assert_eq!(rt; parts.left(), every.left.as_slice());
+                assert_eq!(rt; parts.right(), every.right.as_slice());
+            }
+        }
+    }
+    Ok(())
+}
+
+/// Scans the tile's rows, so many at once.
+fn scan_both_in_parts(a: &[Sample], b: &[Sample], m: u32, tile: &Tile, rows: u64, into: &mut Slots)
+    requires shortest { MIN_WINDOW ≤ m }
+    requires longest { m ≤ MAX_WINDOW }
+    requires first { length a.now ≤ MAX_SAMPLES }
+    requires second { length b.now ≤ MAX_SAMPLES }
+    requires tile { IsTileBetween 0 (diagonals_between (windows_in (length a.now) m) (windows_in (length b.now) m))
+        (windows_in (length a.now) m) tile.now }
+    requires some_rows { 1 ≤ rows }
+    requires few_rows { rows ≤ 65536 }
+    requires places { length into.old.items ≡ windows_in (length a.now) m }
+    ensures places { length into.new.items ≡ length into.old.items }
+{
+    let mut first_row = tile.first_row;
+    while first_row <= tile.last_row {
+        let last_row = tile.last_row.min(first_row + rows - 1);
+        let part = Tile {
+            first: tile.first,
+            last: tile.last,
+            first_row,
+            last_row,
+        };
+        scan_both(a, b, m, &part, into);
+        first_row = last_row + 1;
+    }
+}
+
+/// The AB-join by tiles of so many diagonals, each of which is scanned so many rows at once.
+fn join_in_parts(
+    alloc: Global,
+    a: &[Sample],
+    b: &[Sample],
+    m: u32,
+    tile: u32,
+    rows: u64,
+) -> Result<Slots, Memory>
+    requires shortest { MIN_WINDOW ≤ m }
+    requires longest { m ≤ MAX_WINDOW }
+    requires first { length a.now ≤ MAX_SAMPLES }
+    requires second { length b.now ≤ MAX_SAMPLES }
+    requires least { 1 ≤ tile }
+    requires greatest { tile ≤ MAX_TILE }
+    requires some_rows { 1 ≤ rows }
+    requires few_rows { rows ≤ 65536 }
+{
+    let (first, second) = (windows(a.len() as u64, m), windows(b.len() as u64, m));
+    let cut = cut_both(first, second, tile);
+    let mut slots: Slots = unit(alloc, first)?;
+    for k in 0..cut.count() {
+        scan_both_in_parts(a, b, m, &cut.tile(k), rows, &mut slots);
+    }
+    Ok(slots)
+}
+
+#[test]
+fn rows_in_parts_give_the_join_of_every_pair(rt: HostRuntime) -> Result<(), Fail> {
+    for (low, high) in [(-3, 4), (i32::MIN, i32::MAX)] {
+        let long = spread(rt.alloc(), 420, low, high)?;
+        let short = spread(rt.alloc(), 60, low, high)?;
+        for (a, b) in [
+            (long.as_slice(), short.as_slice()),
+            (short.as_slice(), long.as_slice()),
+            (long.as_slice(), long.as_slice()),
+        ] {
+            let every = mp_plain::join(rt.alloc(), a, b, 4)?;
+            for (tile, rows) in [
+                (1, 100),
+                (7, 64),
+                (65, 7),
+                (40, 150),
+                (300, 90),
+                (65_536, 1),
+                (65_536, 33),
+            ] {
+                let parts = join_in_parts(rt.alloc(), a, b, 4, tile, rows)?;
+                assert_eq!(rt; parts.as_slice(), every.as_slice());
             }
         }
     }

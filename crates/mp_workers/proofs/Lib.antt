@@ -1,3 +1,2 @@
 pub mod Sharing
 pub mod Merges
-pub mod Tiles

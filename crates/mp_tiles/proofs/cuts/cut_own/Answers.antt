@@ -1,18 +1,39 @@
-use Rattle.std.proofs.Common.{arith, sym, subst, ap, ◌+◌, ◌∙◌}
+use Rattle.std.proofs.Common.{◌≡◌, ◌+◌, ◌≤◌, length, sym, ap, subst, ◌∙◌, arith}
 use Rattle.std.specs.Prelude.{All, count_by}
 use Rattle.mp_tiles.specs.Pairs.{has_pair, IsTileBetween}
-use Rattle.mp_tiles.proofs.TileLemmas.{are_tiles, own_pairs_once, same_tiles}
+use Rattle.mp_tiles.specs.Cutting.{tiles_of, own_region, own_tiles, IsRegion}
+use Rattle.mp_tiles.proofs.TileLemmas.{own_pairs_once}
+use Rattle.mp_tiles.proofs.CutLemmas.{are_tiles, few_tiles, same_tiles, own_is_region}
 use Rattle.mp_tiles.proofs.cuts.cut_own.Goals as goal
+
+same : (c : goal.After-from)
+    → tiles_of (record {
+      first = c.saturating_add.result;
+      end = c.args.w;
+      origin = 0;
+      rows = c.args.w;
+      width = c.from.result;
+    }) ≡ own_tiles c.args.w c.args.excl c.from.result
+same c = same_tiles c.args.w c.args.excl c.from.result c.saturating_add.result c.requires.windows (omega arith)
+    c.saturating_add.ensures
+
+region : (c : goal.After-from) → IsRegion (own_region c.args.w c.args.excl c.from.result)
+region c = own_is_region c.args.w c.args.excl c.from.result c.requires.windows (omega arith) (omega arith)
+
+pub returns-clause-tiles : goal.returns-clause-tiles
+returns-clause-tiles c = same c ∙ ap (own_tiles c.args.w c.args.excl) c.from.ensures
 
 pub returns-clause-each : goal.returns-clause-each
 returns-clause-each c =
-    subst (All (IsTileBetween (c.args.excl + 1) c.args.w))
-    (sym (same_tiles c.args.w c.args.excl c.from.result c.saturating_add-first.result c.max.result
-    c.requires.windows (omega arith) c.saturating_add-first.ensures c.max.ensures))
-    (are_tiles (c.args.excl + 1) c.args.w c.from.result (omega arith))
+    subst (All (IsTileBetween (c.args.excl + 1) c.args.w c.args.w)) (sym (same c))
+    (are_tiles (own_region c.args.w c.args.excl c.from.result) (region c))
 
 pub returns-clause-pairs : goal.returns-clause-pairs
 returns-clause-pairs c i j lt =
-    ap (count_by (λ t. has_pair 0 t i j)) (same_tiles c.args.w c.args.excl c.from.result c.saturating_add-first.result
-    c.max.result c.requires.windows (omega arith) c.saturating_add-first.ensures c.max.ensures)
+    ap (count_by (λ t. has_pair 0 t i j)) (same c)
     ∙ own_pairs_once c.args.w c.args.excl c.from.result (omega arith) i j lt
+
+pub returns-clause-few : goal.returns-clause-few
+returns-clause-few c =
+    subst (λ ts. length ts ≤ 2097152) (sym (same c))
+    (few_tiles (own_region c.args.w c.args.excl c.from.result) (region c))

@@ -1,6 +1,5 @@
 use Rattle.std.proofs.Common.{◌≡◌, ℕ, ◌+◌, ◌<◌, ◌≤◌, length, get_or}
 use Rattle.mp_defs.specs.Series.{series_of}
-use Rattle.mp_tiles.specs.declared.scans.TheConstants.{ROWS}
 use Rattle.mp_tiles.specs.Sums.{IsSum}
 use Rattle.mp_tiles.specs.Scanning.{in_block}
 use Rattle.mp_tiles.proofs.scans.scan_diagonals.Given as goal
@@ -11,7 +10,7 @@ invariant-loop-t g l =
     let a = l.grid.rows.samples.now in
     let b = l.grid.columns.samples.now in
     let rest = l.grid.rows.rest in
-    let next = l.row + ROWS in
+    let next = l.row + length l.rows in
     record {
       places : length l.sums ≡ length l.initial.sums;
       fits : offers.fits (rest + 1) (series_of a) (series_of b) l.into;

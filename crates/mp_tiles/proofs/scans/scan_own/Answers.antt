@@ -4,7 +4,7 @@ use Rattle.mp_defs.specs.Profile.{windows_of}
 use Rattle.mp_defs.specs.SeriesLaws.{series_are_of_samples}
 use Rattle.mp_tiles.specs.Pairs.{has_pair}
 use Rattle.mp_tiles.specs.Pieces.{profile_has_columns}
-use Rattle.mp_tiles.specs.Scanning.{on_diagonals, HasPlaces, IsScanned}
+use Rattle.mp_tiles.specs.Scanning.{in_block, HasPlaces, IsScanned}
 use Rattle.mp_tiles.specs.OfferingLaws.{each_to_other}
 use Rattle.mp_tiles.proofs.BlockLemmas.{own_pairs}
 use Rattle.mp_tiles.proofs.scans.scan_own.Goals as goal
@@ -25,11 +25,12 @@ scanned c =
     let m = c.args.m in
     let a = series_of c.args.samples.now in
     let tile = c.args.tile.now in
-    let found : IsScanned (on_diagonals tile.first (tile.last + 1)) m a c.args.into.now c.scan_offsets.new.into =
-    subst (λ n. IsScanned (on_diagonals tile.first (tile.last + 1)) n a c.args.into.now c.scan_offsets.new.into)
-    (omega arith) c.scan_offsets.ensures.scanned in
-    each_to_other.same m a a (on_diagonals tile.first (tile.last + 1)) (has_pair 0 tile) _ _ (places c, refl) found
-    (λ i j _ _. own_pairs tile (tile.last + 1) i j refl)
+    let pairs = in_block tile.first (tile.last + 1) tile.first_row (tile.last_row + 1) in
+    let found : IsScanned pairs m a c.args.into.now c.scan_offsets.new.into =
+    subst (λ n. IsScanned pairs n a c.args.into.now c.scan_offsets.new.into) (omega arith)
+    c.scan_offsets.ensures.scanned in
+    each_to_other.same m a a pairs (has_pair 0 tile) _ _ (places c, refl) found
+    (λ i j _ _. own_pairs tile (tile.last + 1) (tile.last_row + 1) i j refl refl)
 
 stay : (c : goal.After-scan_offsets)
     → HasPlaces (windows_of c.args.m (series_of c.args.samples.now)) c.scan_offsets.new.into

@@ -1,34 +1,47 @@
-use Rattle.std.proofs.Common.{◌+◌, ◌*◌, ◌<◌, length, take, drop, min, ◌∙◌, arith}
+use Rattle.std.proofs.Common.{◌+◌, length, take, drop, ◌∙◌, inl, arith}
 use Rattle.std.proofs.lemmas.List.{length-append, length-take, length-drop}
-use Rattle.mp_defs.specs.Series.{series_of}
-use Rattle.mp_tiles.specs.Scanning.{on_diagonals}
-use Rattle.mp_tiles.proofs.TileLemmas.{starts_before}
-use Rattle.mp_tiles.proofs.BlockLemmas.{one_strip, scanned_next}
+use Rattle.mp_tiles.specs.Grids.{row_series, column_series, window_length}
+use Rattle.mp_tiles.specs.Scanning.{in_block}
+use Rattle.mp_tiles.proofs.BlockLemmas.{scanned_next}
+use Rattle.mp_tiles.proofs.LimitLemmas.{diagonals_next, diagonals_done}
 use Rattle.mp_tiles.proofs.scans.scan_wide.Goals as goal
 
-pub loop-k-preserved : goal.loop-k-preserved
-loop-k-preserved g c =
+pub loop-start-preserved : goal.loop-start-preserved
+loop-start-preserved g c =
     let laws = g.met.O.Offers.laws in
-    let before = c.loop-k.invariant in
+    let a = row_series c.args.grid.now in
+    let b = column_series c.args.grid.now in
+    let m = window_length c.args.grid.now in
+    let before = c.loop-start.invariant in
     let step = c.scan_strip.ensures in
-    let m = c.args.grid.now.rows.rest + 1 in
-    let a = series_of c.args.grid.now.rows.samples.now in
-    let b = series_of c.args.grid.now.columns.samples.now in
     let first = c.args.first in
-    let end = c.args.end in
-    let start = first + c.loop-k.k * 64 in
+    let start = c.loop-start.start in
     let width = c.min-width.result in
-    let starts : start < end = starts_before first end 64 c.loop-k.k (omega arith) (omega arith) in
-    let given = length-take width c.loop-k.sums in
-    let stop = start + length (take width c.loop-k.sums) in
+    let given = length-take width c.loop-start.sums in
+    let stop = start + length (take width c.loop-start.sums) in
     record {
-      places = length-append c.scan_strip.new.sums (drop width c.loop-k.sums)
-          ∙ omega (arith, step.places, given, length-drop width c.loop-k.sums, before.places);
-      fits = laws.still_fits m a b (on_diagonals start stop) _ _ before.fits step.scanned;
-      scanned = scanned_next laws m a b (on_diagonals first (min start end)) (on_diagonals start stop)
-          (on_diagonals first (min (first + (c.loop-k.k + 1) * 64) end)) _ _ _ c.requires.fits before.scanned
-          step.scanned
-          (λ i j _ _. one_strip first (min start end) start stop (min (start + 64) end)
-          (min (first + (c.loop-k.k + 1) * 64) end) i j (omega arith) (omega arith) (omega (arith, starts))
-          (omega (arith, given, before.places, c.min-width.ensures)) (omega arith));
+      after = omega (arith, before.after);
+      order = inl (omega (arith, c.min-width.ensures, c.loop-start-test.true));
+      fits = laws.still_fits m a b (in_block start stop c.args.top c.args.bottom) _ _ before.fits step.scanned;
+      scanned = scanned_next laws m a b (in_block first start c.args.top c.args.bottom)
+          (in_block start stop c.args.top c.args.bottom) (in_block first (start + width) c.args.top c.args.bottom) _ _ _
+          c.requires.fits before.scanned step.scanned
+          (λ i j _ _. diagonals_next first start stop (start + width) c.args.top c.args.bottom i j before.after
+          (omega arith) (omega (arith, given, before.places, c.min-width.ensures)));
+      places = length-append c.scan_strip.new.sums (drop width c.loop-start.sums)
+          ∙ omega (arith, step.places, given, length-drop width c.loop-start.sums, before.places);
+    }
+
+pub returns : goal.returns
+returns g c =
+    let laws = g.met.O.Offers.laws in
+    let a = row_series c.args.grid.now in
+    let b = column_series c.args.grid.now in
+    let m = window_length c.args.grid.now in
+    record {
+      scanned = laws.same m a b (in_block c.args.first c.loop-start.start c.args.top c.args.bottom)
+          (in_block c.args.first c.args.end c.args.top c.args.bottom) _ _ c.requires.fits
+          c.loop-start.invariant.scanned
+          (λ i j _ _. diagonals_done c.args.first c.args.end c.loop-start.start c.args.top c.args.bottom i j
+          c.loop-start-test.false c.loop-start.invariant.order);
     }

@@ -1,18 +1,22 @@
-use Rattle.std.proofs.Common.{◌≡◌, ◌+◌, ◌*◌, length, min}
-use Rattle.mp_defs.specs.Series.{series_of}
+use Rattle.std.proofs.Common.{◌≡◌, ◌-◌, ◌≤◌, ◌⊎◌, length}
 use Rattle.mp_tiles.specs.declared.scans.TheConstants.{STRIP}
-use Rattle.mp_tiles.specs.Scanning.{on_diagonals}
+use Rattle.mp_tiles.specs.Grids.{row_series, column_series, window_length}
+use Rattle.mp_tiles.specs.Scanning.{in_block}
 use Rattle.mp_tiles.proofs.scans.scan_wide.Given as goal
 
-abbrev pub invariant-loop-k : goal.invariant-loop-k
-invariant-loop-k g l =
+abbrev pub invariant-loop-start : goal.invariant-loop-start
+invariant-loop-start g l =
     let offers = g.O.Offers in
-    let a = series_of l.grid.rows.samples.now in
-    let b = series_of l.grid.columns.samples.now in
-    let m = l.grid.rows.rest + 1 in
+    let a = row_series l.grid in
+    let b = column_series l.grid in
+    let m = window_length l.grid in
     record {
-      places : length l.sums ≡ STRIP;
+      after : l.first ≤ l.start;
+      order : (l.start ≤ l.end) ⊎ (l.start ≡ l.first);
       fits : offers.fits m a b l.into;
-      scanned : offers.is_scanned m a b (on_diagonals l.first (min (l.first + l.k * STRIP) l.end)) l.initial.into
-          l.into;
+      scanned : offers.is_scanned m a b (in_block l.first l.start l.top l.bottom) l.initial.into l.into;
+      places : length l.sums ≡ STRIP;
     }
+
+abbrev pub decreases-loop-start : goal.decreases-loop-start
+decreases-loop-start g l = l.end - l.start
