@@ -1,8 +1,9 @@
 -- What is kept of the windows of a series that has one sample more.
+use Rattle.std.proofs.Common.{◌^◌}
 use Rattle.std.proofs.Common.{◌≡◌, ℕ, zero, suc, ◌+◌, ◌-◌, ◌<◌, ◌≤◌, inl, inr, List, [], ◌∷◌, ◌++◌, length, get_or}
 use Rattle.std.proofs.Common.{take}
 use Rattle.std.proofs.Common.{Bool, true, false, refl, sym, ap, ◌∙◌, arith, subst}
-use Rattle.std.specs.Prelude.{Option, Some, None, ℤ, pos, ◌≤ℤ◌, slice_index, nat_eq}
+use Rattle.std.specs.Prelude.{Option, Some, None, ℤ, pos, ◌≤ℤ◌, nat_eq, nat_lt, ◌&&◌, min}
 use Rattle.std.specs.List.{range_with_len}
 use Rattle.std.proofs.Math.ListN.{get_or-append}
 use Rattle.std.proofs.Math.Seq.{get_or-append_seam, take-length}
@@ -20,18 +21,21 @@ use Rattle.mp_defs.specs.Series.{Series, reading_of, series_of}
 use Rattle.mp_defs.specs.SeriesLaws.{series_are_of_samples}
 use Rattle.mp_defs.specs.Window.{is_free, excl, is_allowed, windows}
 use Rattle.mp_defs.specs.Least.{near}
-use Rattle.mp_defs.specs.LeastLaws.{near_same}
+use Rattle.mp_defs.specs.LeastLaws.{grows_by_one_candidate}
+use Rattle.mp_defs.specs.Laws.{IsNearest}
 use Rattle.mp_defs.specs.Profile.{column, entry, left_entry, right_entry, windows_of, matrix_profile}
 use Rattle.mp_defs.specs.ColumnLaws.{columns_have_places}
-use Rattle.mp_defs.specs.NearestLaws.{entries_are_of_both_sides, zone_is_mutual}
+use Rattle.mp_defs.specs.NearestLaws.{entries_are_nearest, entries_are_of_both_sides, zone_is_mutual}
 use Rattle.mp_partial.specs.Values.{merged_column}
 use Rattle.mp_series.specs.Samples.{number_in, numbers_in}
-use Rattle.mp_stream.specs.Rows.{IsTaken, lowered, row_candidate, sum_at, square_at, with_best, IsRow}
+use Rattle.mp_stream.specs.Limits.{limit_by, StartsAtMost, AllStartAtMost, AreLimits}
+use Rattle.mp_stream.specs.Rows.{IsTaken, row_candidate, sum_at, square_at, offered_before, with_best, IsRow}
 use Rattle.mp_stream.specs.Appended.{with_one, filled, AreNumbers}
-use Rattle.mp_stream.specs.Ranges.{AreWithin, Reaches}
-use Rattle.mp_stream.specs.Streams.{IsOf, without_last}
+use Rattle.mp_stream.specs.Ranges.{AreWithin, Reaches, SumsFit}
+use Rattle.mp_stream.specs.Streams.{HaveRows, IsOf, IsOffered, last_row, without_last}
 use Rattle.mp_stream.specs.declared.kept.Kept.{Kept}
 use Rattle.mp_stream.specs.declared.ranges.Range.{Range}
+use Rattle.mp_stream.proofs.Moving.{sum_small}
 use Rattle.mp_stream.proofs.SumLemmas.{sum_none, sum_more}
 use Rattle.mp_stream.proofs.Steps.{push_more}
 use Rattle.mp_stream.proofs.Entries.{free_front, left_stays, left_last, left_last_none, right_entries}
@@ -109,28 +113,23 @@ sum_front xs ys (suc m) i j le le' =
     ) refl)
 
 -- the sums before the last window, in a row that has room for one more
-pub row_before : (m : ℕ) (items : List Sample) (row grown : List ℕ) → 1 ≤ m → 1 ≤ length items
-    → length row ≡ windows (length (without_last items)) m
+pub row_before : (m : ℕ) (items : List Sample) (row grown : List ℕ) (w : ℕ) → 1 ≤ m → 1 ≤ length items
+    → length row ≡ w → w ≡ windows (length (without_last items)) m
     → IsRow (numbers_in (without_last items)) m (windows (length (without_last items)) m - 1) row
-    → grown ≡ row ++ 0 ∷ [] → (i : ℕ) → i < length grown - 1
-    → get_or grown i 0 ≡ sum_at (numbers_in items) m i (length grown - 1 - 1)
-row_before m items row grown least some long before e i lt =
+    → grown ≡ row ++ 0 ∷ [] → (i : ℕ) → i < w → get_or grown i 0 ≡ sum_at (numbers_in items) m i (w - 1)
+row_before m items row grown w least some long count before e i lt =
     let front = without_last items in
     let last = get_or items (length items - 1) Missing in
-    let w = length row in
-    let count : length grown ≡ w + 1 = ap length e ∙ length-append row (0 ∷ []) in
     let whole : numbers_in items ≡ numbers_in front ++ number_in last ∷ [] =
     ap numbers_in (split_last items some) ∙ map-append number_in front (last ∷ []) in
     let many : length (numbers_in front) ≡ length front = length-map front number_in in
-    let here : length grown - 1 - 1 ≡ w - 1 = omega (arith, count) in
-    let there : windows (length front) m - 1 ≡ w - 1 = omega (arith, long) in
-    let below : i < w = omega (arith, lt, count) in
+    let here : windows (length front) m - 1 ≡ w - 1 = omega (arith, count) in
+    let below : i < length row = omega (arith, lt, long) in
     ap (λ list. get_or list i 0) e ∙ get_or-append row (0 ∷ []) 0 i below ∙ before i below
-    ∙ ap (sum_at (numbers_in front) m i) there
-    ∙ sym (sum_front (numbers_in front) (number_in last ∷ []) m i (w - 1) (omega (arith, below, long, many))
-    (omega (arith, below, long, many)))
+    ∙ ap (sum_at (numbers_in front) m i) here
+    ∙ sym (sum_front (numbers_in front) (number_in last ∷ []) m i (w - 1) (omega (arith, lt, count, many))
+    (omega (arith, lt, count, many)))
     ∙ ap (λ list. sum_at list m i (w - 1)) (sym whole)
-    ∙ ap (sum_at (numbers_in items) m i) (sym here)
 
 -- ---- one window more
 
@@ -180,26 +179,22 @@ frees_grow m a s free is_free_last le long before last =
     (λ i lt. before i lt ∙ sym (free_front m a s i (omega (arith, lt)))) last
 
 -- the left column where the last window is free
-pub lefts_grow : (m : ℕ) (a : Series) (s : Option ℤ) (xs : List ℤ) (free : List Bool) (row : List ℕ)
+pub lefts_grow : (m : ℕ) (a : Series) (s : Option ℤ) (xs : List ℤ) (free : List Bool)
     (left new : List (Option Near)) → IsBefore m a s xs
     → ((i : ℕ) → i < windows_of m a + 1 → get_or free i false ≡ is_free m (with_one a s) i)
     → is_free m (with_one a s) (windows_of m a) ≡ true
-    → ((i : ℕ) → i < windows_of m a + 1 → get_or row i 0 ≡ sum_at xs m i (windows_of m a))
     → left ≡ (matrix_profile m a).left
     → new ≡ with_best (left ++ None ∷ []) (windows_of m a)
-    (near (row_candidate free (slice_index row)) (windows_of m a - excl m))
+    (near (row_candidate free (λ i. sum_at xs m i (windows_of m a))) (windows_of m a - excl m))
     → new ≡ (matrix_profile m (with_one a s)).left
-lefts_grow m a s xs free row left new h frees last sums e f =
+lefts_grow m a s xs free left new h frees last e f =
     let b = with_one a s in
     let w = windows_of m a in
     let more = windows_more m a s h.long in
     let grown = left ++ None ∷ [] in
-    let best = near (row_candidate free (slice_index row)) (w - excl m) in
+    let best = near (row_candidate free (λ i. sum_at xs m i w)) (w - excl m) in
     let count : length left ≡ w = ap length e ∙ columns_have_places.count (left_entry (is_allowed m) m a) w in
-    let found : best ≡ left_entry (is_allowed m) m b w =
-    near_same (row_candidate free (slice_index row)) (row_candidate free (λ i. sum_at xs m i w)) (w - excl m)
-    (λ i lt. ap (row_candidate_at free i) (sums i (omega (arith, lt))))
-    ∙ left_last m a s xs free h.long h.numbers frees last in
+    let found : best ≡ left_entry (is_allowed m) m b w = left_last m a s xs free h.long h.numbers frees last in
     let long : length new ≡ w + 1 = ap length f ∙ best_long grown w best ∙ length-append left (None ∷ [])
     ∙ ap (λ n. n + 1) count in
     f ∙ column_is (left_entry (is_allowed m) m b) (windows_of m b) (with_best grown w best)
@@ -215,9 +210,6 @@ lefts_grow m a s xs free row left new h frees last sums e f =
           (best_here grown w best (omega (arith, length-append left (None ∷ []), count)) (pushed_last left w count)
           ∙ found)
     ])
-  where
-    row_candidate_at : List Bool → ℕ → ℕ → Option Near
-    row_candidate_at free i d = row_candidate free (λ _. d) i
 
 -- where the last window isn't free
 pub lefts_stay : (m : ℕ) (a : Series) (s : Option ℤ) (xs : List ℤ) (left new : List (Option Near)) → IsBefore m a s xs
@@ -239,28 +231,16 @@ lefts_stay m a s xs left new h last e f =
           (pushed_last left w count ∙ sym (left_last_none m a s xs h.long h.numbers last))
     ])
 
-taken_as : (free : List Bool) (dist dist' : ℕ → ℕ) (j end : ℕ) (old new : List (Option Near))
-    → ((i : ℕ) → i < end → dist i ≡ dist' i) → IsTaken free dist j 0 end old new → IsTaken free dist' j 0 end old new
-taken_as free dist dist' j end old new same h = record {
-  places = h.places;
-  within = λ i low high. h.within i low high ∙ ap (lowered_at free j i (get_or old i None)) (same i high);
-  before = h.before;
-  behind = h.behind;
-}
-  where
-    lowered_at : List Bool → ℕ → ℕ → Option Near → ℕ → Option Near
-    lowered_at free j i old d = lowered free (λ _. d) j i old
-
 -- the right column where the last window is free
-pub rights_grow : (m : ℕ) (a : Series) (s : Option ℤ) (xs : List ℤ) (free : List Bool) (row : List ℕ)
+pub rights_grow : (m : ℕ) (a : Series) (s : Option ℤ) (xs : List ℤ) (free : List Bool)
     (right new : List (Option Near)) → IsBefore m a s xs
     → ((i : ℕ) → i < windows_of m a + 1 → get_or free i false ≡ is_free m (with_one a s) i)
     → is_free m (with_one a s) (windows_of m a) ≡ true
-    → ((i : ℕ) → i < windows_of m a + 1 → get_or row i 0 ≡ sum_at xs m i (windows_of m a))
     → right ≡ (matrix_profile m a).right
-    → IsTaken free (slice_index row) (windows_of m a) 0 (windows_of m a - excl m) (right ++ None ∷ []) new
+    → IsTaken free (λ i. sum_at xs m i (windows_of m a)) (windows_of m a) 0 (windows_of m a - excl m)
+    (right ++ None ∷ []) new
     → new ≡ (matrix_profile m (with_one a s)).right
-rights_grow m a s xs free row right new h frees last sums e taken =
+rights_grow m a s xs free right new h frees last e taken =
     let b = with_one a s in
     let w = windows_of m a in
     let more = windows_more m a s h.long in
@@ -270,9 +250,7 @@ rights_grow m a s xs free row right new h frees last sums e taken =
     (λ i lt. right_entries m a s xs free (right ++ None ∷ []) new h.long h.numbers frees last
     (λ k less. pushed_before right k (omega (arith, less, count)) ∙ ap (λ list. get_or list k None) e
     ∙ columns_have_places.at_place (right_entry (is_allowed m) m a) w k less)
-    (pushed_last right w count)
-    (taken_as free (slice_index row) (λ k. sum_at xs m k w) w (w - excl m) (right ++ None ∷ []) new
-    (λ k less. sums k (omega (arith, less))) taken) i (omega (arith, lt, more)))
+    (pushed_last right w count) taken i (omega (arith, lt, more)))
 
 pub rights_stay : (m : ℕ) (a : Series) (s : Option ℤ) (xs : List ℤ) (right new : List (Option Near)) → IsBefore m a s xs
     → is_free m (with_one a s) (windows_of m a) ≡ false → right ≡ (matrix_profile m a).right
@@ -291,15 +269,13 @@ rights_stay m a s xs right new h last e f =
 
 -- ---- all that is kept
 
--- what is kept once the last window has its place and its row
-pub record IsTurned (m : ℕ) (items : List Sample) (last_free : Bool) (before turned : Kept) : Type 0 where
-  pub left : turned.profile.left ≡ before.profile.left ++ None ∷ []
-  pub right : turned.profile.right ≡ before.profile.right ++ None ∷ []
-  pub free : turned.free.items ≡ before.free.items ++ last_free ∷ []
-  pub range : AreWithin turned.range (numbers_in items)
-  pub sums : length turned.row.items ≡ length before.row.items + 1
-  pub room : length turned.next.items ≡ length before.row.items + 1
-  pub row : IsRow (numbers_in items) m (length before.row.items) turned.row.items
+-- what is kept once the last window has its place
+pub record IsGrown (last_free : Bool) (before grown : Kept) : Type 0 where
+  pub left : grown.profile.left ≡ before.profile.left ++ None ∷ []
+  pub right : grown.profile.right ≡ before.profile.right ++ None ∷ []
+  pub free : grown.free.items ≡ before.free.items ++ last_free ∷ []
+  pub range : grown.range ≡ before.range
+  pub is_narrow : grown.is_narrow ≡ before.is_narrow
 
 -- the series with its last sample, and the windows that it had before
 pub record IsSplit (m : ℕ) (items : List Sample) (w : ℕ) : Type 0 where
@@ -328,21 +304,20 @@ is_split m items w least le e =
       };
     }
 
-frees_of : (m : ℕ) (items : List Sample) (last_free : Bool) (before turned : Kept) → IsOf m (without_last items) before
-    → IsSplit m items (length before.row.items) → IsTurned m items last_free before turned
-    → last_free ≡ is_free m (series_of items) (length before.row.items)
-    → (i : ℕ) → i < windows_of m (series_of (without_last items)) + 1
-    → get_or turned.free.items i false
+frees_of : (m : ℕ) (items : List Sample) (last_free : Bool) (w : ℕ) (before grown : Kept)
+    → IsOf m (without_last items) before → IsSplit m items w → IsGrown last_free before grown
+    → last_free ≡ is_free m (series_of items) w → (i : ℕ) → i < windows_of m (series_of (without_last items)) + 1
+    → get_or grown.free.items i false
     ≡ is_free m (with_one (series_of (without_last items)) (reading_of (get_or items (length items - 1) Missing))) i
-frees_of m items last_free before turned h split turned_is last i lt =
+frees_of m items last_free w before grown h split grown_is last i lt =
     let front = without_last items in
     let t = reading_of (get_or items (length items - 1) Missing) in
-    let w = windows_of m (series_of front) in
-    let many : w ≡ windows (length front) m = ap (λ n. windows n m) (length-map front reading_of) in
-    ap (λ list. get_or list i false) turned_is.free
+    let v = windows_of m (series_of front) in
+    let many : v ≡ windows (length front) m = ap (λ n. windows n m) (length-map front reading_of) in
+    ap (λ list. get_or list i false) grown_is.free
     ∙ frees_grow m (series_of front) t before.free.items last_free split.before.long (h.frees ∙ sym many)
     (λ k less. h.free k (omega (arith, less, many)))
-    (last ∙ ap (is_free m (series_of items)) (sym split.count) ∙ ap (λ a. is_free m a w) split.series) i lt
+    (last ∙ ap (is_free m (series_of items)) (sym split.count) ∙ ap (λ a. is_free m a v) split.series) i lt
 
 last_is : (m : ℕ) (items : List Sample) (last_free value : Bool) (w : ℕ) → IsSplit m items w
     → last_free ≡ is_free m (series_of items) w → last_free ≡ value
@@ -352,113 +327,239 @@ last_is m items last_free value w split last e =
     ap (λ a. is_free m a (windows_of m (series_of (without_last items)))) (sym split.series)
     ∙ ap (is_free m (series_of items)) split.count ∙ sym last ∙ e
 
-pub kept_stays : (m : ℕ) (items : List Sample) (last_free : Bool) (before turned : Kept)
-    → IsOf m (without_last items) before → IsSplit m items (length before.row.items)
-    → IsTurned m items last_free before turned → last_free ≡ is_free m (series_of items) (length before.row.items)
-    → last_free ≡ false → IsOf m items turned
-kept_stays m items last_free before turned h split turned_is last none =
+-- a column to which no window was offered
+taken_nothing : (free : List Bool) (dist : ℕ → ℕ) (j : ℕ) (old new : List (Option Near)) → IsTaken free dist j 0 0 old new
+    → new ≡ old
+taken_nothing free dist j old new h = ext_get_or None new old h.places (λ i lt. h.behind i (omega arith))
+
+best_of_none : (column : List (Option Near)) (w : ℕ) (c : ℕ → Option Near) → with_best column w (near c 0) ≡ column
+best_of_none column w c = ap (with_best column w) (grows_by_one_candidate.no_candidates c)
+
+left_after : (m : ℕ) (items : List Sample) (last_free : Bool) (w : ℕ) (before grown after : Kept)
+    → IsOf m (without_last items) before → IsSplit m items w → IsGrown last_free before grown
+    → IsOffered m items last_free w grown after → last_free ≡ is_free m (series_of items) w → (t : Bool)
+    → last_free ≡ t → after.profile.left ≡ (matrix_profile m (series_of items)).left
+left_after m items last_free w before grown after h split grown_is offered last true some =
     let front = without_last items in
-    let t = reading_of (get_or items (length items - 1) Missing) in
-    let w = length before.row.items in
-    let not_free = last_is m items last_free false w split last none in
-    let row_at : windows (length items) m - 1 ≡ w = omega (arith, split.more) in
+    let c = row_candidate grown.free.items (last_row m items w) in
+    let frees = frees_of m items last_free w before grown h split grown_is last in
+    let found : after.profile.left ≡ with_best (before.profile.left ++ None ∷ []) w (near c (w - excl m)) =
+    offered.left ∙ ap (λ t. with_best grown.profile.left w (near c (offered_before t m w))) some
+    ∙ ap (λ column. with_best column w (near c (w - excl m))) grown_is.left in
+    lefts_grow m (series_of front) (reading_of (get_or items (length items - 1) Missing)) (numbers_in items)
+    grown.free.items before.profile.left after.profile.left split.before frees
+    (last_is m items last_free true w split last some) h.left
+    (subst (λ j. after.profile.left ≡ with_best (before.profile.left ++ None ∷ []) j
+    (near (row_candidate grown.free.items (last_row m items j)) (j - excl m))) (sym split.count) found)
+    ∙ ap (λ a. (matrix_profile m a).left) (sym split.series)
+left_after m items last_free w before grown after h split grown_is offered last false none =
+    let front = without_last items in
+    let c = row_candidate grown.free.items (last_row m items w) in
+    let found : after.profile.left ≡ before.profile.left ++ None ∷ [] =
+    offered.left ∙ ap (λ t. with_best grown.profile.left w (near c (offered_before t m w))) none
+    ∙ best_of_none grown.profile.left w c ∙ grown_is.left in
+    lefts_stay m (series_of front) (reading_of (get_or items (length items - 1) Missing)) (numbers_in items)
+    before.profile.left after.profile.left split.before (last_is m items last_free false w split last none) h.left found
+    ∙ ap (λ a. (matrix_profile m a).left) (sym split.series)
+
+right_after : (m : ℕ) (items : List Sample) (last_free : Bool) (w : ℕ) (before grown after : Kept)
+    → IsOf m (without_last items) before → IsSplit m items w → IsGrown last_free before grown
+    → IsOffered m items last_free w grown after → last_free ≡ is_free m (series_of items) w → (t : Bool)
+    → last_free ≡ t → after.profile.right ≡ (matrix_profile m (series_of items)).right
+right_after m items last_free w before grown after h split grown_is offered last true some =
+    let front = without_last items in
+    let frees = frees_of m items last_free w before grown h split grown_is last in
+    let taken : IsTaken grown.free.items (last_row m items w) w 0 (w - excl m) (before.profile.right ++ None ∷ [])
+    after.profile.right =
+    subst (λ column. IsTaken grown.free.items (last_row m items w) w 0 (w - excl m) column after.profile.right)
+    grown_is.right
+    (subst (λ t. IsTaken grown.free.items (last_row m items w) w 0 (offered_before t m w) grown.profile.right
+    after.profile.right) some offered.right) in
+    rights_grow m (series_of front) (reading_of (get_or items (length items - 1) Missing)) (numbers_in items)
+    grown.free.items before.profile.right after.profile.right split.before frees
+    (last_is m items last_free true w split last some) h.right
+    (subst (λ j. IsTaken grown.free.items (last_row m items j) j 0 (j - excl m) (before.profile.right ++ None ∷ [])
+    after.profile.right) (sym split.count) taken)
+    ∙ ap (λ a. (matrix_profile m a).right) (sym split.series)
+right_after m items last_free w before grown after h split grown_is offered last false none =
+    let front = without_last items in
+    let taken : IsTaken grown.free.items (last_row m items w) w 0 0 grown.profile.right after.profile.right =
+    subst (λ t. IsTaken grown.free.items (last_row m items w) w 0 (offered_before t m w) grown.profile.right
+    after.profile.right) none offered.right in
+    rights_stay m (series_of front) (reading_of (get_or items (length items - 1) Missing)) (numbers_in items)
+    before.profile.right after.profile.right split.before (last_is m items last_free false w split last none) h.right
+    (taken_nothing grown.free.items (last_row m items w) w grown.profile.right after.profile.right taken ∙ grown_is.right)
+    ∙ ap (λ a. (matrix_profile m a).right) (sym split.series)
+
+pub true_false : (t : Bool) → t ≡ true → t ≡ false → ⊥
+true_false t e f = cc
+
+-- what the offers are, by a row of n sums
+pub is_offered : (m : ℕ) (items : List Sample) (last_free : Bool) (w n end : ℕ) (free : List Bool)
+    (new : List (Option Near)) (best : Option Near) (grown after : Kept) → n - 1 ≡ w → free ≡ grown.free.items
+    → end ≡ offered_before last_free m w
+    → IsTaken free (last_row m items (n - 1)) (n - 1) 0 end grown.profile.right new → after.profile.right ≡ new
+    → best ≡ near (row_candidate free (last_row m items (n - 1))) end
+    → after.profile.left ≡ with_best grown.profile.left w best → after.free ≡ grown.free → after.range ≡ grown.range
+    → after.is_narrow ≡ grown.is_narrow → IsOffered m items last_free w grown after
+is_offered m items last_free w n end free new best grown after at free_is end_is taken right best_is left frees range
+    is_narrow =
+    let old = grown.profile.right in
     record {
-      left = lefts_stay m (series_of front) t (numbers_in items) before.profile.left turned.profile.left split.before
-          not_free h.left turned_is.left ∙ ap (λ a. (matrix_profile m a).left) (sym split.series);
-      right = rights_stay m (series_of front) t
-          (numbers_in items) before.profile.right turned.profile.right split.before
-          not_free h.right turned_is.right ∙ ap (λ a. (matrix_profile m a).right) (sym split.series);
-      frees = ap length turned_is.free ∙ length-append before.free.items (last_free ∷ [])
-          ∙ ap (λ n. n + 1) (h.frees ∙ sym h.sums) ∙ sym split.more;
-      free = λ i lt. frees_of m items last_free before turned h split turned_is last i
-          (omega (arith, lt, split.more, split.count)) ∙ ap (λ a. is_free m a i) (sym split.series);
-      sums = turned_is.sums ∙ sym split.more;
-      room = turned_is.room ∙ sym split.more;
-      range = turned_is.range;
-      row = subst (λ j. IsRow (numbers_in items) m j turned.row.items) (sym row_at) turned_is.row;
+      right = subst (IsTaken grown.free.items (last_row m items w) w 0 (offered_before last_free m w) old) (sym right)
+          (subst (λ e. IsTaken grown.free.items (last_row m items w) w 0 e old new) end_is
+          (subst (λ j. IsTaken grown.free.items (last_row m items j) j 0 end old new) at
+          (subst (λ f. IsTaken f (last_row m items (n - 1)) (n - 1) 0 end old new) free_is taken)));
+      left = left ∙ ap (with_best grown.profile.left w) (best_is
+          ∙ ap (λ f. near (row_candidate f (last_row m items (n - 1))) end) free_is
+          ∙ ap (λ j. near (row_candidate grown.free.items (last_row m items j)) end) at
+          ∙ ap (near (row_candidate grown.free.items (last_row m items w))) end_is);
+      free = frees;
+      range = range;
+      is_narrow = is_narrow;
     }
 
-pub kept_grows : (m : ℕ) (items : List Sample) (last_free : Bool) (before turned after : Kept)
-    → IsOf m (without_last items) before → IsSplit m items (length before.row.items)
-    → IsTurned m items last_free before turned → last_free ≡ is_free m (series_of items) (length before.row.items)
-    → last_free ≡ true
-    → IsTaken turned.free.items (slice_index turned.row.items) (length turned.row.items - 1) 0
-    (length turned.row.items - 1 - excl m) turned.profile.right after.profile.right
-    → after.profile.left ≡ with_best turned.profile.left (length turned.row.items - 1)
-    (near (row_candidate turned.free.items (slice_index turned.row.items)) (length turned.row.items - 1 - excl m))
-    → after.free ≡ turned.free → after.range ≡ turned.range → after.row ≡ turned.row → after.next ≡ turned.next
+-- with the last window offered, in 64 or in 128 bits
+pub kept_grows : (m : ℕ) (items : List Sample) (last_free : Bool) (w : ℕ) (before grown after : Kept)
+    → IsOf m (without_last items) before → IsSplit m items w → IsGrown last_free before grown
+    → IsOffered m items last_free w grown after → last_free ≡ is_free m (series_of items) w
+    → w ≡ windows (length (without_last items)) m → HaveRows (w + 1) after → AreWithin grown.range (numbers_in items)
+    → AreLimits (limit_by grown.is_narrow) after.profile.right after.limits.items
+    → (grown.is_narrow ≡ true → SumsFit m grown.range × IsRow (numbers_in items) m w after.narrow.sums.items)
+    → (grown.is_narrow ≡ false → IsRow (numbers_in items) m w after.wide.sums.items)
     → IsOf m items after
-kept_grows m items last_free before turned after h split turned_is last some taken best free_is range_is row_is
-    next_is =
-    let front = without_last items in
-    let t = reading_of (get_or items (length items - 1) Missing) in
-    let w = length before.row.items in
-    let is_free_last = last_is m items last_free true w split last some in
-    let row_at : windows (length items) m - 1 ≡ w = omega (arith, split.more) in
-    let at : length turned.row.items - 1 ≡ windows_of m (series_of front) = omega
-    (arith, turned_is.sums, split.count) in
-    let sums = λ (i : ℕ) (lt : i < windows_of m (series_of front) + 1).
-    turned_is.row i (omega (arith, lt, turned_is.sums, split.count))
-    ∙ ap (sum_at (numbers_in items) m i) (sym split.count) in
-    let frees = frees_of m items last_free before turned h split turned_is last in
+kept_grows m items last_free w before grown after h split grown_is offered last at rows range limits narrow wide =
+    let row_at : w ≡ windows (length items) m - 1 = omega (arith, split.more) in
     record {
-      left = lefts_grow m (series_of front) t (numbers_in items) turned.free.items turned.row.items before.profile.left
-          after.profile.left split.before frees is_free_last sums h.left
-          (subst (λ j. after.profile.left ≡ with_best (before.profile.left ++ None ∷ []) j
-          (near (row_candidate turned.free.items (slice_index turned.row.items)) (j - excl m))) at
-          (subst (λ column. after.profile.left ≡ with_best column (length turned.row.items - 1)
-          (near (row_candidate turned.free.items (slice_index turned.row.items))
-          (length turned.row.items - 1 - excl m))) turned_is.left best))
-          ∙ ap (λ a. (matrix_profile m a).left) (sym split.series);
-      right = rights_grow m (series_of front) t (numbers_in items) turned.free.items turned.row.items
-          before.profile.right after.profile.right split.before frees is_free_last sums h.right
-          (subst (λ j. IsTaken turned.free.items (slice_index turned.row.items) j 0 (j - excl m)
-          (before.profile.right ++ None ∷ []) after.profile.right) at
-          (subst (λ column. IsTaken turned.free.items (slice_index turned.row.items) (length turned.row.items - 1) 0
-          (length turned.row.items - 1 - excl m) column after.profile.right) turned_is.right taken))
-          ∙ ap (λ a. (matrix_profile m a).right) (sym split.series);
-      frees = ap (λ free. length free.items) free_is ∙ ap length turned_is.free
-          ∙ length-append before.free.items (last_free ∷ []) ∙ ap (λ n. n + 1) (h.frees ∙ sym h.sums) ∙ sym split.more;
-      free = λ i lt. ap (λ free. get_or free.items i false) free_is
-          ∙ frees i (omega (arith, lt, split.more, split.count)) ∙ ap (λ a. is_free m a i) (sym split.series);
-      sums = ap (λ row. length row.items) row_is ∙ turned_is.sums ∙ sym split.more;
-      room = ap (λ next. length next.items) next_is ∙ turned_is.room ∙ sym split.more;
-      range = subst (λ range. AreWithin range (numbers_in items)) (sym range_is) turned_is.range;
-      row = subst (λ row. IsRow (numbers_in items) m (windows (length items) m - 1) row.items) (sym row_is)
-          (subst (λ j. IsRow (numbers_in items) m j turned.row.items) (sym row_at) turned_is.row);
-    }
-
-pub turned_is : (m : ℕ) (items : List Sample) (last_free : Bool) (before grown turned : Kept)
-    → grown.profile.left ≡ before.profile.left ++ None ∷ [] → grown.profile.right ≡ before.profile.right ++ None ∷ []
-    → grown.free.items ≡ before.free.items ++ last_free ∷ [] → grown.range ≡ before.range
-    → grown.row.items ≡ before.row.items ++ 0 ∷ [] → turned.profile ≡ grown.profile → turned.free ≡ grown.free
-    → turned.range ≡ grown.range → length turned.row.items ≡ length grown.row.items
-    → length turned.next.items ≡ length grown.row.items
-    → IsRow (numbers_in items) m (length grown.row.items - 1) turned.row.items → AreWithin before.range
-    (numbers_in items)
-    → IsTurned m items last_free before turned
-turned_is m items last_free before grown turned left right free range row profile_is free_is range_is long next sums
-    within =
-    let count : length grown.row.items ≡ length before.row.items + 1 = ap length row ∙ length-append before.row.items
-    (0 ∷ []) in
-    let last : length grown.row.items - 1 ≡ length before.row.items = omega (arith, count) in
-    record {
-      left = ap (λ p. p.left) profile_is ∙ left;
-      right = ap (λ p. p.right) profile_is ∙ right;
-      free = ap (λ f. f.items) free_is ∙ free;
-      range = subst (λ r. AreWithin r (numbers_in items)) (sym (range_is ∙ range)) within;
-      sums = long ∙ count;
-      room = next ∙ count;
-      row = subst (λ j. IsRow (numbers_in items) m j turned.row.items) last sums;
+      left = left_after m items last_free w before grown after h split grown_is offered last last_free refl;
+      right = right_after m items last_free w before grown after h split grown_is offered last last_free refl;
+      frees = ap (λ free. length free.items) offered.free ∙ ap length grown_is.free
+          ∙ length-append before.free.items (last_free ∷ []) ∙ ap (λ n. n + 1) (h.frees ∙ sym at) ∙ sym split.more;
+      free = λ i lt. ap (λ free. get_or free.items i false) offered.free
+          ∙ frees_of m items last_free w before grown h split grown_is last i
+          (omega (arith, lt, split.more, split.count)) ∙ ap (λ a. is_free m a i) (sym split.series);
+      range = subst (λ range. AreWithin range (numbers_in items)) (sym offered.range) range;
+      limits = subst (λ t. AreLimits (limit_by t) after.profile.right after.limits.items) (sym offered.is_narrow) limits;
+      rows = subst (λ n. HaveRows n after) (sym split.more) rows;
+      narrow = λ is. let facts = narrow (sym offered.is_narrow ∙ is) in record {
+        fits = subst (SumsFit m) (sym offered.range) facts.0;
+        row = subst (λ j. IsRow (numbers_in items) m j after.narrow.sums.items) row_at facts.1;
+      };
+      wide = λ is. subst (λ j. IsRow (numbers_in items) m j after.wide.sums.items) row_at
+          (wide (sym offered.is_narrow ∙ is));
     }
 
 -- the columns have a place for each window
 pub rights_count : (m : ℕ) (items : List Sample) (kept : Kept) → IsOf m items kept
-    → length kept.profile.right ≡ length kept.row.items
+    → length kept.profile.right ≡ windows (length items) m
 rights_count m items kept h =
     ap length h.right
     ∙ columns_have_places.count (right_entry (is_allowed m) m (series_of items)) (windows_of m (series_of items))
-    ∙ ap (λ n. windows n m) (length-map items reading_of) ∙ sym h.sums
+    ∙ ap (λ n. windows n m) (length-map items reading_of)
+
+-- ---- limits
+
+limit_of_none : (t : Bool) → limit_by t None ≡ 2 ^ 63
+limit_of_none true = refl
+limit_of_none false = refl
+
+pub limits_grow : (is_narrow : Bool) (right : List (Option Near)) (limits : List ℕ)
+    → AreLimits (limit_by is_narrow) right limits
+    → AreLimits (limit_by is_narrow) (right ++ None ∷ []) (limits ++ 2 ^ 63 ∷ [])
+limits_grow is_narrow right limits h =
+    let count = length-append right (None ∷ []) in
+    record {
+      places = length-append limits (2 ^ 63 ∷ []) ∙ ap (λ n. n + 1) h.places ∙ sym count;
+      each = λ i lt. elim (cases_lt i (length right)) [
+        | inl less ↦ get_or-append limits (2 ^ 63 ∷ []) 0 i (omega (arith, less, h.places)) ∙ h.each i less
+            ∙ ap (limit_by is_narrow) (sym (pushed_before right i less))
+        | inr ge ↦ let same : length limits ≡ i = omega (arith, ge, lt, count, h.places) in
+            subst (λ k. get_or (limits ++ 2 ^ 63 ∷ []) k 0 ≡ limit_by is_narrow (get_or (right ++ None ∷ []) k None)) same
+            (get_or-append_seam limits (2 ^ 63) [] 0 ∙ sym (limit_of_none is_narrow)
+            ∙ ap (limit_by is_narrow) (sym (pushed_last right (length limits) (sym h.places))))
+      ];
+    }
+
+starts_before : (m : ℕ) (may : ℕ → Bool) (a : Series) (i : ℕ) (found : Option Near) → IsNearest m may a i a found
+    → StartsAtMost (windows_of m a) found
+starts_before m may a i None h = tt
+starts_before m may a i (Some found) h = omega (arith, h.window)
+
+-- the right entries start before the windows' end
+pub rights_start : (m : ℕ) (items : List Sample) (w : ℕ) (right : List (Option Near))
+    → windows_of m (series_of items) ≡ w → right ≡ (matrix_profile m (series_of items)).right
+    → AllStartAtMost w (right ++ None ∷ [])
+rights_start m items w right at e i =
+    let a = series_of items in
+    let count : length right ≡ w =
+    ap length e ∙ columns_have_places.count (right_entry (is_allowed m) m a) (windows_of m a) ∙ at in
+    elim (cases_lt i w) [
+      | inl less ↦ subst (StartsAtMost w) (sym (pushed_before right i (omega (arith, less, count))
+          ∙ ap (λ list. get_or list i None) e
+          ∙ columns_have_places.at_place (right_entry (is_allowed m) m a) (windows_of m a) i (omega (arith, less, at))))
+          (subst (λ n. StartsAtMost n (right_entry (is_allowed m) m a i)) at
+          (starts_before m (λ j. is_allowed m i j && nat_lt i j) a i (right_entry (is_allowed m) m a i)
+          (entries_are_nearest.right (is_allowed m) m a i)))
+      | inr ge ↦ subst (StartsAtMost w) (sym (pushed_from right i (omega (arith, ge, count)))) tt
+    ]
+  where
+    pushed_from : (column : List (Option Near)) (i : ℕ) → length column ≤ i → get_or (column ++ None ∷ []) i None ≡ None
+    pushed_from [] zero le = refl
+    pushed_from [] (suc i) le = refl
+    pushed_from (x ∷ column) zero le = absurd (omega (arith, le))
+    pushed_from (x ∷ column) (suc i) le = pushed_from column i (omega (arith, le))
+
+-- ---- the first time
+
+saturated_sum : (sum wide narrow : ℕ) → narrow ≡ min wide (2 ^ 64 - 1) → wide ≡ sum → sum < 2 ^ 63 → narrow ≡ sum
+saturated_sum sum wide narrow e f lt = omega (arith, e, f, lt)
+
+pub narrow_first : (m : ℕ) (items : List Sample) (range : Range) (wide narrow : List ℕ) → 1 ≤ m
+    → length wide ≡ windows (length items) m → length narrow ≡ length wide → AreWithin range (numbers_in items)
+    → SumsFit m range → IsRow (numbers_in items) m (windows (length items) m - 1) wide
+    → ((i : ℕ) → i < length wide → get_or narrow i 0 ≡ min (get_or wide i 0) (2 ^ 64 - 1))
+    → IsRow (numbers_in items) m (windows (length items) m - 1) narrow
+narrow_first m items range wide narrow least long same within fit row sums i lt =
+    let many = length-map items number_in in
+    let below : i < length wide = omega (arith, lt, same) in
+    saturated_sum _ _ _ (sums i below) (row i below)
+    (sum_small range (numbers_in items) m i (windows (length items) m - 1) within fit
+    (omega (arith, below, long, many, least)) (omega (arith, below, long, many, least)))
+
+pub kept_first : (m : ℕ) (items : List Sample) (kept : Kept) → 1 ≤ m
+    → kept.profile.left ≡ (matrix_profile m (series_of items)).left
+    → kept.profile.right ≡ (matrix_profile m (series_of items)).right
+    → length kept.free.items ≡ windows (length items) m
+    → ((i : ℕ) → i < windows (length items) m → get_or kept.free.items i false ≡ is_free m (series_of items) i)
+    → AreWithin kept.range (numbers_in items) → (kept.is_narrow ≡ true → SumsFit m kept.range)
+    → length kept.wide.sums.items ≡ windows (length items) m → length kept.wide.next.items ≡ windows (length items) m
+    → IsRow (numbers_in items) m (windows (length items) m - 1) kept.wide.sums.items
+    → length kept.narrow.sums.items ≡ length kept.wide.sums.items
+    → length kept.narrow.next.items ≡ length kept.wide.sums.items
+    → ((i : ℕ) → i < length kept.wide.sums.items
+    → get_or kept.narrow.sums.items i 0 ≡ min (get_or kept.wide.sums.items i 0) (2 ^ 64 - 1))
+    → AreLimits (limit_by kept.is_narrow) kept.profile.right kept.limits.items → IsOf m items kept
+kept_first m items kept least left right frees free range fits wide next row narrow narrow_next sums limits =
+    record {
+      left = left;
+      right = right;
+      frees = frees;
+      free = free;
+      range = range;
+      limits = limits;
+      rows = record {
+        narrow_sums = narrow ∙ wide;
+        narrow_next = narrow_next ∙ wide;
+        wide_sums = wide;
+        wide_next = next;
+      };
+      narrow = λ is. record {
+        fits = fits is;
+        row = narrow_first m items kept.range kept.wide.sums.items kept.narrow.sums.items least wide narrow range
+            (fits is) row sums;
+      };
+      wide = λ _. row;
+    }
 
 -- ---- a sample without a window
 
@@ -486,26 +587,17 @@ kept_waits m items before lt range h =
           (right_entry (is_allowed m) m (series_of items)) before.profile.right lt h.right;
       frees = h.frees ∙ none;
       free = λ i less. absurd (omega (arith, less, zeros));
-      sums = h.sums ∙ none;
-      room = h.room ∙ none;
       range = range;
-      row = λ i less. absurd (omega (arith, less, h.sums, none, zeros));
+      limits = h.limits;
+      rows = subst (λ n. HaveRows n before) none h.rows;
+      narrow = λ is. record {
+        fits = (h.narrow is).fits;
+        row = λ i less. absurd (omega (arith, less, h.rows.narrow_sums, none, zeros));
+      };
+      wide = λ is i less. absurd (omega (arith, less, h.rows.wide_sums, none, zeros));
     }
 
 -- ---- a wider range
-
-pub kept_wider : (m : ℕ) (items : List Sample) (before after : Kept) → AreWithin after.range (numbers_in items)
-    → after ≡ record before { range = after.range } → IsOf m items before → IsOf m items after
-kept_wider m items before after range e h = subst (IsOf m items) (sym e) (record {
-  left = h.left;
-  right = h.right;
-  frees = h.frees;
-  free = h.free;
-  sums = h.sums;
-  room = h.room;
-  range = range;
-  row = h.row;
-})
 
 pub wider_within : (old new : Range) (numbers : List ℤ) → (0 < length numbers → Reaches new old) → AreWithin old numbers
     → AreWithin new numbers

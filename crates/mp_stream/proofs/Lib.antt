@@ -1,5 +1,6 @@
 pub mod SumLemmas
 pub mod Steps
 pub mod Taken
+pub mod Moving
 pub mod Entries
 pub mod Growing

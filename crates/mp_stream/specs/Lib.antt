@@ -1,5 +1,7 @@
 pub mod Ranges
+pub mod Limits
 pub mod Rows
+pub mod Moves
 pub mod Appended
 pub mod Streams
 pub mod Lending

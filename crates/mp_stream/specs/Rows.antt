@@ -4,6 +4,7 @@ use Rattle.std.specs.Prelude.{slice_index}
 use Rattle.std.specs.Prelude.{slice_index_or, ℤ, pos, Option, Some, None}
 use Rattle.mp_nums.specs.declared.nearest.Near.{Near}
 use Rattle.mp_nums.specs.Near.{nearer_of}
+use Rattle.mp_defs.specs.Window.{excl}
 use Rattle.mp_defs.specs.Distance.{square_gap}
 use Rattle.mp_defs.specs.Least.{near_at}
 use Rattle.mp_partial.specs.Values.{Column, offered}
@@ -57,6 +58,11 @@ pub record CanMove (limit : ℕ) (before : List ℕ) (enters leaves : List ℤ) 
   pub steps : (i : ℕ) → i < length before → CanStep limit (slice_index before i) (slice_index_or enters i (pos 0))
       (slice_index_or leaves i (pos 0)) (last_of enters) (last_of leaves)
 
+-- the sum of window i with the last one: the first is given, and the others are one place on
+abbrev pub moved_row : ℕ → List ℕ → List ℤ → List ℤ → ℕ → ℕ
+moved_row first before enters leaves zero = first
+moved_row first before enters leaves (suc i) = moved before enters leaves i
+
 -- ---- offers
 
 -- window i, where it is free, at its distance
@@ -74,6 +80,10 @@ pub record IsTaken (free : List Bool) (dist : ℕ → ℕ) (j first end : ℕ) (
       → slice_index_or new i None ≡ lowered free dist j i (slice_index_or old i None)
   pub before : (i : ℕ) → i < first → slice_index_or new i None ≡ slice_index_or old i None
   pub behind : (i : ℕ) → end ≤ i → slice_index_or new i None ≡ slice_index_or old i None
+
+-- how many windows the last one is offered to: those before its exclusion zone, where it is free itself
+abbrev pub offered_before : Bool → ℕ → ℕ → ℕ
+offered_before is_free m last = if is_free then last - excl m else 0
 
 -- a column to which the nearest window of window i was offered, where there is one
 abbrev pub with_best : Column → ℕ → Option Near → Column

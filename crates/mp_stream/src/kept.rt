@@ -1,19 +1,23 @@
 //! What a stream keeps of its windows.
 
-ghost use Rattle.std.specs.Prelude.{◌≡◌, ℕ, ◌+◌, ◌-◌, ◌*◌, ◌<◌, ◌≤◌, ◌++◌, ◌∷◌, [], length, false, slice_index, slice_index_or, None, IfOk, IsOk, OnOk};
+ghost use Rattle.std.specs.Prelude.{◌≡◌, ℕ, ◌+◌, ◌-◌, ◌*◌, ◌^◌, ◌<◌, ◌≤◌, ◌++◌, ◌∷◌, [], length, true, false, slice_index, slice_index_or, None, IfOk, IsOk, OnOk};
 ghost use Rattle.mp_defs.specs.Series.{series_of};
-ghost use Rattle.mp_defs.specs.Window.{is_free, windows, excl};
+ghost use Rattle.mp_defs.specs.Window.{is_free, windows};
 ghost use Rattle.mp_defs.specs.Least.{near};
 ghost use Rattle.mp_series.specs.declared.limits.TheConstants.{MIN_WINDOW, MAX_WINDOW};
 ghost use Rattle.mp_tiles.specs.declared.cuts.TheConstants.{MAX_TILE};
 ghost use Rattle.mp_claims.specs.declared.boards.TheConstants.{MAX_WORKERS};
 ghost use Rattle.mp_series.specs.Samples.{number_in, numbers_in};
-ghost use Rattle.mp_stream.specs.Ranges.{AreWithin, Reaches};
-ghost use Rattle.mp_stream.specs.Rows.{sum_at, IsRow, IsTaken, row_candidate, with_best};
+ghost use Rattle.mp_stream.specs.Limits.{AllStartAtMost, AreLimits, limit_of, coarse_limit};
+ghost use Rattle.mp_stream.specs.Ranges.{AreWithin, Reaches, SumsFit};
+ghost use Rattle.mp_stream.specs.Rows.{sum_at, IsRow, IsTaken, row_candidate, offered_before, with_best};
 
-use crate::offers::offer_row;
+use crate::limits::{GREATEST, coarsen, limits_of};
+use crate::narrow::Narrow;
+use crate::offers::{offer_best, offer_row};
 use crate::ranges::{Range, range_of};
-use crate::rows::{last_row, next_row};
+use crate::rows::{last_row, next_narrow_row, next_wide_row};
+use crate::wide::{Wide, widen_sums};
 use mp_nums::{Items, Memory, Sample};
 use mp_outside::Gate;
 use mp_partial::Profile;
@@ -23,15 +27,18 @@ use std::alloc::Global;
 use std::mem::swap;
 use std::thread::Threads;
 
-/// The profile of a series, whether each window is free, and the row of the last window. The next row is made where the
-/// one before the last stood.
+/// The profile of a series, whether each window is free, and the row of the last window: in 64 bits where these hold
+/// every distance, and else in 128. Both kinds of rows have a place for each window, so that one can follow the other
+/// without memory.
 #[derive(Debug, Drop)]
 pub(crate) struct Kept {
     pub(crate) profile: Profile,
     pub(crate) free: Items<bool>,
     pub(crate) range: Range,
-    pub(crate) row: Items<u128>,
-    pub(crate) next: Items<u128>,
+    pub(crate) limits: Items<u64>,
+    pub(crate) is_narrow: bool,
+    pub(crate) narrow: Narrow,
+    pub(crate) wide: Wide,
 }
 
 /// Whether each of so many windows is free.
@@ -77,10 +84,39 @@ fn number(sample: Sample) -> i32
     }
 }
 
+/// The range, with a sample's number. That of the first sample is its number alone.
+fn range_with(range: Range, sample: Sample, is_first: bool) -> Range
+    ensures within { AreWithin result (number_in sample ∷ []) }
+    ensures wider { is_first ≡ false → Reaches result range }
+{
+    let number = number(sample);
+    if is_first {
+        Range {
+            low: number,
+            high: number,
+        }
+    } else {
+        range.around(number)
+    }
+}
+
+/// How many windows the window at `last` is offered to on the right: those before its exclusion zone, where it is free.
+fn count_offered(is_free: bool, m: u32, last: usize) -> usize
+    requires { 1 ≤ m }
+    ensures count { result ≡ offered_before is_free m last }
+    ensures within { result ≤ last }
+{
+    if is_free {
+        last.saturating_sub(excl(m) as usize)
+    } else {
+        0
+    }
+}
+
 impl Kept {
     ghost use Rattle.std.specs.Prelude.{List};
     ghost use Rattle.mp_nums.specs.declared.samples.Sample.{Sample};
-    ghost use Rattle.mp_stream.specs.Streams.{IsOf, room_of, without_last};
+    ghost use Rattle.mp_stream.specs.Streams.{HaveRows, IsOf, IsOffered, room_of, without_last};
 
     /// What is kept of the samples, of which workers compute the profile.
     pub(crate) fn from<R: Threads + Sync, G: Gate>(
@@ -103,12 +139,22 @@ impl Kept {
     {
         let profile = self_join(rt, alloc, samples.lend(), m, tile, workers, gate)?;
         let count = windows(samples.len(), m);
+        let range = whole_range(samples);
+        let wide = Wide {
+            sums: last_row(alloc, samples, m, count)?,
+            next: empty_row(alloc, count)?,
+        };
+        let is_narrow = range.is_narrow(m);
+        let limits = limits_of(alloc, profile.right(), is_narrow)?;
+        let narrow = Narrow::of(alloc, wide.sums.as_slice())?;
         Ok(Kept {
             profile,
             free: free_windows(alloc, samples, m, count)?,
-            range: whole_range(samples),
-            row: last_row(alloc, samples, m, count)?,
-            next: empty_row(alloc, count)?,
+            range,
+            limits,
+            is_narrow,
+            narrow,
+            wide,
         })
     }
 
@@ -121,16 +167,18 @@ impl Kept {
     {
         self.profile.reserve(k)?;
         self.free.reserve(k)?;
-        self.row.reserve(k)?;
-        self.next.reserve(k)
+        self.limits.reserve(k)?;
+        self.narrow.reserve(k)?;
+        self.wide.reserve(k)
     }
 
     /// For how many more windows there is room.
     pub(crate) fn room(&self) -> u64
         ensures { result ≡ room_of self.now }
     {
-        let of_rows = self.row.spare().min(self.next.spare());
-        self.profile.spare().min(self.free.spare().min(of_rows))
+        let of_rows = self.narrow.room().min(self.wide.room());
+        let of_lists = self.free.spare().min(self.limits.spare().min(of_rows));
+        self.profile.spare().min(of_lists)
     }
 
     /// Adds a window without distances.
@@ -140,93 +188,176 @@ impl Kept {
         ensures right { self.new.profile.right ≡ self.old.profile.right ++ None ∷ [] }
         ensures free { self.new.free.items ≡ self.old.free.items ++ is_free ∷ [] }
         ensures range { self.new.range ≡ self.old.range }
-        ensures row { self.new.row.items ≡ self.old.row.items ++ 0 ∷ [] }
-        ensures next { length self.new.next.items ≡ length self.old.next.items + 1 }
+        ensures is_narrow { self.new.is_narrow ≡ self.old.is_narrow }
+        ensures narrow { self.new.narrow.sums.items ≡ self.old.narrow.sums.items ++ 0 ∷ [] }
+        ensures limits { self.new.limits.items ≡ self.old.limits.items ++ 2 ^ 63 ∷ [] }
+        ensures wide { self.new.wide.sums.items ≡ self.old.wide.sums.items ++ 0 ∷ [] }
+        ensures next_narrow { length self.new.narrow.next.items ≡ length self.old.narrow.next.items + 1 }
+        ensures next_wide { length self.new.wide.next.items ≡ length self.old.wide.next.items + 1 }
         ensures room { room_of self.old ≤ room_of self.new + 1 }
     {
         self.profile.grow();
         self.free.push(is_free).unwrap();
-        self.row.push(0).unwrap();
-        self.next.push(0).unwrap();
+        self.limits.push(GREATEST).unwrap();
+        self.narrow.grow();
+        self.wide.grow();
     }
 
-    /// Makes the row of the last window from that of the window before it.
-    fn turn(&mut self, samples: &mut Samples, m: u32)
+    /// Takes a range that reaches as far as the samples. Where sums of 64 bits don't hold it, the row goes on in 128.
+    fn cover(&mut self, m: u32, range: Range)
+        requires rows { HaveRows (length self.old.free.items) self.old }
+        requires limits { length self.old.limits.items ≡ length self.old.profile.right }
+        ensures kept { (items : List Sample) → IsOf m items self.old → AreWithin range (numbers_in items)
+            → IsOf m items self.new }
+        ensures range { self.new.range ≡ range }
+        ensures room { room_of self.new ≡ room_of self.old }
+    {
+        if self.is_narrow && !range.is_narrow(m) {
+            widen_sums(self.narrow.sums.as_slice(), self.wide.sums.as_mut_slice());
+            coarsen(self.profile.right(), self.limits.as_mut_slice());
+            self.is_narrow = false;
+        }
+        self.range = range;
+    }
+
+    /// Makes the row of the last window in 64 bits from that of the window before it, and offers the last window to the
+    /// free windows outside its exclusion zone, where it is free, and the nearest of these to the last window.
+    fn append_narrow(&mut self, samples: &mut Samples, m: u32, is_free: bool)
         requires least { 1 ≤ m }
         requires width { m ≤ MAX_WINDOW }
-        requires some { 1 ≤ length self.old.row.items }
-        requires all { length samples.old.items + 1 ≡ length self.old.row.items + m }
-        requires places { length self.old.next.items ≡ length self.old.row.items }
+        requires some { 1 ≤ length self.old.free.items }
+        requires all { length samples.old.items + 1 ≡ length self.old.free.items + m }
+        requires rows { HaveRows (length self.old.free.items) self.old }
+        requires right { length self.old.profile.right ≡ length self.old.free.items }
         requires range { AreWithin self.old.range (numbers_in samples.old.items) }
-        requires before { (i : ℕ) → i < length self.old.row.items - 1
-            → slice_index self.old.row.items i ≡ sum_at (numbers_in samples.old.items) m i (length self.old.row.items - 1 - 1) }
-        ensures row { IsRow (numbers_in samples.old.items) m (length self.old.row.items - 1) self.new.row.items }
-        ensures sums { length self.new.row.items ≡ length self.old.row.items }
-        ensures next { length self.new.next.items ≡ length self.old.row.items }
-        ensures profile { self.new.profile ≡ self.old.profile }
-        ensures free { self.new.free ≡ self.old.free }
-        ensures range { self.new.range ≡ self.old.range }
+        requires fits { SumsFit m self.old.range }
+        requires before { (i : ℕ) → i < length self.old.free.items - 1
+            → slice_index self.old.narrow.sums.items i
+            ≡ sum_at (numbers_in samples.old.items) m i (length self.old.free.items - 1 - 1) }
+        requires limits { AreLimits limit_of self.old.profile.right self.old.limits.items }
+        requires earlier { AllStartAtMost (length self.old.free.items - 1) self.old.profile.right }
+        ensures offered { IsOffered m samples.old.items is_free (length self.old.free.items - 1) self.old self.new }
+        ensures rows { HaveRows (length self.old.free.items) self.new }
+        ensures row { IsRow (numbers_in samples.old.items) m (length self.old.free.items - 1) self.new.narrow.sums.items }
+        ensures limits { AreLimits limit_of self.new.profile.right self.new.limits.items }
         ensures room { room_of self.new ≡ room_of self.old }
         ensures items { samples.new.items ≡ samples.old.items }
         ensures spare { samples.new.spare ≡ samples.old.spare }
         ensures reads_rise { samples.old.reads ≤ samples.new.reads }
-        ensures reads { samples.new.reads ≤ samples.old.reads + 2 * (length self.old.row.items + m) }
+        ensures reads { samples.new.reads ≤ samples.old.reads + 2 * (length self.old.free.items + m) }
     {
-        let last = self.row.as_slice().len() - 1;
-        next_row(
+        let last = self.profile.len() as usize - 1;
+        let best = next_narrow_row(
             samples,
             m,
             self.range,
-            &self.row.as_slice()[..last],
-            self.next.as_mut_slice(),
+            &self.narrow.sums.as_slice()[..last],
+            self.narrow.next.as_mut_slice(),
+            count_offered(is_free, m, last),
+            self.free.as_slice(),
+            self.limits.as_mut_slice(),
+            &mut self.profile,
         );
-        swap(&mut self.row, &mut self.next);
+        offer_best(&mut self.profile, last, best);
+        swap(&mut self.narrow.sums, &mut self.narrow.next);
     }
 
-    /// Offers the last window to the free windows outside its exclusion zone, and the nearest of them to the last window.
-    fn offer_last(&mut self, m: u32)
-        requires some { 1 ≤ length self.old.row.items }
-        requires right { length self.old.profile.right ≡ length self.old.row.items }
-        requires free { length self.old.free.items ≡ length self.old.row.items }
+    /// Makes the row of the last window in 128 bits from that of the window before it.
+    fn turn(&mut self, samples: &mut Samples, m: u32)
         requires least { 1 ≤ m }
-        ensures right { IsTaken self.old.free.items (slice_index self.old.row.items) (length self.old.row.items - 1) 0
-            (length self.old.row.items - 1 - excl m) self.old.profile.right self.new.profile.right }
-        ensures left { self.new.profile.left ≡ with_best self.old.profile.left (length self.old.row.items - 1)
-            (near (row_candidate self.old.free.items (slice_index self.old.row.items)) (length self.old.row.items - 1 - excl m)) }
+        requires width { m ≤ MAX_WINDOW }
+        requires some { 1 ≤ length self.old.wide.sums.items }
+        requires all { length samples.old.items + 1 ≡ length self.old.wide.sums.items + m }
+        requires places { length self.old.wide.next.items ≡ length self.old.wide.sums.items }
+        requires range { AreWithin self.old.range (numbers_in samples.old.items) }
+        requires before { (i : ℕ) → i < length self.old.wide.sums.items - 1
+            → slice_index self.old.wide.sums.items i
+            ≡ sum_at (numbers_in samples.old.items) m i (length self.old.wide.sums.items - 1 - 1) }
+        ensures row { IsRow (numbers_in samples.old.items) m (length self.old.wide.sums.items - 1) self.new.wide.sums.items }
+        ensures small { (i : ℕ) → i < length self.new.wide.sums.items → slice_index self.new.wide.sums.items i < 2 ^ 79 }
+        ensures sums { length self.new.wide.sums.items ≡ length self.old.wide.sums.items }
+        ensures next { length self.new.wide.next.items ≡ length self.old.wide.sums.items }
+        ensures profile { self.new.profile ≡ self.old.profile }
         ensures free { self.new.free ≡ self.old.free }
         ensures range { self.new.range ≡ self.old.range }
-        ensures row { self.new.row ≡ self.old.row }
-        ensures next { self.new.next ≡ self.old.next }
+        ensures is_narrow { self.new.is_narrow ≡ self.old.is_narrow }
+        ensures narrow { self.new.narrow ≡ self.old.narrow }
+        ensures limits { self.new.limits ≡ self.old.limits }
+        ensures room { room_of self.new ≡ room_of self.old }
+        ensures items { samples.new.items ≡ samples.old.items }
+        ensures spare { samples.new.spare ≡ samples.old.spare }
+        ensures reads_rise { samples.old.reads ≤ samples.new.reads }
+        ensures reads { samples.new.reads ≤ samples.old.reads + 2 * (length self.old.wide.sums.items + m) }
+    {
+        let last = self.wide.sums.as_slice().len() - 1;
+        next_wide_row(
+            samples,
+            m,
+            self.range,
+            &self.wide.sums.as_slice()[..last],
+            self.wide.next.as_mut_slice(),
+        );
+        swap(&mut self.wide.sums, &mut self.wide.next);
+    }
+
+    /// Offers the last window to the free windows outside its exclusion zone, where it is free, and the nearest of these
+    /// to the last window.
+    fn offer_last(&mut self, m: u32, is_free: bool)
+        requires least { 1 ≤ m }
+        requires some { 1 ≤ length self.old.free.items }
+        requires rows { HaveRows (length self.old.free.items) self.old }
+        requires right { length self.old.profile.right ≡ length self.old.free.items }
+        requires small { (i : ℕ) → i < length self.old.wide.sums.items → slice_index self.old.wide.sums.items i < 2 ^ 79 }
+        requires limits { AreLimits coarse_limit self.old.profile.right self.old.limits.items }
+        ensures right { IsTaken self.old.free.items (slice_index self.old.wide.sums.items) (length self.old.free.items - 1) 0
+            (offered_before is_free m (length self.old.free.items - 1)) self.old.profile.right self.new.profile.right }
+        ensures left { self.new.profile.left ≡ with_best self.old.profile.left (length self.old.free.items - 1)
+            (near (row_candidate self.old.free.items (slice_index self.old.wide.sums.items))
+            (offered_before is_free m (length self.old.free.items - 1))) }
+        ensures free { self.new.free ≡ self.old.free }
+        ensures range { self.new.range ≡ self.old.range }
+        ensures is_narrow { self.new.is_narrow ≡ self.old.is_narrow }
+        ensures narrow { self.new.narrow ≡ self.old.narrow }
+        ensures wide { self.new.wide ≡ self.old.wide }
+        ensures limits { AreLimits coarse_limit self.new.profile.right self.new.limits.items }
         ensures room { room_of self.new ≡ room_of self.old }
     {
         let last = self.profile.len() as usize - 1;
-        let end = last.saturating_sub(excl(m) as usize);
         let best = offer_row(
-            self.row.as_slice(),
+            self.wide.sums.as_slice(),
+            count_offered(is_free, m, last),
             self.free.as_slice(),
-            end,
+            self.limits.as_mut_slice(),
             &mut self.profile,
         );
-        if let Some(best) = best {
-            self.profile.offer(last as u64, best.index, best.dist);
-        }
+        offer_best(&mut self.profile, last, best);
     }
 
-    /// Widens the range by the last sample's number.
-    fn widen(&mut self, sample: Sample, is_first: bool)
-        ensures within { AreWithin self.new.range (number_in sample ∷ []) }
-        ensures wider { is_first ≡ false → Reaches self.new.range self.old.range }
-        ensures rest { self.new ≡ record self.old { range = self.new.range } }
+    /// The same as `append_narrow` in 128 bits.
+    fn append_wide(&mut self, samples: &mut Samples, m: u32, is_free: bool)
+        requires least { 1 ≤ m }
+        requires width { m ≤ MAX_WINDOW }
+        requires some { 1 ≤ length self.old.free.items }
+        requires all { length samples.old.items + 1 ≡ length self.old.free.items + m }
+        requires rows { HaveRows (length self.old.free.items) self.old }
+        requires right { length self.old.profile.right ≡ length self.old.free.items }
+        requires range { AreWithin self.old.range (numbers_in samples.old.items) }
+        requires before { (i : ℕ) → i < length self.old.free.items - 1
+            → slice_index self.old.wide.sums.items i
+            ≡ sum_at (numbers_in samples.old.items) m i (length self.old.free.items - 1 - 1) }
+        requires limits { AreLimits coarse_limit self.old.profile.right self.old.limits.items }
+        ensures offered { IsOffered m samples.old.items is_free (length self.old.free.items - 1) self.old self.new }
+        ensures rows { HaveRows (length self.old.free.items) self.new }
+        ensures limits { AreLimits coarse_limit self.new.profile.right self.new.limits.items }
+        ensures row { IsRow (numbers_in samples.old.items) m (length self.old.free.items - 1) self.new.wide.sums.items }
+        ensures room { room_of self.new ≡ room_of self.old }
+        ensures items { samples.new.items ≡ samples.old.items }
+        ensures spare { samples.new.spare ≡ samples.old.spare }
+        ensures reads_rise { samples.old.reads ≤ samples.new.reads }
+        ensures reads { samples.new.reads ≤ samples.old.reads + 2 * (length self.old.free.items + m) }
     {
-        let number = number(sample);
-        self.range = if is_first {
-            Range {
-                low: number,
-                high: number,
-            }
-        } else {
-            self.range.around(number)
-        };
+        self.turn(samples, m);
+        self.offer_last(m, is_free);
     }
 
     /// Adds the window that ends with the last sample.
@@ -244,12 +375,13 @@ impl Kept {
         ensures reads_rise { samples.old.reads ≤ samples.new.reads }
         ensures reads { samples.new.reads ≤ samples.old.reads + 2 * (windows (length samples.old.items) m + m) }
     {
-        let last = self.row.as_slice().len() as u64;
+        let last = self.free.as_slice().len() as u64;
         let is_free = samples.free(last, m);
         self.grow(is_free);
-        self.turn(samples, m);
-        if is_free {
-            self.offer_last(m);
+        if self.is_narrow {
+            self.append_narrow(samples, m, is_free);
+        } else {
+            self.append_wide(samples, m, is_free);
         }
     }
 
@@ -267,7 +399,8 @@ impl Kept {
         ensures reads_rise { samples.old.reads ≤ samples.new.reads }
         ensures reads { samples.new.reads ≤ samples.old.reads + 2 * (windows (length samples.old.items) m + m) }
     {
-        self.widen(sample, samples.len() == 1);
+        let range = range_with(self.range, sample, samples.len() == 1);
+        self.cover(m, range);
         if u64::from(m) <= samples.len() {
             self.append_window(samples, m);
         }

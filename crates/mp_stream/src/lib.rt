@@ -5,15 +5,23 @@
 //! in whole numbers.
 #![tactic(auto)]
 
+mod bests;
 mod kept;
 mod laws;
+mod limits;
+mod moves;
+mod narrow;
+mod narrow_rows;
+mod narrow_sums;
 mod offers;
 mod ranges;
 mod rows;
 mod streams;
 mod sums;
+mod taking;
 #[cfg(test)]
 mod tests;
+mod wide;
 
 pub use laws::entries_grow;
 pub use streams::{AppendRefusal, Stream};

@@ -1,7 +1,10 @@
 //! From which number up to which the numbers of a series reach.
 
-ghost use Rattle.std.specs.Prelude.{◌≤ℤ◌};
+ghost use Rattle.std.specs.Prelude.{◌≡◌, ◌≤ℤ◌, true};
 ghost use Rattle.mp_stream.specs.Ranges.{AreWithin, Reaches};
+
+use crate::limits::GREATEST;
+use crate::sums::square;
 
 /// From which number up to which some numbers reach.
 #[derive(Clone, Copy, Debug)]
@@ -11,6 +14,16 @@ pub(crate) struct Range {
 }
 
 impl Range {
+    ghost use Rattle.mp_stream.specs.Ranges.{SumsFit};
+
+    /// Whether sums of 64 bits hold every distance of windows of `m` numbers in this range: they stay below 2^63.
+    pub(crate) fn is_narrow(self, m: u32) -> bool
+        ensures { result ≡ true → SumsFit m self }
+    {
+        let greatest = u128::from(square(self.high, self.low));
+        u128::from(m) * greatest < u128::from(GREATEST)
+    }
+
     /// The range with this number in it.
     #[inline]
     pub(crate) fn around(self, number: i32) -> Range

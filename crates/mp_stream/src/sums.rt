@@ -7,7 +7,7 @@ ghost use Rattle.mp_stream.specs.Rows.{sum_between, next_of, CanStep, CanMove, m
 
 /// The squared difference of two numbers.
 #[inline]
-fn square(x: i32, y: i32) -> u64
+pub(crate) fn square(x: i32, y: i32) -> u64
     ensures { result ≡ square_gap x y }
 {
     let gap = u64::from(x.abs_diff(y));

@@ -5,7 +5,7 @@ use crate::Stream;
 use mp_nums::{Near, Sample, Slot, Sq};
 use mp_outside::OpenGate;
 use mp_plain::profile;
-use mp_series::Samples;
+use mp_series::{Samples, windows};
 use std::alloc::Global;
 use std::process::Abort;
 use std::test::Fail;
@@ -100,22 +100,77 @@ fn next(state: u64) -> u64 {
         .wrapping_add(1_442_695_040_888_963_407)
 }
 
+/// One of three numbers, so that distances are often equal, or a missing sample.
+fn tied(state: u64) -> Sample {
+    match state >> 59 {
+        0 => GAP,
+        1..=12 => Sample::Value(-1),
+        13..=25 => Sample::Value(2),
+        _ => Sample::Value(0),
+    }
+}
+
 #[test]
 fn ties_and_missing_samples(rt: HostRuntime) -> Result<(), Fail> {
     let mut state = 1;
     for m in 3..21 {
         let mut stream = empty(&rt, rt.alloc(), m)?;
-        for _ in 0..70 {
+        for _ in 0..90 {
             state = next(state);
-            let sample = match state >> 59 {
-                0 => GAP,
-                1..=12 => Sample::Value(-1),
-                13..=25 => Sample::Value(2),
-                _ => Sample::Value(0),
-            };
-            append_each(&rt, &mut stream, &[sample])?;
+            append_each(&rt, &mut stream, &[tied(state)])?;
             expect_whole(&rt, rt.alloc(), &mut stream)?;
         }
+    }
+    Ok(())
+}
+
+/// A small number at first, and later one of the whole range of 32 bits now and then, or a missing sample.
+fn widening(state: u64, k: u32) -> Sample {
+    match state >> 60 {
+        0 => GAP,
+        1 if 60 <= k => Sample::Value(i32::MIN),
+        2 if 60 <= k => Sample::Value(i32::MAX),
+        3 if 60 <= k => Sample::Value((state >> 33) as i32),
+        _ => Sample::Value((state >> 58) as i32 % 3),
+    }
+}
+
+#[test]
+fn a_range_that_outgrows_64_bits(rt: HostRuntime) -> Result<(), Fail> {
+    let mut state = 3;
+    for m in 3..21 {
+        let mut stream = empty(&rt, rt.alloc(), m)?;
+        stream.reserve(120)?;
+        for k in 0..120 {
+            state = next(state);
+            append_each(&rt, &mut stream, &[widening(state, k)])?;
+            expect_whole(&rt, rt.alloc(), &mut stream)?;
+        }
+    }
+    Ok(())
+}
+
+#[test]
+fn a_wide_series_that_grows(rt: HostRuntime) -> Result<(), Fail> {
+    let mut stream = stream_of(&rt, rt.alloc(), &[i32::MAX, i32::MIN, 5].map(Sample::Value))?;
+    let mut state = 9;
+    for k in 60..160 {
+        state = next(state);
+        append_each(&rt, &mut stream, &[widening(state, k)])?;
+        expect_whole(&rt, rt.alloc(), &mut stream)?;
+    }
+    Ok(())
+}
+
+#[test]
+fn windows_without_missing_samples(rt: HostRuntime) -> Result<(), Fail> {
+    let one = Sample::Value(1);
+    let mut stream = stream_of(&rt, rt.alloc(), &[one, one, one, GAP, one, one])?;
+    append_each(&rt, &mut stream, &[one, one, GAP])?;
+    let free: [bool; 7] = [true, false, false, false, true, true, false];
+    assert_eq!(rt; windows(stream.len(), stream.window()), free.len() as u64);
+    for i in 0..free.len() {
+        assert_eq!(rt; stream.free(i as u64), free[i], "window {i}");
     }
     Ok(())
 }

@@ -1,0 +1,42 @@
+#!/bin/sh
+# Nanoseconds for each append and earlier window at window 128, where the 20,000 samples of `ecg.csv` are appended one by
+# one: of a stream and of `stream.cpp` with sums of 64 bits, and of both with sums of 128 bits where the samples are spread
+# over the whole range of 32 bits. Each is timed five times in turn, the least counts, and both have to find the same
+# profile. Needs g++ and the program: `rt run` in crates/stream_bench once.
+set -eu
+here="$(dirname "$0")"
+stream="$here/../crates/stream_bench/out/stream_bench"
+work="$(mktemp -d)"
+trap 'rm -rf "$work"' EXIT
+
+g++ -O3 -march=x86-64-v2 -o "$work/plain" "$here/stream.cpp"
+tr -d '\r' < "$here/../crates/real_series/data/ecg.csv" | awk -F, 'NR > 1 { print $2 }' > "$work/64"
+awk '{ print ($1 - 1203) * 3890000 }' "$work/64" > "$work/128"
+
+# the name of a program, the samples, and the words that run it
+run() {
+    name="$1"
+    samples="$2"
+    shift 2
+    "$@" < "$work/$samples" > "$work/out"
+    sed -n 1p "$work/out" >> "$work/profile.$samples"
+    sed -n 's/ nanoseconds$//p' "$work/out" >> "$work/$name.$samples"
+}
+
+for _ in 1 2 3 4 5; do
+    for bits in 64 128; do
+        run stream "$bits" "$stream" 128 timed
+        run plain "$bits" "$work/plain" "$bits" 128
+    done
+done
+
+for bits in 64 128; do
+    [ "$(sort -u "$work/profile.$bits" | wc -l)" -eq 1 ]
+    least_stream=$(sort -n "$work/stream.$bits" | head -n 1)
+    least_plain=$(sort -n "$work/plain.$bits" | head -n 1)
+    awk -v bits="$bits" -v stream="$least_stream" -v plain="$least_plain" 'BEGIN {
+        windows = 20000 - 127
+        pairs = windows * (windows - 1) / 2
+        printf "%d bits: stream %.2f, C++ %.2f, ratio %.2f\n", bits, stream / pairs, plain / pairs, stream / plain
+    }'
+done

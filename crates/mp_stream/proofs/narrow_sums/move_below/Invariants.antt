@@ -1,0 +1,10 @@
+use Rattle.std.proofs.Common.{◌≡◌, ℕ, ◌^◌, ◌<◌, ◌≤◌, get_or}
+use Rattle.mp_stream.specs.Moves.{moved_by}
+use Rattle.mp_stream.proofs.narrow_sums.move_below.Given as goal
+
+abbrev pub invariant-loop-i : goal.invariant-loop-i
+invariant-loop-i l = record {
+  done : (k : ℕ) → k < l.i → get_or l.sums k 0 ≡ moved_by l.moves k;
+  above : l.below < 2 ^ 63 → (k : ℕ) → k < l.i → l.first ≤ k
+      → (get_or l.limits k 0 ≤ moved_by l.moves k) × (l.best ≤ moved_by l.moves k);
+}

@@ -1,0 +1,15 @@
+use Rattle.std.proofs.Common.{◌≡◌, ◌-◌, length, get_or}
+use Rattle.mp_defs.specs.Least.{near}
+use Rattle.mp_stream.specs.Limits.{AreLimits, coarse_limit}
+use Rattle.mp_stream.specs.Rows.{IsTaken, row_candidate}
+use Rattle.mp_stream.proofs.offers.offer_each.Given as goal
+
+abbrev pub invariant-loop-i : goal.invariant-loop-i
+invariant-loop-i l = record {
+  taken : IsTaken l.free (λ i. get_or l.sums i 0) (length l.sums - 1) l.first l.i l.fn.profile.right l.profile.right;
+  left : l.profile.left ≡ l.fn.profile.left;
+  all : length l.profile.all ≡ length l.fn.profile.all;
+  spare : l.profile.spare ≡ l.fn.profile.spare;
+  limits : AreLimits coarse_limit l.profile.right l.limits;
+  best : l.best ≡ near (row_candidate l.free (λ i. get_or l.sums i 0)) l.i;
+}
