@@ -22,4 +22,6 @@ whole_of text = if are_digits text then Some (value_of text) else None
 -- the same, where the text has at most so many digits and the number is at most this one
 abbrev pub number_of : ℕ → ℕ → List ℕ → Option ℕ
 number_of digits most text =
-    if nat_le (length text) digits && (are_digits text && nat_le (value_of text) most) then Some (value_of text) else None
+    if nat_le (length text) digits && (are_digits text && nat_le (value_of text) most)
+    then Some (value_of text)
+    else None

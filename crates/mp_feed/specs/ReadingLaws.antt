@@ -69,7 +69,8 @@ gave_on {given} {more} {old} {mid} {new} {left} {mid_left} {later} one two = rec
   full = full_on one.overs two.overs mid.left (length two.got) new.left one.full two.full two.count;
   source = λ bytes e.
       let first = one.source bytes e in
-      let none : 0 < one.overs → two.got ≡ [] = λ some. nil_from_length two.got (omega (arith, one.full some, two.count)) in
+      let none : 0 < one.overs → two.got ≡ [] =
+      λ some. nil_from_length two.got (omega (arith, one.full some, two.count)) in
       taken_on first none (two.source first.rest first.later_is);
 }
 
@@ -92,15 +93,18 @@ lines_so_far {reader = reader} gave bytes e =
 
 -- of the bytes that were taken within the limit the lines that an LF ends were given
 pub lines_at_rest : {given : List (List ℕ)} {limit : ℕ} {reader : Reading} {left later : Option (List ℕ)}
-    → (gave : Gave given (at_start limit) reader left later) → IsAtRest reader → ended_lines_left nothing gave.got ≡ given
+    → (gave : Gave given (at_start limit) reader left later) → IsAtRest reader
+    → ended_lines_left nothing gave.got ≡ given
 lines_at_rest {given} {reader = reader} gave rest =
     ap (ended_lines_left nothing) (sym (append-nil gave.got))
     ∙ (gave.ended_are []
-    ∙ (ap (λ ls. given ++ ls) (ap (ended_lines_left reader.holding) (append-nil reader.unread ∙ rest.unread) ∙ rest.none_ended)
+    ∙ (ap (λ ls. given ++ ls)
+    (ap (ended_lines_left reader.holding) (append-nil reader.unread ∙ rest.unread) ∙ rest.none_ended)
     ∙ append-nil given))
 
 -- all of the input was taken, within the limit
-pub record IsAll (bytes : List ℕ) (given : List (List ℕ)) (limit : ℕ) (reader : Reading) (later : Option (List ℕ)) : Type 0 where
+pub record IsAll (bytes : List ℕ) (given : List (List ℕ)) (limit : ℕ) (reader : Reading) (later : Option (List ℕ))
+    : Type 0 where
   pub lines_are : lines_left nothing bytes ≡ given ++ lines_left reader.holding []
   pub read : later ≡ Some []
   pub within : length bytes ≤ limit
@@ -131,8 +135,9 @@ lines_at_end {given} {limit} {reader} gave none within dry bytes e =
     }
 
 -- behind these lines this line comes
-pub line_comes : {given : List (List ℕ)} {limit : ℕ} {reader : Reading} {left mid_left : Option (List ℕ)} (new : Reading)
-    (later : Option (List ℕ)) → Gave given (at_start limit) reader left mid_left → (last : Bool) → IsNext reader new mid_left later (Line last)
+pub line_comes : {given : List (List ℕ)} {limit : ℕ} {reader : Reading} {left mid_left : Option (List ℕ)}
+    (new : Reading) (later : Option (List ℕ)) → Gave given (at_start limit) reader left mid_left
+    → (last : Bool) → IsNext reader new mid_left later (Line last)
     → (bytes : List ℕ) → left ≡ Some bytes
     → (more : List (List ℕ)) × (lines_left nothing bytes ≡ given ++ (new.holding.kept ∷ more))
 line_comes {given} new later gave false next bytes e =

@@ -6,8 +6,8 @@ use Rattle.mp_outside.specs.declared.sinks.Sink.{Ghosts}
 abbrev pub TellsPrefix : Option (List ℕ) → List ℕ → List ℕ → Type 0
 TellsPrefix now before text = (count : ℕ) × (count ≤ length text) × (now ≡ Some (before ++ take count text))
 
--- A report was written whole, and the sink flushed behind it. An empty one left the sink alone. A sink that told what was
--- written tells the report behind it, as far as it has room.
+-- A report was written whole, and the sink flushed behind it. An empty one left the sink alone. A sink that told what
+-- was written tells the report behind it, as far as it has room.
 pub record WroteReport {Out : Type 0} (sink : Ghosts Out) (text : List ℕ) (before now : Out) : Type 0 where
   pub told : (first : List ℕ) → sink.written before ≡ Some first → length first + length text ≤ sink.room before
       → sink.written now ≡ Some (first ++ text)

@@ -14,7 +14,8 @@ nil_rest : (front rest : List ℕ) → front ++ rest ≡ [] → rest ≡ []
 nil_rest front rest empty = nil_from_length rest (omega (arith, length-append front rest, ap length empty))
 
 -- flushed or as it was, and later flushed or as it was then
-flushed_still : {Out : Type 0} (sink : Ghosts Out) {first then_out now : Out} → (sink.flushed then_out ≡ true) ⊎ (then_out ≡ first)
+flushed_still : {Out : Type 0} (sink : Ghosts Out) {first then_out now : Out}
+    → (sink.flushed then_out ≡ true) ⊎ (then_out ≡ first)
     → (sink.flushed now ≡ true) ⊎ (now ≡ then_out) → (sink.flushed now ≡ true) ⊎ (now ≡ first)
 flushed_still sink earlier (inl is) = inl is
 flushed_still sink (inl was) (inr same) = inl (ap sink.flushed same ∙ was)
@@ -26,14 +27,17 @@ module _ {Out : Type 0} {sink : Ghosts Out} where
   wrote_on none later = later
   wrote_on (report one others) later = report one (wrote_on others later)
 
-  pub wrote_one : {text : List ℕ} {before now : Out} → WroteReport sink text before now → Wrote sink (text ∷ []) before now
+  pub wrote_one : {text : List ℕ} {before now : Out}
+      → WroteReport sink text before now → Wrote sink (text ∷ []) before now
   wrote_one one = report one none
 
-  pub wrote_room : {texts : List (List ℕ)} {before now : Out} → Wrote sink texts before now → sink.room now ≡ sink.room before
+  pub wrote_room : {texts : List (List ℕ)} {before now : Out}
+      → Wrote sink texts before now → sink.room now ≡ sink.room before
   wrote_room none = refl
   wrote_room (report one others) = wrote_room others ∙ one.room_is
 
-  pub wrote_faults : {texts : List (List ℕ)} {before now : Out} → Wrote sink texts before now → sink.faults before ≤ sink.faults now
+  pub wrote_faults : {texts : List (List ℕ)} {before now : Out}
+      → Wrote sink texts before now → sink.faults before ≤ sink.faults now
   wrote_faults none = omega arith
   wrote_faults (report one others) = omega (arith, one.faults_rise, wrote_faults others)
 
@@ -49,12 +53,14 @@ module _ {Out : Type 0} {sink : Ghosts Out} where
       ∙ ap Some (append_assoc first text (concat texts))
 
   -- reports without a byte leave the sink alone
-  pub wrote_nothing : {texts : List (List ℕ)} {before now : Out} → Wrote sink texts before now → concat texts ≡ [] → now ≡ before
+  pub wrote_nothing : {texts : List (List ℕ)} {before now : Out}
+      → Wrote sink texts before now → concat texts ≡ [] → now ≡ before
   wrote_nothing none empty = refl
   wrote_nothing (report {text = text} {texts = texts} one others) empty =
       wrote_nothing others (nil_rest text (concat texts) empty) ∙ one.untouched (nil_front text (concat texts) empty)
 
-  flushed_by : {text : List ℕ} {before now : Out} → WroteReport sink text before now → (sink.flushed now ≡ true) ⊎ (now ≡ before)
+  flushed_by : {text : List ℕ} {before now : Out}
+      → WroteReport sink text before now → (sink.flushed now ≡ true) ⊎ (now ≡ before)
   flushed_by {text = []} one = inr (one.untouched refl)
   flushed_by {text = b ∷ bs} one = inl (one.flushed (omega arith))
 
@@ -67,7 +73,8 @@ module _ {Out : Type 0} {sink : Ghosts Out} where
   -- a front of one more report is told behind them
   pub front_told : {texts : List (List ℕ)} {text : List ℕ} {before then_out now : Out}
       → Wrote sink texts before then_out → WroteFront sink text then_out now
-      → (first : List ℕ) → sink.written before ≡ Some first → length first + length (concat texts ++ text) ≤ sink.room before
+      → (first : List ℕ) → sink.written before ≡ Some first
+      → length first + length (concat texts ++ text) ≤ sink.room before
       → TellsPrefix (sink.written now) first (concat texts ++ text)
   front_told {texts = texts} {text = text} {now = now} whole front first told fits =
       let so_far = concat texts in

@@ -1,102 +1,142 @@
 -- Appends that come one behind another.
-use Rattle.std.proofs.Common.{◌≡◌, ℕ, ◌+◌, ◌<◌, ◌≤◌, Bool, true, false, List, [], ◌∷◌, ◌++◌, length, refl, ap, ◌∙◌, sym, subst, arith, append_assoc, append-nil, length-append, nat_lt}
-use Rattle.std.specs.Prelude.{ℤ, Option, Some, None, is_some, Result, Ok, Err, slice_set, if◌then◌else◌, flat_map}
+use Rattle.std.proofs.Common.{◌≡◌, ℕ, ◌+◌, ◌<◌, ◌≤◌, Bool, true, false, not, List, [], ◌∷◌, ◌++◌, length, refl, ap, ◌∙◌, sym, subst, arith, append-nil, length-append, nat_lt}
+use Rattle.std.specs.Prelude.{Option, Some, None, is_some, is_none, unwrap_or, Result, Ok, Err, flat_map}
 use Rattle.std.proofs.lemmas.Bool.{or_parts}
 use Rattle.std.proofs.lemmas.Bool.Decides.{nat_tests}
 use Rattle.mp_defs.specs.Limits.{max_samples}
 use Rattle.mp_defs.specs.Series.{Series}
+use Rattle.mp_text.specs.Rows.{Row, columns_of, onto}
 use Rattle.mp_replies.specs.declared.causes.Cause.{Cause}
-use Rattle.mp_replies.specs.declared.causes.Cause.TheVariants.{Full}
-use Rattle.mp_replies.specs.SampleText.{sample_of}
-use Rattle.mp_replies.specs.State.{Files, Store, State, Open, first_channel, series_at}
-use Rattle.mp_replies.specs.Change.{AddSamples}
+use Rattle.mp_replies.specs.declared.causes.Cause.TheVariants.{Slot, Sample, Full}
+use Rattle.mp_replies.specs.State.{Files, Store, State, Open, store_at, is_closed, channels_in, channels_at, samples_in}
+use Rattle.mp_replies.specs.Change.{Change, AddSamples, changed, extended}
 use Rattle.mp_replies.specs.Command.{Append}
-use Rattle.mp_replies.specs.AppendCommand.{onto_samples, samples_of, added_to}
+use Rattle.mp_replies.specs.Conditions.{first_of, when}
+use Rattle.mp_replies.specs.AppendCommand.{item_of, items_of, read_items, rows_in, bad_in, append_conditions, append_change}
 use Rattle.mp_replies.specs.Line.{Asked, Asks, asked_of}
 use Rattle.mp_replies.specs.Step.{verdict, verdict_by, verdict_of, cause, cause_in, after, after_by}
 use Rattle.mp_replies.specs.Output.{some_refused, state_after}
 use Rattle.mp_replies.specs.Laws.{AppendEach, AppendsAddUp}
+use Rattle.mp_replies.proofs.BadItems.{item_good}
+use Rattle.mp_replies.proofs.Channels.{with_rows, with_rows-is, length-with_rows, with_rows-append, samples_in-with_rows, open_with_channels, store_at-set}
 
 -- ---- samples of items one behind the other
 
-record AreJoined (o : Option ℤ) (r : Result Series ℕ) (samples : Series) : Type 0 where
-  first : ℤ
-  others : Series
-  first_is : o ≡ Some first
-  others_are : r ≡ Ok others
-  whole : samples ≡ Some first ∷ others
+record AreJoined (one : Result Row ℕ) (others : Result (List Row) ℕ) (rows : List Row) : Type 0 where
+  first : Row
+  rest : List Row
+  first_is : one ≡ Ok first
+  rest_are : others ≡ Ok rest
+  whole : rows ≡ first ∷ rest
 
-joined_by : (number : ℕ) (o : Option ℤ) (r : Result Series ℕ) (samples : Series) → onto_samples number o r ≡ Ok samples → AreJoined o r samples
-joined_by number None r samples h = absurd (cc h)
-joined_by number (Some n) (Err bad) samples h = absurd (cc h)
-joined_by number (Some n) (Ok rest) samples h =
-    let same : Some n ∷ rest ≡ samples = cc in
-    record { first = n; others = rest; first_is = refl; others_are = refl; whole = sym same }
+joined_by : (one : Result Row ℕ) (others : Result (List Row) ℕ) (rows : List Row) → onto one others ≡ Ok rows → AreJoined one others rows
+joined_by (Err bad) others rows h = absurd (cc h)
+joined_by (Ok row) (Err bad) rows h = absurd (cc h)
+joined_by (Ok row) (Ok more) rows h =
+    let same : row ∷ more ≡ rows = cc in
+    record { first = row; rest = more; first_is = refl; rest_are = refl; whole = sym same }
 
 -- where all are good their numbers don't matter
-any_number : (a b : ℕ) (items : List (List ℕ)) (samples : Series) → samples_of a items ≡ Ok samples → samples_of b items ≡ Ok samples
-any_number a b [] samples h = h
-any_number a b (item ∷ items) samples h =
-    let joined = joined_by a (sample_of item) (samples_of (a + 1) items) samples h in
-    rw (joined.first_is, any_number (a + 1) (b + 1) items joined.others joined.others_are) (ap Ok (sym joined.whole))
+any_number : (scale n a b : ℕ) (items : List (List ℕ)) (rows : List Row) → items_of scale n a items ≡ Ok rows → items_of scale n b items ≡ Ok rows
+any_number scale n a b [] rows h = h
+any_number scale n a b (item ∷ items) rows h =
+    let joined = joined_by (item_of scale n a item) (items_of scale n (a + 1) items) rows h in
+    rw (item_good scale n a b item joined.first joined.first_is, any_number scale n (a + 1) (b + 1) items joined.rest joined.rest_are)
+    (ap Ok (sym joined.whole))
 
 -- and more may come behind
-samples_of-append : (at : ℕ) (items more : List (List ℕ)) (samples others : Series)
-    → samples_of at items ≡ Ok samples → samples_of 1 more ≡ Ok others → samples_of at (items ++ more) ≡ Ok (samples ++ others)
-samples_of-append at [] more samples others one two =
-    let none : [] ≡ samples = cc in
-    any_number 1 at more others two ∙ ap (λ s. Ok (s ++ others)) none
-samples_of-append at (item ∷ items) more samples others one two =
-    let joined = joined_by at (sample_of item) (samples_of (at + 1) items) samples one in
-    rw (joined.first_is, samples_of-append (at + 1) items more joined.others others joined.others_are two)
-    (ap (λ s. Ok (s ++ others)) (sym joined.whole))
+items_of-append : (scale n at : ℕ) (items more : List (List ℕ)) (rows others : List Row)
+    → items_of scale n at items ≡ Ok rows → items_of scale n 1 more ≡ Ok others → items_of scale n at (items ++ more) ≡ Ok (rows ++ others)
+items_of-append scale n at [] more rows others one two =
+    let none : [] ≡ rows = cc in
+    any_number scale n 1 at more others two ∙ ap (λ (s : List Row). Ok (s ++ others)) none
+items_of-append scale n at (item ∷ items) more rows others one two =
+    let joined = joined_by (item_of scale n at item) (items_of scale n (at + 1) items) rows one in
+    rw (joined.first_is, items_of-append scale n (at + 1) items more joined.rest others joined.rest_are two)
+    (ap (λ (s : List Row). Ok (s ++ others)) (sym joined.whole))
+
+length-items : (scale n at : ℕ) (items : List (List ℕ)) (rows : List Row) → items_of scale n at items ≡ Ok rows → length rows ≡ length items
+length-items scale n at [] rows h = let none : [] ≡ rows = cc in ap length (sym none)
+length-items scale n at (item ∷ items) rows h =
+    let joined = joined_by (item_of scale n at item) (items_of scale n (at + 1) items) rows h in
+    let rest = length-items scale n (at + 1) items joined.rest joined.rest_are in
+    omega (arith, ap length joined.whole, rest)
 
 -- ---- one line
 
-set_first : (stores : List Store) (store : Store) → 0 < length stores → series_at (slice_set stores 0 store) 0 ≡ first_channel store
-set_first [] store h = absurd (omega (arith, h))
-set_first (s ∷ stores) store h = refl
+-- these rows stand behind the samples of the slot's channels, where there was room for them
+record Appended (state later : State) (slot : ℕ) (rows : List Row) : Type 0 where
+  room : samples_in (channels_at state.stores slot) + length rows ≤ max_samples
+  channels : channels_at later.stores slot ≡ with_rows (channels_at state.stores slot) rows
+  scale_is : later.scale ≡ state.scale
 
-set_length : (stores : List Store) (store : Store) → 0 < length stores → 0 < length (slice_set stores 0 store)
-set_length [] store h = absurd (omega (arith, h))
-set_length (s ∷ stores) store h = omega arith
+-- the slot has a channel
+abbrev HasChannel : State → ℕ → Type 0
+HasChannel state slot = 0 < length (channels_at state.stores slot)
 
--- the samples stand behind those of slot 0, where there was room for them
-record Appended (state later : State) (samples : Series) : Type 0 where
-  room : length (series_at state.stores 0) + length samples ≤ max_samples
-  series : series_at later.stores 0 ≡ series_at state.stores 0 ++ samples
-  is_open : 0 < length later.stores
+record Passed (state : State) (slot : ℕ) (items : List (List ℕ)) : Type 0 where
+  rows : List Row
+  rows_are : read_items state.scale (length (channels_at state.stores slot)) items ≡ Ok rows
+  room : samples_in (channels_at state.stores slot) + length items ≤ max_samples
 
-fits : (state : State) (items : List (List ℕ)) (samples : Series) (full : Bool) → 0 < length state.stores
-    → nat_lt max_samples (length (series_at state.stores 0) + length samples) ≡ full
-    → cause_in (verdict_by (Append 0 items) (if full then Err Full else Ok (AddSamples 0 samples))) ≡ None
-    → Appended state (after_by state (verdict_by (Append 0 items) (if full then Err Full else Ok (AddSamples 0 samples)))) samples
-fits state items samples true is_open test none = absurd (cc none)
-fits state items samples false is_open test none = record {
-  room = grind (arith, nat_tests);
-  series = set_first state.stores (Open ((series_at state.stores 0 ++ samples) ∷ [])) is_open;
-  is_open = set_length state.stores (Open ((series_at state.stores 0 ++ samples) ∷ [])) is_open;
-}
+passed_by : (state : State) (slot : ℕ) (items : List (List ℕ)) (closed over : Bool) (read : Result (List Row) ℕ)
+    → read_items state.scale (length (channels_at state.stores slot)) items ≡ read
+    → nat_lt max_samples (samples_in (channels_at state.stores slot) + length items) ≡ over
+    → first_of (when closed Slot ∷ when (not (is_none (bad_in read))) (Sample (unwrap_or (bad_in read) 0)) ∷ when over Full ∷ []) ≡ None
+    → Passed state slot items
+passed_by state slot items true over read is test h = absurd (cc h)
+passed_by state slot items false over (Err bad) is test h = absurd (cc h)
+passed_by state slot items false true (Ok rows) is test h = absurd (cc h)
+passed_by state slot items false false (Ok rows) is test h =
+    record { rows = rows; rows_are = is; room = grind (arith, nat_tests) }
 
-judged : (state : State) (items : List (List ℕ)) (r : Result Series ℕ) → 0 < length state.stores
-    → cause_in (verdict_by (Append 0 items) (added_to 0 (length (series_at state.stores 0)) r)) ≡ None
-    → (samples : Series) × ((r ≡ Ok samples) × Appended state (after_by state (verdict_by (Append 0 items) (added_to 0 (length (series_at state.stores 0)) r))) samples)
-judged state items (Err bad) is_open none = absurd (cc none)
-judged state items (Ok samples) is_open none =
-    (samples, (refl, fits state items samples (nat_lt max_samples (length (series_at state.stores 0) + length samples)) is_open refl none))
+passed : (state : State) (slot : ℕ) (items : List (List ℕ)) → first_of (append_conditions state.scale state.stores slot items) ≡ None → Passed state slot items
+passed state slot items h =
+    passed_by state slot items (is_closed (store_at state.stores slot)) (nat_lt max_samples (samples_in (channels_at state.stores slot) + length items))
+    (read_items state.scale (length (channels_at state.stores slot)) items) refl refl h
 
-one_line : (state : State) (files : Files) (line : List ℕ) (items : List (List ℕ)) → 0 < length state.stores
-    → asked_of line ≡ Asks (Append 0 items) → cause state line files ≡ None
-    → (samples : Series) × ((samples_of 1 items ≡ Ok samples) × Appended state (after state line files) samples)
+unrefused : (o : Option Cause) (change : Change) (items : List (List ℕ)) (slot : ℕ) → cause_in (verdict_by (Append slot items) o change) ≡ None → o ≡ None
+unrefused None change items slot h = refl
+unrefused (Some why) change items slot h = absurd (cc h)
+
+-- the channels behind the change
+changed_channels : (stores : List Store) (slot : ℕ) (added : List Series) → 0 < length (channels_at stores slot)
+    → channels_at (changed stores (AddSamples slot added)) slot ≡ extended (channels_at stores slot) added
+changed_channels stores slot added some =
+    ap channels_in (store_at-set stores slot (Open (extended (channels_at stores slot) added)) (open_with_channels (store_at stores slot) some))
+
+appended_by : (state : State) (slot : ℕ) (items : List (List ℕ)) (o : Option Cause) (p : Passed state slot items) → HasChannel state slot → o ≡ None
+    → Appended state (after_by state (verdict_by (Append slot items) o (append_change state.scale state.stores slot items))) slot p.rows
+appended_by state slot items (Some why) p some is = absurd (cc is)
+appended_by state slot items None p some is =
+    let n = length (channels_at state.stores slot) in
+    let added = columns_of n (rows_in (read_items state.scale n items)) in
+    let long = length-items state.scale n 1 items p.rows p.rows_are in
+    record {
+      room = omega (arith, p.room, long);
+      channels = changed_channels state.stores slot added some
+          ∙ (ap (λ (r : Result (List Row) ℕ). extended (channels_at state.stores slot) (columns_of n (rows_in r))) p.rows_are
+          ∙ sym (with_rows-is (channels_at state.stores slot) p.rows));
+      scale_is = refl;
+    }
+
+one_of : (state : State) (files : Files) (slot : ℕ) (items : List (List ℕ)) → HasChannel state slot
+    → cause_in (verdict_of state files (Asks (Append slot items))) ≡ None
+    → (p : Passed state slot items) × Appended state (after_by state (verdict_of state files (Asks (Append slot items)))) slot p.rows
+one_of state files slot items some none =
+    let o = first_of (append_conditions state.scale state.stores slot items) in
+    let accepted = unrefused o (append_change state.scale state.stores slot items) items slot none in
+    let p = passed state slot items accepted in
+    (p, appended_by state slot items o p some accepted)
+
+one_line : (state : State) (files : Files) (line : List ℕ) (slot : ℕ) (items : List (List ℕ)) → HasChannel state slot
+    → asked_of line ≡ Asks (Append slot items) → cause state line files ≡ None
+    → (p : Passed state slot items) × Appended state (after state line files) slot p.rows
 unfolding cause after verdict
-one_line state files line items is_open asks none =
-    let judge : (asked : Asked) → asked ≡ Asks (Append 0 items) → cause_in (verdict_of state files asked) ≡ None
-    → (samples : Series) × ((samples_of 1 items ≡ Ok samples) × Appended state (after_by state (verdict_of state files asked)) samples) =
-    λ asked is unrefused.
+one_line state files line slot items some asks none =
     let P : Asked → Type 0 = λ a. cause_in (verdict_of state files a) ≡ None
-    → (samples : Series) × ((samples_of 1 items ≡ Ok samples) × Appended state (after_by state (verdict_of state files a)) samples) in
-    subst P (sym is) (judged state items (samples_of 1 items) is_open) unrefused in
-    judge (asked_of line) asks none
+    → (p : Passed state slot items) × Appended state (after_by state (verdict_of state files a)) slot p.rows in
+    subst P (sym asks) (one_of state files slot items some) none
 
 -- ---- several lines
 
@@ -107,48 +147,96 @@ not_some (Some why) h = absurd (cc h)
 all_items : List (List (List ℕ)) → List (List ℕ)
 all_items groups = flat_map (λ items. items) groups
 
-several : (state : State) (files : Files) (first : List ℕ) (lines : List (List ℕ)) (groups : List (List (List ℕ))) → 0 < length state.stores
-    → AppendEach (first ∷ lines) groups → some_refused state files (first ∷ lines) ≡ false
-    → (samples : Series) × ((samples_of 1 (all_items groups) ≡ Ok samples) × Appended state (state_after state files (first ∷ lines)) samples)
+still_has : (state later : State) (slot : ℕ) (rows : List Row) → HasChannel state slot → Appended state later slot rows → HasChannel later slot
+still_has state later slot rows some a =
+    let same : length (channels_at later.stores slot) ≡ length (channels_at state.stores slot) =
+    ap length a.channels ∙ length-with_rows (channels_at state.stores slot) rows in
+    omega (arith, some, same)
+
+record AllAppended (state later : State) (slot : ℕ) (items : List (List ℕ)) : Type 0 where
+  rows : List Row
+  rows_are : read_items state.scale (length (channels_at state.stores slot)) items ≡ Ok rows
+  appended : Appended state later slot rows
+
+both : (state middle later : State) (slot : ℕ) (items more : List (List ℕ)) → HasChannel state slot
+    → (p : Passed state slot items) → Appended state middle slot p.rows → AllAppended middle later slot more
+    → AllAppended state later slot (items ++ more)
+both state middle later slot items more some p one two =
+    let channels = channels_at state.stores slot in
+    let n = length channels in
+    let same : length (channels_at middle.stores slot) ≡ n = ap length one.channels ∙ length-with_rows channels p.rows in
+    let others : read_items state.scale n more ≡ Ok two.rows =
+    ap (λ (s : ℕ). read_items s n more) (sym one.scale_is) ∙ (ap (λ (c : ℕ). read_items middle.scale c more) (sym same) ∙ two.rows_are) in
+    let held : samples_in (channels_at middle.stores slot) ≡ samples_in channels + length p.rows =
+    ap samples_in one.channels ∙ samples_in-with_rows channels p.rows some in
+    record {
+      rows = p.rows ++ two.rows;
+      rows_are = items_of-append state.scale n 1 items more p.rows two.rows p.rows_are others;
+      appended = record {
+        room = omega (arith, two.appended.room, held, length-append p.rows two.rows);
+        channels = two.appended.channels
+            ∙ (ap (λ (cs : List Series). with_rows cs two.rows) one.channels ∙ with_rows-append channels p.rows two.rows);
+        scale_is = two.appended.scale_is ∙ one.scale_is;
+      };
+    }
+
+several : (state : State) (files : Files) (slot : ℕ) (first : List ℕ) (lines : List (List ℕ)) (groups : List (List (List ℕ))) → HasChannel state slot
+    → AppendEach slot (first ∷ lines) groups → some_refused state files (first ∷ lines) ≡ false
+    → AllAppended state (state_after state files (first ∷ lines)) slot (all_items groups)
 unfolding all_items
-several state files first lines [] is_open each good = absurd each
-several state files first [] (items ∷ []) is_open each good =
+several state files slot first lines [] some each good = absurd each
+several state files slot first [] (items ∷ []) some each good =
     let parts = or_parts (is_some (cause state first files)) false good in
-    let one = one_line state files first items is_open each.0 (not_some (cause state first files) parts.0) in
-    (one.0, (ap (samples_of 1) (append-nil items) ∙ one.1.0, one.1.1))
-several state files first [] (items ∷ next ∷ groups) is_open each good = absurd each.1
-several state files first (line ∷ lines) (items ∷ groups) is_open each good =
+    let one = one_line state files first slot items some each.0 (not_some (cause state first files) parts.0) in
+    record {
+      rows = one.0.rows;
+      rows_are = ap (read_items state.scale (length (channels_at state.stores slot))) (append-nil items) ∙ one.0.rows_are;
+      appended = one.1;
+    }
+several state files slot first [] (items ∷ next ∷ groups) some each good = absurd each.1
+several state files slot first (line ∷ lines) (items ∷ groups) some each good =
     let later = after state first files in
     let parts = or_parts (is_some (cause state first files)) (some_refused later files (line ∷ lines)) good in
-    let one = one_line state files first items is_open each.0 (not_some (cause state first files) parts.0) in
-    let rest = several later files line lines groups one.1.1.is_open each.1 parts.1 in (
-      one.0 ++ rest.0,
-      (
-        samples_of-append 1 items (all_items groups) one.0 rest.0 one.1.0 rest.1.0,
-        record {
-          room = omega (arith, rest.1.1.room, ap length one.1.1.series, length-append (series_at state.stores 0) one.0, length-append one.0 rest.0);
-          series = rest.1.1.series ∙ (ap (λ s. s ++ rest.0) one.1.1.series ∙ append_assoc (series_at state.stores 0) one.0 rest.0);
-          is_open = rest.1.1.is_open;
-        },
-      ),
-    )
+    let one = one_line state files first slot items some each.0 (not_some (cause state first files) parts.0) in
+    let rest = several later files slot line lines groups (still_has state later slot one.0.rows some one.1) each.1 parts.1 in
+    both state later (state_after later files (line ∷ lines)) slot items (all_items groups) some one.0 one.1 rest
 
 -- ---- one append of all items
 
-whole_line : (state : State) (files : Files) (whole : List ℕ) (items : List (List ℕ)) (samples : Series) → 0 < length state.stores
-    → asked_of whole ≡ Asks (Append 0 items) → samples_of 1 items ≡ Ok samples
-    → length (series_at state.stores 0) + length samples ≤ max_samples
-    → (cause state whole files ≡ None) × (series_at (after state whole files).stores 0 ≡ series_at state.stores 0 ++ samples)
-unfolding cause after verdict
-whole_line state files whole items samples is_open asks spelled room =
-    let few : nat_lt max_samples (length (series_at state.stores 0) + length samples) ≡ false = grind (arith, nat_tests) in (
-      rw (asks, spelled, few) refl,
-      rw (asks, spelled, few) (set_first state.stores (Open ((series_at state.stores 0 ++ samples) ∷ [])) is_open),
-    )
+none_holds : (state : State) (slot : ℕ) (items : List (List ℕ)) (rows : List Row) → HasChannel state slot
+    → read_items state.scale (length (channels_at state.stores slot)) items ≡ Ok rows
+    → samples_in (channels_at state.stores slot) + length items ≤ max_samples
+    → first_of (append_conditions state.scale state.stores slot items) ≡ None
+none_holds state slot items rows some spelled room =
+    let few : nat_lt max_samples (samples_in (channels_at state.stores slot) + length items) ≡ false = grind (arith, nat_tests) in
+    rw (open_with_channels (store_at state.stores slot) some, spelled, few) refl
+
+whole_of : (state : State) (files : Files) (slot : ℕ) (items : List (List ℕ)) (rows : List Row) → HasChannel state slot
+    → read_items state.scale (length (channels_at state.stores slot)) items ≡ Ok rows
+    → samples_in (channels_at state.stores slot) + length items ≤ max_samples
+    → cause_in (verdict_of state files (Asks (Append slot items))) ≡ None
+whole_of state files slot items rows some spelled room = rw (none_holds state slot items rows some spelled room) refl
+
+whole_line : (state : State) (files : Files) (whole : List ℕ) (slot : ℕ) (items : List (List ℕ)) (rows : List Row) → HasChannel state slot
+    → asked_of whole ≡ Asks (Append slot items) → read_items state.scale (length (channels_at state.stores slot)) items ≡ Ok rows
+    → samples_in (channels_at state.stores slot) + length items ≤ max_samples → cause state whole files ≡ None
+unfolding cause verdict
+whole_line state files whole slot items rows some asks spelled room =
+    ap (λ (a : Asked). cause_in (verdict_of state files a)) asks ∙ whole_of state files slot items rows some spelled room
+
+same_rows : (a b : List Row) (r : Result (List Row) ℕ) → r ≡ Ok a → r ≡ Ok b → a ≡ b
+same_rows a b r one two = cc
 
 pub appends : AppendsAddUp
 unfolding all_items
-appends state files first lines groups whole is_open each asks good =
-    let all = several state files first lines groups is_open each good in
-    let one = whole_line state files whole (all_items groups) all.0 is_open asks all.1.0 all.1.1.room in
-    (one.0, all.1.1.series ∙ sym one.1)
+appends state files slot first lines groups whole some each asks good =
+    let all = several state files slot first lines groups some each good in
+    let items = all_items groups in
+    let n = length (channels_at state.stores slot) in
+    let long = length-items state.scale n 1 items all.rows all.rows_are in
+    let none = whole_line state files whole slot items all.rows some asks all.rows_are (omega (arith, long, all.appended.room)) in
+    let one = one_line state files whole slot items some asks none in
+    let same = same_rows all.rows one.0.rows (read_items state.scale n items) all.rows_are one.0.rows_are in (
+      none,
+      all.appended.channels ∙ (ap (with_rows (channels_at state.stores slot)) same ∙ sym one.1.channels),
+    )

@@ -1,88 +1,131 @@
--- The first item of a line that spells no sample.
-use Rattle.std.proofs.Common.{◌≡◌, ℕ, zero, suc, ◌+◌, ◌-◌, ◌<◌, ◌≤◌, List, [], ◌∷◌, length, refl, ap, ◌∙◌, sym, arith}
-use Rattle.std.specs.Prelude.{ℤ, Option, Some, None, IsSome, Result, Ok, Err, slice_index_or}
+-- The first bad item of a line.
+use Rattle.std.proofs.Common.{◌≡◌, ℕ, zero, suc, ◌+◌, ◌-◌, ◌<◌, ◌≤◌, ◌==◌, Bool, true, false, List, [], ◌∷◌, length, map, refl, ap, ◌∙◌, sym, arith}
+use Rattle.std.specs.Prelude.{Result, Ok, Err, IsOk, slice_index_or, if◌then◌else◌}
 use Rattle.std.proofs.lemmas.List.Elements.{All-cons, All-nil}
-use Rattle.mp_defs.specs.Series.{Series}
-use Rattle.mp_replies.specs.SampleText.{sample_of}
-use Rattle.mp_replies.specs.AppendCommand.{onto_samples, samples_of}
+use Rattle.mp_bytes.specs.Values.{values_in}
+use Rattle.mp_text.specs.Rows.{Row, onto}
+use Rattle.mp_text.specs.declared.refusal.SampleFault.{SampleFault}
+use Rattle.mp_replies.specs.AppendCommand.{row_with, samples_of, item_of, items_of}
 use Rattle.mp_replies.specs.Laws.{AreSpelled, BadItemsAreTheFirst}
 
--- the same of items of which the first has this number
-record IsFirstBadFrom (start : ℕ) (items : List (List ℕ)) (bad : ℕ) : Type 0 where
+-- ---- one item
+
+row_faulty : (number bad : ℕ) (r : Result Row SampleFault) → row_with number r ≡ Err bad → bad ≡ number
+row_faulty number bad (Ok row) h = absurd (cc h)
+row_faulty number bad (Err fault) h = let same : number ≡ bad = cc in sym same
+
+item_faulty_by : (number bad : ℕ) (fits : Bool) (r : Result Row SampleFault) → (if fits then row_with number r else Err number) ≡ Err bad → bad ≡ number
+item_faulty_by number bad true r h = row_faulty number bad r h
+item_faulty_by number bad false r h = let same : number ≡ bad = cc in sym same
+
+-- a bad item is named by its own number
+item_faulty : (scale channels number bad : ℕ) (item : List ℕ) → item_of scale channels number item ≡ Err bad → bad ≡ number
+item_faulty scale channels number bad item h =
+    item_faulty_by number bad (length (values_in item) == channels) (samples_of scale (values_in item)) h
+
+row_good : (a b : ℕ) (r : Result Row SampleFault) (row : Row) → row_with a r ≡ Ok row → row_with b r ≡ Ok row
+row_good a b (Ok row) other h = h
+row_good a b (Err fault) other h = absurd (cc h)
+
+item_good_by : (a b : ℕ) (fits : Bool) (r : Result Row SampleFault) (row : Row) → (if fits then row_with a r else Err a) ≡ Ok row
+    → (if fits then row_with b r else Err b) ≡ Ok row
+item_good_by a b true r row h = row_good a b r row h
+item_good_by a b false r row h = absurd (cc h)
+
+-- the number of a good item doesn't matter
+pub item_good : (scale channels a b : ℕ) (item : List ℕ) (row : Row) → item_of scale channels a item ≡ Ok row → item_of scale channels b item ≡ Ok row
+item_good scale channels a b item row h =
+    item_good_by a b (length (values_in item) == channels) (samples_of scale (values_in item)) row h
+
+-- ---- the first bad one, of items of which the first has this number
+
+record IsFirstBadFrom (scale channels start : ℕ) (items : List (List ℕ)) (bad : ℕ) : Type 0 where
   some : start ≤ bad
   within : bad < start + length items
-  is_bad : sample_of (slice_index_or items (bad - start) []) ≡ None
-  good_before : (k : ℕ) → start + k < bad → IsSome (sample_of (slice_index_or items k []))
+  is_bad : item_of scale channels bad (slice_index_or items (bad - start) []) ≡ Err bad
+  good_before : (k : ℕ) → start + k < bad → IsOk (item_of scale channels (start + k) (slice_index_or items k []))
 
-here : (start : ℕ) (item : List ℕ) (items : List (List ℕ)) → sample_of item ≡ None → IsFirstBadFrom start (item ∷ items) start
-here start item items none =
+here : (scale channels start : ℕ) (item : List ℕ) (items : List (List ℕ)) → item_of scale channels start item ≡ Err start
+    → IsFirstBadFrom scale channels start (item ∷ items) start
+here scale channels start item items bad =
     let at : start - start ≡ 0 = omega arith in
     record {
       some = omega arith;
       within = omega arith;
-      is_bad = rw at none;
+      is_bad = rw at bad;
       good_before = λ k lt. absurd (omega (arith, lt));
     }
 
-later_bad : (start : ℕ) (item : List ℕ) (n : ℤ) (items : List (List ℕ)) (bad : ℕ) → sample_of item ≡ Some n
-    → IsFirstBadFrom (start + 1) items bad → IsFirstBadFrom start (item ∷ items) bad
-later_bad start item n items bad good first =
+later_bad : (scale channels start : ℕ) (item : List ℕ) (row : Row) (items : List (List ℕ)) (bad : ℕ) → item_of scale channels start item ≡ Ok row
+    → IsFirstBadFrom scale channels (start + 1) items bad → IsFirstBadFrom scale channels start (item ∷ items) bad
+later_bad scale channels start item row items bad good first =
     let at : bad - start ≡ suc (bad - (start + 1)) = omega (arith, first.some) in
     record {
       some = omega (arith, first.some);
       within = omega (arith, first.within);
       is_bad = rw at first.is_bad;
-      good_before = λ k. elim k as (λ (j : ℕ). start + j < bad → IsSome (sample_of (slice_index_or (item ∷ items) j []))) [
-        | zero ↦ λ lt. rw good refl
-        | suc j ↦ λ lt. first.good_before j (omega (arith, lt))
+      good_before = λ k. elim k as (λ (j : ℕ). start + j < bad → IsOk (item_of scale channels (start + j) (slice_index_or (item ∷ items) j []))) [
+        | zero ↦ λ lt. let e : start + zero ≡ start = omega arith in rw (e, good) refl
+        | suc j ↦ λ lt. let e : start + suc j ≡ start + 1 + j = omega arith in rw e (first.good_before j (omega (arith, lt)))
       ];
     }
 
-first_by : (start : ℕ) (item : List ℕ) (items : List (List ℕ)) (bad : ℕ) (o : Option ℤ) (r : Result Series ℕ) → sample_of item ≡ o
-    → samples_of (start + 1) items ≡ r → (samples_of (start + 1) items ≡ Err bad → IsFirstBadFrom (start + 1) items bad)
-    → onto_samples start o r ≡ Err bad → IsFirstBadFrom start (item ∷ items) bad
-first_by start item items bad None r is rest later h = let same : start ≡ bad = cc in rw (← same) (here start item items is)
-first_by start item items bad (Some n) (Err other) is rest later h =
-    later_bad start item n items bad is (later (rest ∙ h))
-first_by start item items bad (Some n) (Ok samples) is rest later h = cc
+first_by : (scale channels start : ℕ) (item : List ℕ) (items : List (List ℕ)) (bad : ℕ) (one : Result Row ℕ) (others : Result (List Row) ℕ)
+    → item_of scale channels start item ≡ one → items_of scale channels (start + 1) items ≡ others
+    → (items_of scale channels (start + 1) items ≡ Err bad → IsFirstBadFrom scale channels (start + 1) items bad)
+    → onto one others ≡ Err bad → IsFirstBadFrom scale channels start (item ∷ items) bad
+first_by scale channels start item items bad (Err other) others is rest later h =
+    let same : other ≡ bad = cc in
+    let named : bad ≡ start = item_faulty scale channels start bad item (is ∙ ap Err same) in
+    rw named (here scale channels start item items (is ∙ ap Err (same ∙ named)))
+first_by scale channels start item items bad (Ok row) (Err other) is rest later h =
+    later_bad scale channels start item row items bad is (later (rest ∙ h))
+first_by scale channels start item items bad (Ok row) (Ok rows) is rest later h = cc
 
-first_bad : (start : ℕ) (items : List (List ℕ)) (bad : ℕ) → samples_of start items ≡ Err bad → IsFirstBadFrom start items bad
-first_bad start [] bad h = cc
-first_bad start (item ∷ items) bad h =
-    first_by start item items bad (sample_of item) (samples_of (start + 1) items) refl refl (first_bad (start + 1) items bad) h
+first_bad : (scale channels start : ℕ) (items : List (List ℕ)) (bad : ℕ) → items_of scale channels start items ≡ Err bad
+    → IsFirstBadFrom scale channels start items bad
+first_bad scale channels start [] bad h = cc
+first_bad scale channels start (item ∷ items) bad h =
+    first_by scale channels start item items bad (item_of scale channels start item) (items_of scale channels (start + 1) items) refl refl
+    (first_bad scale channels (start + 1) items bad) h
 
 -- ---- items that are all good
 
-spelled_by : (start : ℕ) (item : List ℕ) (items : List (List ℕ)) (samples : Series) (o : Option ℤ) (r : Result Series ℕ) → sample_of item ≡ o
-    → samples_of (start + 1) items ≡ r
-    → ((rest : Series) → samples_of (start + 1) items ≡ Ok rest → AreSpelled items rest)
-    → onto_samples start o r ≡ Ok samples → AreSpelled (item ∷ items) samples
-spelled_by start item items samples None r is rest later h = cc
-spelled_by start item items samples (Some n) (Err bad) is rest later h = cc
-spelled_by start item items samples (Some n) (Ok others) is rest later h =
-    let spelled = later others rest in
-    let whole : Some n ∷ others ≡ samples = cc in
+spelled_by : (scale channels start : ℕ) (item : List ℕ) (items : List (List ℕ)) (rows : List Row) (one : Result Row ℕ) (others : Result (List Row) ℕ)
+    → item_of scale channels start item ≡ one → items_of scale channels (start + 1) items ≡ others
+    → ((rest : List Row) → items_of scale channels (start + 1) items ≡ Ok rest → AreSpelled scale channels items rest)
+    → onto one others ≡ Ok rows → AreSpelled scale channels (item ∷ items) rows
+spelled_by scale channels start item items rows (Err bad) others is rest later h = cc
+spelled_by scale channels start item items rows (Ok row) (Err bad) is rest later h = cc
+spelled_by scale channels start item items rows (Ok row) (Ok more) is rest later h =
+    let spelled = later more rest in
+    let whole : row ∷ more ≡ rows = cc in
+    let good : item_of scale channels 0 item ≡ Ok row = item_good scale channels start 0 item row is in
     record {
-      all_good = All-cons (λ i. IsSome (sample_of i)) item items (rw is refl) spelled.all_good;
-      samples_are = sym whole ∙ (ap (λ o. o ∷ others) (sym is) ∙ ap (λ s. sample_of item ∷ s) spelled.samples_are);
+      all_good = All-cons (λ i. IsOk (item_of scale channels 0 i)) item items (rw good refl) spelled.all_good;
+      rows_are = ap (map Ok) (sym whole)
+          ∙ (ap (λ (r : Result Row ℕ). r ∷ map Ok more) (sym good)
+          ∙ ap (λ (rs : List (Result Row ℕ)). item_of scale channels 0 item ∷ rs) spelled.rows_are);
     }
 
-pub spelled : (start : ℕ) (items : List (List ℕ)) (samples : Series) → samples_of start items ≡ Ok samples → AreSpelled items samples
-spelled start [] samples h =
-    let none : [] ≡ samples = cc in
-    record { all_good = All-nil (λ i. IsSome (sample_of i)); samples_are = sym none }
-spelled start (item ∷ items) samples h =
-    spelled_by start item items samples (sample_of item) (samples_of (start + 1) items) refl refl (spelled (start + 1) items) h
+pub spelled : (scale channels start : ℕ) (items : List (List ℕ)) (rows : List Row) → items_of scale channels start items ≡ Ok rows
+    → AreSpelled scale channels items rows
+spelled scale channels start [] rows h =
+    let none : [] ≡ rows = cc in
+    record { all_good = All-nil (λ i. IsOk (item_of scale channels 0 i)); rows_are = ap (map Ok) (sym none) }
+spelled scale channels start (item ∷ items) rows h =
+    spelled_by scale channels start item items rows (item_of scale channels start item) (items_of scale channels (start + 1) items) refl refl
+    (spelled scale channels (start + 1) items) h
 
 pub bad_items : BadItemsAreTheFirst
 bad_items = record {
-  bad = λ items number h.
-      let first = first_bad 1 items number h in
+  bad = λ scale channels items number h.
+      let first = first_bad scale channels 1 items number h in
       record {
         some = omega (arith, first.some);
         within = omega (arith, first.within);
         is_bad = first.is_bad;
-        good_before = λ k lt. first.good_before k (omega (arith, lt));
+        good_before = λ k lt. let e : k + 1 ≡ 1 + k = omega arith in rw e (first.good_before k (omega (arith, lt)));
       };
-  good = spelled 1;
+  good = λ scale channels items rows h. spelled scale channels 1 items rows h;
 }

@@ -1,19 +1,20 @@
 -- Which lines are answered by nothing.
 use Rattle.std.proofs.Common.{◌≡◌, ℕ, ◌≤◌, Bool, ◌||◌, ◌&&◌, not, true, false, if◌then◌else◌, List, [], ◌∷◌, length, refl, arith, ap, ◌∙◌, nat_lt}
-use Rattle.std.specs.Prelude.{Result, Ok, Err, ◌==◌, IsTrue, slice_index, filter}
+use Rattle.std.specs.Prelude.{Option, Some, None, Result, Ok, Err, ◌==◌, IsTrue, slice_index, filter}
 use Rattle.std.specs.List.{list_all}
 use Rattle.std.proofs.lemmas.Bool.Decides.{nat_tests}
 use Rattle.mp_bytes.specs.Bytes.{number_sign, is_blank, is_empty, onto_first}
 use Rattle.mp_bytes.specs.Fields.{pieces, fields_in, fields, without_cr, is_blank_line, opens_comment, is_comment}
 use Rattle.mp_bytes.specs.Lines.{max_line}
 use Rattle.mp_replies.specs.declared.causes.Cause.{Cause}
-use Rattle.mp_replies.specs.declared.causes.Cause.TheVariants.{Unknown}
+use Rattle.mp_replies.specs.declared.causes.Cause.TheVariants.{Long}
 use Rattle.mp_replies.specs.State.{Files, State}
 use Rattle.mp_replies.specs.Change.{Change}
+use Rattle.mp_replies.specs.Conditions.{first_of}
 use Rattle.mp_replies.specs.Command.{Command}
 use Rattle.mp_replies.specs.Answer.{Report, Silent, Accepted, Ended}
 use Rattle.mp_replies.specs.Line.{Asked, Nothing, Asks, Faulty, asks, asked_in, asked_of, command_by}
-use Rattle.mp_replies.specs.Step.{Verdict, Passes, IsRefused, IsAccepted, verdict, verdict_by, verdict_of, change_by, after, answer, answer_by, is_last, report_by}
+use Rattle.mp_replies.specs.Step.{Verdict, Passes, IsRefused, IsAccepted, verdict, verdict_by, verdict_of, change_by, conditions, after, answer, answer_by, is_last, report_by}
 use Rattle.mp_replies.specs.Laws.{QuietLinesAreSilent}
 
 -- ---- silent is the answer to what asks for nothing, and to nothing else
@@ -27,14 +28,14 @@ silent_passes later Passes h = refl
 silent_passes later (IsRefused cause) h = cc
 silent_passes later (IsAccepted command change) h = absurd (spoken (is_last command) (report_by later command) h)
 
-judged : (command : Command) (r : Result Change Cause) → verdict_by command r ≡ Passes → ⊥
-judged command (Ok change) h = cc
-judged command (Err cause) h = cc
+judged : (command : Command) (o : Option Cause) (change : Change) → verdict_by command o change ≡ Passes → ⊥
+judged command None change h = cc
+judged command (Some cause) change h = cc
 
 passes_nothing : (state : State) (files : Files) (asked : Asked) → verdict_of state files asked ≡ Passes → asked ≡ Nothing
 passes_nothing state files Nothing h = refl
 passes_nothing state files (Faulty cause) h = cc
-passes_nothing state files (Asks command) h = absurd (judged command (change_by state files command) h)
+passes_nothing state files (Asks command) h = absurd (judged command (first_of (conditions state files command)) (change_by state files command) h)
 
 nothing_is_silent : (later state : State) (files : Files) (asked : Asked) → asked ≡ Nothing → answer_by later (verdict_of state files asked) ≡ Silent
 nothing_is_silent later state files asked h = rw h refl
@@ -88,7 +89,7 @@ quiet_text [] = refl
 quiet_text (b ∷ bs) = quiet_from (is_blank b) b bs (quiet_text bs)
 
 line_asks_by : (line : List ℕ) (long : Bool)
-    → is_nothing (if long then Faulty Unknown else asked_in (fields line)) ≡ (not long && (is_blank_line line || is_comment line))
+    → is_nothing (if long then Faulty Long else asked_in (fields line)) ≡ (not long && (is_blank_line line || is_comment line))
 line_asks_by line true = refl
 line_asks_by line false = fields_ask (fields line) ∙ quiet_text (without_cr line)
 

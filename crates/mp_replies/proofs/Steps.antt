@@ -1,12 +1,18 @@
 -- What holds of every line, by its verdict.
-use Rattle.std.proofs.Common.{◌≡◌, ℕ, Bool, true, false, refl, ap, ◌∙◌}
-use Rattle.std.specs.Prelude.{Some, None, if◌then◌else◌}
+use Rattle.std.proofs.Common.{◌≡◌, ℕ, ◌+◌, Bool, true, false, List, [], ◌∷◌, ◌++◌, refl, ap, ◌∙◌, sym}
+use Rattle.std.specs.Prelude.{Option, Some, None, is_none, if◌then◌else◌}
 use Rattle.mp_replies.specs.declared.causes.Cause.{Cause}
-use Rattle.mp_replies.specs.State.{State, opening}
+use Rattle.mp_replies.specs.State.{Files, State, opening}
 use Rattle.mp_replies.specs.Answer.{Accepted, Ended, Refused, Report}
-use Rattle.mp_replies.specs.Step.{Verdict, Passes, IsRefused, IsAccepted, verdict, cause, cause_in, after, after_by, counted, answer, answer_by, is_last, report_by}
-use Rattle.mp_replies.specs.Output.{session_output}
-use Rattle.mp_replies.specs.Laws.{RefusedLinesChangeNothing, AnswersRefuseByCause, TileAndWorkersChangeNothing}
+use Rattle.mp_replies.specs.Change.{Change}
+use Rattle.mp_replies.specs.Command.{Command, Session, OpenSlot, Load, Append, Window, Profile, Entry, End}
+use Rattle.mp_replies.specs.Conditions.{Condition, first_of}
+use Rattle.mp_replies.specs.LoadCommand.{load_conditions, file_conditions, file_in}
+use Rattle.mp_replies.specs.Line.{Asked, Nothing, Asks, Faulty, asked_of, is_end, ends}
+use Rattle.mp_replies.specs.Step.{Verdict, Passes, IsRefused, IsAccepted, verdict, verdict_by, verdict_of, cause, cause_in, after, after_by, counted, answer, answer_by, change_by, conditions, is_last, report_by, fetches, fetches_by}
+use Rattle.mp_replies.specs.Report.{text_of}
+use Rattle.mp_replies.specs.Output.{reply, session_output}
+use Rattle.mp_replies.specs.Laws.{RefusedLinesChangeNothing, AnswersRefuseByCause, EndsAreAnswered, OtherLinesReadNoFile, TileAndWorkersChangeNothing}
 
 refused_after : (state : State) (v : Verdict) (why : Cause) → cause_in v ≡ Some why → after_by state v ≡ counted state
 refused_after state Passes why h = refl
@@ -41,6 +47,100 @@ refused_by_cause state line files why = (
   answer_refused (after state line files) (verdict state line files) why,
   refused_answer (after state line files) (verdict state line files) why,
 )
+
+-- ---- the line that ends a run
+
+ends_of : (later state : State) (files : Files) (asked : Asked) → is_end asked ≡ true
+    → (report : Report) × (answer_by later (verdict_of state files asked) ≡ Ended report)
+ends_of later state files Nothing h = absurd (cc h)
+ends_of later state files (Faulty why) h = absurd (cc h)
+ends_of later state files (Asks (Session version)) h = absurd (cc h)
+ends_of later state files (Asks (OpenSlot slot channels)) h = absurd (cc h)
+ends_of later state files (Asks (Load slot file columns header)) h = absurd (cc h)
+ends_of later state files (Asks (Append slot items)) h = absurd (cc h)
+ends_of later state files (Asks (Window at start)) h = absurd (cc h)
+ends_of later state files (Asks (Profile at)) h = absurd (cc h)
+ends_of later state files (Asks (Entry at start)) h = absurd (cc h)
+ends_of later state files (Asks End) h = (report_by later End, refl)
+
+goes_on : (later : State) (command : Command) (o : Option Cause) (change : Change) (report : Report) → is_last command ≡ false
+    → answer_by later (verdict_by command o change) ≡ Ended report → ⊥
+goes_on later command (Some why) change report last h = cc
+goes_on later command None change report last h =
+    let is : Accepted (report_by later command) ≡ Ended report = ap (λ b. if b then Ended (report_by later command) else Accepted (report_by later command)) (sym last) ∙ h in
+    cc
+
+answered_end : (later state : State) (files : Files) (asked : Asked) (report : Report)
+    → answer_by later (verdict_of state files asked) ≡ Ended report → is_end asked ≡ true
+answered_end later state files Nothing report h = absurd (cc h)
+answered_end later state files (Faulty why) report h = absurd (cc h)
+answered_end later state files (Asks (Session version)) report h =
+    absurd (goes_on later (Session version) (first_of (conditions state files (Session version))) (change_by state files (Session version)) report refl h)
+answered_end later state files (Asks (OpenSlot slot channels)) report h =
+    absurd (goes_on later (OpenSlot slot channels) (first_of (conditions state files (OpenSlot slot channels))) (change_by state files (OpenSlot slot channels)) report refl h)
+answered_end later state files (Asks (Load slot file columns header)) report h =
+    absurd (goes_on later (Load slot file columns header) (first_of (conditions state files (Load slot file columns header))) (change_by state files (Load slot file columns header)) report refl h)
+answered_end later state files (Asks (Append slot items)) report h =
+    absurd (goes_on later (Append slot items) (first_of (conditions state files (Append slot items))) (change_by state files (Append slot items)) report refl h)
+answered_end later state files (Asks (Window at start)) report h =
+    absurd (goes_on later (Window at start) (first_of (conditions state files (Window at start))) (change_by state files (Window at start)) report refl h)
+answered_end later state files (Asks (Profile at)) report h =
+    absurd (goes_on later (Profile at) (first_of (conditions state files (Profile at))) (change_by state files (Profile at)) report refl h)
+answered_end later state files (Asks (Entry at start)) report h =
+    absurd (goes_on later (Entry at start) (first_of (conditions state files (Entry at start))) (change_by state files (Entry at start)) report refl h)
+answered_end later state files (Asks End) report h = refl
+
+pub ends_answered : EndsAreAnswered
+unfolding ends answer after verdict
+ends_answered state line files = (
+  ends_of (after state line files) state files (asked_of line),
+  λ p. answered_end (after state line files) state files (asked_of line) p.0 p.1,
+)
+
+-- ---- lines that ask for no file
+
+first_by : (holds : Bool) (word why : Cause) (some others : List Condition)
+    → (first_of some ≡ Some why → first_of (some ++ others) ≡ Some why)
+    → (if holds then Some word else first_of some) ≡ Some why
+    → (if holds then Some word else first_of (some ++ others)) ≡ Some why
+first_by true word why some others later h = h
+first_by false word why some others later h = later h
+
+first_refused : (some others : List Condition) (why : Cause) → first_of some ≡ Some why → first_of (some ++ others) ≡ Some why
+first_refused [] others why h = cc
+first_refused (c ∷ some) others why h = first_by c.holds c.word why some others (first_refused some others why) h
+
+load_refused : (state : State) (files others : Files) (slot : ℕ) (file : List ℕ) (columns : List ℕ) (header : Bool) (o : Option Cause)
+    → first_of (load_conditions state.stores slot columns) ≡ o → is_none o ≡ false
+    → verdict_of state files (Asks (Load slot file columns header)) ≡ verdict_of state others (Asks (Load slot file columns header))
+load_refused state files others slot file columns header None is h = absurd (cc h)
+load_refused state files others slot file columns header (Some why) is h =
+    rw (
+      first_refused (load_conditions state.stores slot columns) (file_conditions state.scale columns header (file_in files file)) why is,
+      first_refused (load_conditions state.stores slot columns) (file_conditions state.scale columns header (file_in others file)) why is,
+    ) refl
+
+same_verdict : (state : State) (files others : Files) (asked : Asked) → fetches_by state asked ≡ false
+    → verdict_of state files asked ≡ verdict_of state others asked
+same_verdict state files others Nothing h = refl
+same_verdict state files others (Faulty why) h = refl
+same_verdict state files others (Asks (Session version)) h = refl
+same_verdict state files others (Asks (OpenSlot slot channels)) h = refl
+same_verdict state files others (Asks (Load slot file columns header)) h =
+    load_refused state files others slot file columns header (first_of (load_conditions state.stores slot columns)) refl h
+same_verdict state files others (Asks (Append slot items)) h = refl
+same_verdict state files others (Asks (Window at start)) h = refl
+same_verdict state files others (Asks (Profile at)) h = refl
+same_verdict state files others (Asks (Entry at start)) h = refl
+same_verdict state files others (Asks End) h = refl
+
+pub no_file_read : OtherLinesReadNoFile
+unfolding fetches reply answer after verdict
+no_file_read state line files others h =
+    let same = same_verdict state files others (asked_of line) h in (
+      ap (λ (v : Verdict). text_of (state.lines + 1) (answer_by (after_by state v) v)) same,
+      ap (after_by state) same,
+    )
 
 -- ---- what a run is started with
 

@@ -1,48 +1,79 @@
--- `append 0 ITEM ITEM ..`: samples behind those of the series.
-use Rattle.std.specs.Prelude.{ℕ, ℤ, ◌+◌, nat_lt, List, [], ◌∷◌, length, if◌then◌else◌, Option, Some, None, Result, Ok, Err}
-use Rattle.mp_defs.specs.Limits.{max_samples}
+-- `append S ITEM ITEM ..`: samples behind those of each channel of a slot.
+use Rattle.std.specs.Prelude.{ℕ, ℤ, ◌+◌, ◌==◌, nat_lt, not, is_none, unwrap_or, List, [], ◌∷◌, length, if◌then◌else◌, Option, Some, None, option_map, Result, Ok, Err}
+use Rattle.mp_bytes.specs.Values.{values_in}
+use Rattle.mp_defs.specs.Limits.{max_samples, least_sample, greatest_sample}
 use Rattle.mp_defs.specs.Series.{Series}
-use Rattle.mp_replies.specs.declared.causes.Cause.{Cause}
-use Rattle.mp_replies.specs.declared.causes.Cause.TheVariants.{Unknown, Sample, Full}
-use Rattle.mp_replies.specs.SampleText.{sample_of}
-use Rattle.mp_replies.specs.State.{Store, series_at}
+use Rattle.mp_text.specs.Rows.{Row, columns_of, onto}
+use Rattle.mp_text.specs.SampleText.{sample_of}
+use Rattle.mp_text.specs.declared.refusal.SampleFault.{SampleFault}
+use Rattle.mp_replies.specs.declared.causes.Cause.TheVariants.{Sample, Full}
 use Rattle.mp_replies.specs.Change.{Change, AddSamples}
-use Rattle.mp_replies.specs.Command.{Command, Append, is_slot}
-use Rattle.mp_replies.specs.Answer.{Report, AppendReport}
-use Rattle.mp_replies.specs.Text.{ok_text}
+use Rattle.mp_replies.specs.Command.{Command, Append}
+use Rattle.mp_replies.specs.Conditions.{Condition, when, no_slot}
+use Rattle.mp_replies.specs.Numbers.{number}
+use Rattle.mp_replies.specs.State.{Store, channels_at, samples_in}
 
--- what the fields behind the word ask for
-abbrev pub append_of : List (List ℕ) → Result Command Cause
-append_of (slot ∷ item ∷ items) = if is_slot slot then Ok (Append 0 (item ∷ items)) else Err Unknown
-append_of others = Err Unknown
+-- what the fields behind the word ask for: a slot, and at least one item
+abbrev pub append_of : List (List ℕ) → Option Command
+append_of (slot ∷ item ∷ items) = option_map (λ (s : ℕ). Append s (item ∷ items)) (number slot)
+append_of others = None
 
--- ---- the samples that items spell, or the number of the first item that spells none
+-- ---- one item: the values of one moment, with commas between, one for each channel
 
-abbrev pub onto_samples : ℕ → Option ℤ → Result Series ℕ → Result Series ℕ
-onto_samples number None later = Err number
-onto_samples number (Some n) (Err bad) = Err bad
-onto_samples number (Some n) (Ok samples) = Ok (Some n ∷ samples)
+abbrev pub value_of : ℕ → List ℕ → Result (Option ℤ) SampleFault
+value_of scale text = sample_of least_sample greatest_sample scale text
 
--- the first of these items has this number
-abbrev pub samples_of : ℕ → List (List ℕ) → Result Series ℕ
-samples_of number [] = Ok []
-samples_of number (item ∷ items) = onto_samples number (sample_of item) (samples_of (number + 1) items)
+-- the samples of some values, where each value spells one
+abbrev pub samples_of : ℕ → List (List ℕ) → Result Row SampleFault
+samples_of scale [] = Ok []
+samples_of scale (text ∷ texts) = onto (value_of scale text) (samples_of scale texts)
+
+abbrev pub row_with : ℕ → Result Row SampleFault → Result Row ℕ
+row_with number (Ok row) = Ok row
+row_with number (Err fault) = Err number
+
+-- the samples of the item of this number, or this number where it is bad
+abbrev pub item_of : ℕ → ℕ → ℕ → List ℕ → Result Row ℕ
+item_of scale channels number item =
+    if length (values_in item) == channels then row_with number (samples_of scale (values_in item)) else Err number
+
+-- ---- the samples of some items, of which the first has this number, or the number of the first bad one
+
+abbrev pub items_of : ℕ → ℕ → ℕ → List (List ℕ) → Result (List Row) ℕ
+items_of scale channels number [] = Ok []
+items_of scale channels number (item ∷ items) =
+    onto (item_of scale channels number item) (items_of scale channels (number + 1) items)
+
+abbrev pub rows_in : Result (List Row) ℕ → List Row
+rows_in (Ok rows) = rows
+rows_in (Err bad) = []
+
+abbrev pub bad_in : Result (List Row) ℕ → Option ℕ
+bad_in (Ok rows) = None
+bad_in (Err bad) = Some bad
+
+-- the items of a line on a slot of so many channels, counted from 1
+abbrev pub read_items : ℕ → ℕ → List (List ℕ) → Result (List Row) ℕ
+read_items scale channels items = items_of scale channels 1 items
 
 -- ---- what is refused, and what is changed
 
--- the samples behind so many
-abbrev pub added_to : ℕ → ℕ → Result Series ℕ → Result Change Cause
-added_to slot count (Err bad) = Err (Sample bad)
-added_to slot count (Ok samples) =
-    if nat_lt max_samples (count + length samples) then Err Full else Ok (AddSamples slot samples)
+abbrev pub item_condition : Result (List Row) ℕ → Condition
+item_condition read = when (not (is_none (bad_in read))) (Sample (unwrap_or (bad_in read) 0))
 
-abbrev pub append_change : List Store → ℕ → List (List ℕ) → Result Change Cause
-append_change stores slot items = added_to slot (length (series_at stores slot)) (samples_of 1 items)
+-- the samples and the items together are more than a series can have
+abbrev pub is_over : List Series → List (List ℕ) → Condition
+is_over channels items = when (nat_lt max_samples (samples_in channels + length items)) Full
 
--- ---- the report, from the slots behind the line
+abbrev pub append_conditions : ℕ → List Store → ℕ → List (List ℕ) → List Condition
+append_conditions scale stores slot items =
+    no_slot stores slot
+    ∷ item_condition (read_items scale (length (channels_at stores slot)) items)
+    ∷ is_over (channels_at stores slot) items
+    ∷ []
 
-abbrev pub append_report : List Store → ℕ → Report
-append_report stores slot = AppendReport (length (series_at stores slot))
-
-abbrev pub append_text : ℕ → ℕ → List ℕ
-append_text line samples = ok_text line (Some samples)
+abbrev pub append_change : ℕ → List Store → ℕ → List (List ℕ) → Change
+append_change scale stores slot items =
+    AddSamples slot
+    (columns_of (length (channels_at stores slot))
+    (rows_in (read_items scale (length (channels_at stores slot)) items)))

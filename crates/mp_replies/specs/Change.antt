@@ -1,13 +1,22 @@
 -- What an accepted line changes in the slots.
 use Rattle.std.specs.Prelude.{ℕ, List, [], ◌∷◌, ◌++◌, slice_set}
 use Rattle.mp_defs.specs.Series.{Series}
-use Rattle.mp_replies.specs.State.{Store, Open, series_at}
+use Rattle.mp_replies.specs.State.{Store, Open, channels_at}
 
 pub data Change : Type 0 where
   Keep : Change
-  -- samples behind those of a slot
-  AddSamples : (slot : ℕ) (samples : Series) → Change
+  -- channels in place of what stood in a slot
+  PutChannels : (slot : ℕ) (channels : List Series) → Change
+  -- samples behind those of each channel of a slot
+  AddSamples : (slot : ℕ) (added : List Series) → Change
+
+-- samples behind those of each channel, in their order
+abbrev pub extended : {A : Type 0} → List (List A) → List (List A) → List (List A)
+extended [] added = []
+extended (channel ∷ channels) [] = channel ∷ channels
+extended (channel ∷ channels) (samples ∷ added) = (channel ++ samples) ∷ extended channels added
 
 abbrev pub changed : List Store → Change → List Store
 changed stores Keep = stores
-changed stores (AddSamples slot samples) = slice_set stores slot (Open ((series_at stores slot ++ samples) ∷ []))
+changed stores (PutChannels slot channels) = slice_set stores slot (Open channels)
+changed stores (AddSamples slot added) = slice_set stores slot (Open (extended (channels_at stores slot) added))

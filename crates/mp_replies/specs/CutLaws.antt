@@ -6,8 +6,8 @@ use Rattle.std.proofs.lemmas.Bool.Decides.{nat_tests}
 use Rattle.mp_bytes.specs.Lines.{max_line, most_kept, cut}
 use Rattle.mp_replies.specs.State.{Files, State}
 use Rattle.mp_replies.specs.Answer.{Answer}
-use Rattle.mp_replies.specs.Line.{Asked, asked_of}
-use Rattle.mp_replies.specs.Step.{Verdict, verdict, verdict_of, cause, cause_in, after, after_by, answer, answer_by}
+use Rattle.mp_replies.specs.Line.{Asked, asked_of, is_end, ends}
+use Rattle.mp_replies.specs.Step.{Verdict, verdict, verdict_of, cause, cause_in, after, after_by, answer, answer_by, fetches, fetches_by}
 use Rattle.mp_replies.specs.Report.{text_of}
 use Rattle.mp_replies.specs.Output.{reply}
 use Rattle.mp_replies.specs.Laws.{LongLinesAreCut, LongLinesAreRunCut}
@@ -28,7 +28,8 @@ asked_cut line = cut_by line (nat_lt max_line (length line)) refl
 
 -- ---- a line that was cut is run as the whole line
 
-verdict_cut : (state : State) (files : Files) (line : List ℕ) → verdict state (cut line) files ≡ verdict state line files
+verdict_cut : (state : State) (files : Files) (line : List ℕ)
+    → verdict state (cut line) files ≡ verdict state line files
 unfolding verdict
 verdict_cut state files line = ap (λ (asked : Asked). verdict_of state files asked) (asked_cut line)
 
@@ -40,7 +41,8 @@ pub after_cut : (state : State) (files : Files) (line : List ℕ) → after stat
 unfolding after
 after_cut state files line = ap (after_by state) (verdict_cut state files line)
 
-pub answer_cut : (state : State) (files : Files) (line : List ℕ) → answer state (cut line) files ≡ answer state line files
+pub answer_cut : (state : State) (files : Files) (line : List ℕ)
+    → answer state (cut line) files ≡ answer state line files
 unfolding answer after
 answer_cut state files line = ap (λ (v : Verdict). answer_by (after_by state v) v) (verdict_cut state files line)
 
@@ -48,10 +50,20 @@ pub reply_cut : (state : State) (files : Files) (line : List ℕ) → reply stat
 unfolding reply
 reply_cut state files line = ap (λ (a : Answer). text_of (state.lines + 1) a) (answer_cut state files line)
 
+pub ends_cut : (line : List ℕ) → ends (cut line) ≡ ends line
+unfolding ends
+ends_cut line = ap is_end (asked_cut line)
+
+pub fetches_cut : (state : State) (line : List ℕ) → fetches state (cut line) ≡ fetches state line
+unfolding fetches
+fetches_cut state line = ap (fetches_by state) (asked_cut line)
+
 pub run_cut : LongLinesAreRunCut
 run_cut state line files = record {
   cause_is = cause_cut state files line;
   after_is = after_cut state files line;
   answer_is = answer_cut state files line;
   reply_is = reply_cut state files line;
+  ends_is = ends_cut line;
+  fetches_is = fetches_cut state line;
 }

@@ -1,10 +1,14 @@
 -- Inputs whose lines and reports were written down by hand.
-use Rattle.std.specs.Prelude.{◌≡◌, ℕ, pos, negsuc, true, List, [], ◌∷◌, length, replicate, codes, Some, None}
+use Rattle.std.specs.Prelude.{◌≡◌, ℕ, pos, true, false, List, [], ◌∷◌, ◌++◌, length, replicate, codes, Some, None, Ok, Err}
 use Rattle.mp_defs.specs.Series.{Series}
-use Rattle.mp_replies.specs.declared.causes.Cause.TheVariants.{Sample, Full}
+use Rattle.mp_replies.specs.declared.causes.Cause.TheVariants as cause
 use Rattle.mp_bytes.specs.Fields.{fields}
 use Rattle.mp_bytes.specs.Lines.{lines, ended_lines}
-use Rattle.mp_replies.specs.SampleText.{sample_of}
+use Rattle.mp_replies.specs.AppendCommand.{item_of}
+use Rattle.mp_replies.specs.Command.{Session, OpenSlot, Load, Append, Profile, End}
+use Rattle.mp_replies.specs.Conditions.{first_of}
+use Rattle.mp_replies.specs.Line.{Nothing, Asks, Faulty, asked_of}
+use Rattle.mp_replies.specs.LoadCommand.{file_conditions, file_in, table_in}
 use Rattle.mp_replies.specs.Words.{job}
 use Rattle.mp_replies.specs.State.{Files, State, opening, Closed, Open}
 use Rattle.mp_replies.specs.Step.{cause}
@@ -19,21 +23,55 @@ pub record LinesEndOrNot : Type 0 where
   pub ended_alone : ended_lines (codes "a\nbc") ≡ codes "a" ∷ []
   pub spaced : fields (codes " append\t0  1 2 \r") ≡ codes "append" ∷ codes "0" ∷ codes "1" ∷ codes "2" ∷ []
 
--- numbers and texts that are none
-pub record SpelledNumbers : Type 0 where
-  pub greatest : sample_of (codes "2147483647") ≡ Some (pos 2147483647)
-  pub too_great : sample_of (codes "2147483648") ≡ None
-  pub least : sample_of (codes "-2147483648") ≡ Some (negsuc 2147483647)
-  pub too_small : sample_of (codes "-2147483649") ≡ None
-  pub plus : sample_of (codes "+007") ≡ Some (pos 7)
-  pub no_digits : sample_of (codes "-") ≡ None
-  pub letter : sample_of (codes "1.2x") ≡ None
-  pub empty : sample_of [] ≡ None
-  pub window : job (codes "--window" ∷ codes "003" ∷ []) ≡ Some record { window = 3; scale = 0; tile = 256; workers = 4 }
+-- items on slots of one and of two channels, at scale 2
+pub record SpelledItems : Type 0 where
+  pub plain : item_of 2 1 1 (codes "12.5") ≡ Ok (Some (pos 1250) ∷ [])
+  pub exact : item_of 2 1 1 (codes "12.500") ≡ Ok (Some (pos 1250) ∷ [])
+  pub fine : item_of 2 1 3 (codes "12.505") ≡ Err 3
+  pub missing : item_of 2 1 1 (codes "?") ≡ Ok (None ∷ [])
+  pub two_values : item_of 0 1 4 (codes "1,2") ≡ Err 4
+  pub comma_behind : item_of 0 1 4 (codes "1,") ≡ Err 4
+  pub both : item_of 0 2 1 (codes "1,?") ≡ Ok (Some (pos 1) ∷ None ∷ [])
+  pub both_missing : item_of 0 2 1 (codes ",") ≡ Ok (None ∷ None ∷ [])
+  pub one_value : item_of 0 2 5 (codes "1") ≡ Err 5
+
+-- words in the grammar and outside it
+pub record SpelledWords : Type 0 where
+  pub window : job (codes "--window" ∷ codes "003" ∷ [])
+      ≡ Some record { window = 3; scale = 0; tile = 256; workers = 4 }
+  pub with_scale : job (codes "--window" ∷ codes "12" ∷ codes "--scale" ∷ codes "2" ∷ [])
+      ≡ Some record { window = 12; scale = 2; tile = 256; workers = 4 }
+  pub fine_scale : job (codes "--window" ∷ codes "12" ∷ codes "--scale" ∷ codes "10" ∷ []) ≡ None
+  pub scale_alone : job (codes "--scale" ∷ codes "2" ∷ []) ≡ None
   pub short_window : job (codes "--window" ∷ codes "2" ∷ []) ≡ None
   pub long_window : job (codes "--window" ∷ codes "16385" ∷ []) ≡ None
   pub signed_window : job (codes "--window" ∷ codes "+3" ∷ []) ≡ None
   pub no_words : job [] ≡ None
+
+-- what lines ask for, and why they are refused whatever the state
+pub record AskedLines : Type 0 where
+  pub session : asked_of (codes "session 01") ≡ Asks (Session 1)
+  pub other_version : asked_of (codes "session 2") ≡ Faulty cause.Version
+  pub no_version : asked_of (codes "session") ≡ Faulty cause.Version
+  pub unknown : asked_of (codes "frob 1") ≡ Faulty cause.Unknown
+  pub no_items : asked_of (codes "append 0") ≡ Faulty cause.Fields
+  pub no_slot : asked_of (codes "append x 1") ≡ Faulty cause.Number
+  pub items : asked_of (codes "append 00 1 2") ≡ Asks (Append 0 (codes "1" ∷ codes "2" ∷ []))
+  pub open_two : asked_of (codes "open 1 2") ≡ Asks (OpenSlot 1 2)
+  pub columns : asked_of (codes "load 1 day.csv 1,2 header") ≡ Asks (Load 1 (codes "day.csv") (1 ∷ 2 ∷ []) true)
+  pub no_header : asked_of (codes "load 1 day.csv 1,2") ≡ Asks (Load 1 (codes "day.csv") (1 ∷ 2 ∷ []) false)
+  pub other_header : asked_of (codes "load 1 day.csv 1,2 head") ≡ Faulty cause.Fields
+  pub empty_column : asked_of (codes "load 1 day.csv 1,,2") ≡ Faulty cause.Number
+  pub many_columns : asked_of (codes "load 1 day.csv 1,2,3,4,5,6,7,8,9") ≡ Faulty cause.Number
+  pub great_column : asked_of (codes "load 1 day.csv 65536") ≡ Faulty cause.Number
+  pub slot_alone : asked_of (codes "profile 7") ≡ Asks (Profile record { slot = 7; channel = 0 })
+  pub channel : asked_of (codes "profile 7.1") ≡ Asks (Profile record { slot = 7; channel = 1 })
+  pub no_channel : asked_of (codes "profile 7.") ≡ Faulty cause.Number
+  pub two_points : asked_of (codes "profile 7.1.1") ≡ Faulty cause.Number
+  pub great_number : asked_of (codes "entry 0 18446744073709551616") ≡ Faulty cause.Number
+  pub end : asked_of (codes "end") ≡ Asks End
+  pub end_with_more : asked_of (codes "end 1") ≡ Faulty cause.Fields
+  pub comment : asked_of (codes "  #end") ≡ Nothing
 
 -- the state at the start, at window length 3
 abbrev pub start : State
@@ -41,7 +79,7 @@ start = opening 3 0
 
 -- the fifth item is named
 abbrev pub BadItemIsNamed : Type 0
-BadItemIsNamed = (files : Files) → cause start (codes "append 0 7 8 9 10 1.2x") files ≡ Some (Sample 5)
+BadItemIsNamed = (files : Files) → cause start (codes "append 0 7 8 9 10 1.2x") files ≡ Some (cause.Sample 5)
 
 -- a session whose slot 0 has this series
 abbrev pub session_of : Series → State
@@ -51,7 +89,7 @@ session_of a =
 -- one more sample than a series can have
 abbrev pub FullSeriesIsRefused : Type 0
 FullSeriesIsRefused =
-    (a : Series) (files : Files) → length a ≡ 262144 → cause (session_of a) (codes "append 0 1") files ≡ Some Full
+    (a : Series) (files : Files) → length a ≡ 262144 → cause (session_of a) (codes "append 0 1") files ≡ Some cause.Full
 
 abbrev pub words : List (List ℕ)
 words = codes "--window" ∷ codes "3" ∷ []
@@ -70,3 +108,61 @@ abbrev pub RefusedPieceOutput : Type 0
 RefusedPieceOutput =
     (files : Files) → output words files (codes "append 0 1 2 3 1 2 3\nappend 0 7 8 9 10 1.2x\nprofile 0\n")
     ≡ codes "ok 1 6\nrefused 2 sample 5\nprofile 3 4\n0 0 3 - 3\n1 6 3 - 3\n2 6 0 0 -\n3 0 0 0 -\n"
+
+-- a window that isn't there
+abbrev pub EntryOutput : Type 0
+EntryOutput =
+    (files : Files) → output words files (codes "append 0 1 2 3\nprofile 0\nentry 0 0\nentry 0 1\n")
+    ≡ codes "ok 1 3\nprofile 2 1\n0 - - - -\nentry 3 0 - - - -\nrefused 4 index\n"
+
+abbrev pub ScaledOutput : Type 0
+ScaledOutput =
+    (files : Files) → output (codes "--window" ∷ codes "3" ∷ codes "--scale" ∷ codes "2" ∷ []) files
+    (codes "append 0 12.5 12.500 12.505\nappend 0 12.5 12.500 -.5\nwindow 0 0\n")
+    ≡ codes "refused 1 sample 3\nok 2 3\nwindow 3 0 12.50 12.50 -0.50\n"
+
+-- the words, in their order
+abbrev pub RefusalsOutput : Type 0
+RefusalsOutput =
+    (files : Files) → output words files
+    (codes "session 2\nsession 1\nsession 1\nfrob 1\nappend 0\n"
+    ++ codes "append x 1\nappend 9 1\nappend 3 1\nprofile 0.1\nentry 9.9 x\n")
+    ≡ codes "refused 1 version\nok 2\nrefused 3 version\nrefused 4 unknown\nrefused 5 fields\n"
+    ++ codes "refused 6 number\nrefused 7 slot\nrefused 8 slot\nrefused 9 channel\nrefused 10 number\n"
+
+-- no line behind `end` is run
+abbrev pub EndOutput : Type 0
+EndOutput =
+    (files : Files) → output words files (codes "append 0 1\nend 1\nend\nfrob\n")
+    ≡ codes "ok 1 1\nrefused 2 fields\nok 3\n"
+
+-- what files give to a load, and what they are refused for
+pub record LoadedFiles : Type 0 where
+  pub under_header : table_in 1 (1 ∷ 2 ∷ []) true (codes "time,load,temp\n0,1.0,7.5\n1,,\"7.5\"\n")
+      ≡ Ok ((Some (pos 10) ∷ None ∷ []) ∷ (Some (pos 75) ∷ Some (pos 75) ∷ []) ∷ [])
+  pub in_their_order : table_in 0 (2 ∷ 0 ∷ []) false (codes "1,2,3\n")
+      ≡ Ok ((Some (pos 3) ∷ []) ∷ (Some (pos 1) ∷ []) ∷ [])
+  pub no_bytes : table_in 0 (0 ∷ []) false [] ≡ Ok ([] ∷ [])
+  pub header_unnamed : first_of (file_conditions 1 (1 ∷ []) false (Some (codes "time,load\n0,1.0\n")))
+      ≡ Some (cause.Record 1)
+  pub missing_field : first_of (file_conditions 0 (1 ∷ []) false (Some (codes "1,2\n3,4\n5,6\n7\n9,10\n")))
+      ≡ Some (cause.Record 4)
+  pub no_file : first_of (file_conditions 0 (1 ∷ []) false None) ≡ Some cause.File
+
+-- the words of a run at scale 1
+abbrev pub tenths : List (List ℕ)
+tenths = codes "--window" ∷ codes "3" ∷ codes "--scale" ∷ codes "1" ∷ []
+
+-- a column of a file under a header, at the scale of the words
+abbrev pub LoadOutput : Type 0
+LoadOutput =
+    (files : Files) → file_in files (codes "day.csv") ≡ Some (codes "time,load\n0,1.5\n1,\n2,-2\n")
+    → output tenths files (codes "append 0 7\nload 0 day.csv 1 header\nwindow 0 0\n")
+    ≡ codes "ok 1 1\nok 2 3\nwindow 3 0 1.5 ? -2.0\n"
+
+-- channels that are opened in place of what stood there, and items with a value for each of them
+abbrev pub OpenOutput : Type 0
+OpenOutput =
+    (files : Files) → output words files
+    (codes "append 0 4 5\nopen 0 2\nappend 0 1,? ,2\nappend 0 1\nopen 1 1\nprofile 0.1\nprofile 1.1\n")
+    ≡ codes "ok 1 2\nok 2 0\nok 3 2\nrefused 4 sample 1\nok 5 0\nprofile 6 0\nrefused 7 channel\n"

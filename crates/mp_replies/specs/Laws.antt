@@ -1,19 +1,19 @@
 -- What holds of every line and of every run.
-use Rattle.std.specs.Prelude.{◌≡◌, ℕ, ◌+◌, ◌-◌, ◌<◌, ◌≤◌, ◌↔◌, ◌||◌, false, IsTrue, IsSome, List, [], ◌∷◌, All, length, map}
-use Rattle.std.specs.Prelude.{slice_index_or, Some, None, Ok, Err}
-use Rattle.std.specs.Prelude.{flat_map}
+use Rattle.std.specs.Prelude.{◌≡◌, ℕ, ◌+◌, ◌-◌, ◌<◌, ◌≤◌, ◌↔◌, ◌||◌, true, false, IsTrue, IsOk, List, [], ◌∷◌, All, length, map}
+use Rattle.std.specs.Prelude.{slice_index_or, Some, None, Ok, Err, flat_map}
 use Rattle.mp_bytes.specs.Fields.{is_blank_line, is_comment}
 use Rattle.mp_bytes.specs.Lines.{max_line, cut}
-use Rattle.mp_defs.specs.Series.{Series}
+use Rattle.mp_text.specs.Rows.{Row}
 use Rattle.mp_replies.specs.declared.causes.Cause.{Cause}
-use Rattle.mp_replies.specs.SampleText.{sample_of}
+use Rattle.mp_replies.specs.declared.causes.Cause.TheVariants as words
 use Rattle.mp_replies.specs.Words.{Setup}
-use Rattle.mp_replies.specs.State.{Files, State, series_at}
-use Rattle.mp_replies.specs.Answer.{Silent, Refused}
-use Rattle.mp_replies.specs.Command.{Append}
-use Rattle.mp_replies.specs.AppendCommand.{samples_of}
-use Rattle.mp_replies.specs.Line.{Asks, asked_of}
-use Rattle.mp_replies.specs.Step.{cause, after, counted, answer}
+use Rattle.mp_replies.specs.State.{Files, State, channels_at}
+use Rattle.mp_replies.specs.Answer.{Silent, Refused, Ended, Report}
+use Rattle.mp_replies.specs.Command.{Command, Append}
+use Rattle.mp_replies.specs.Conditions.{Condition}
+use Rattle.mp_replies.specs.AppendCommand.{item_of, read_items}
+use Rattle.mp_replies.specs.Line.{Asks, asked_of, ends}
+use Rattle.mp_replies.specs.Step.{cause, after, counted, answer, conditions, fetches}
 use Rattle.mp_replies.specs.Output.{reply, some_refused, state_after, output_by}
 
 abbrev pub RefusedLinesChangeNothing : Type 0
@@ -37,12 +37,15 @@ QuietLinesAreSilent =
 abbrev pub LongLinesAreCut : Type 0
 LongLinesAreCut = (line : List ℕ) → asked_of (cut line) ≡ asked_of line
 
--- a cut line has the cause, the state behind it, the answer and the report of the whole
+-- a cut line has the cause, the state behind it, the answer and the report of the whole, and ends the run and asks for
+-- a file where the whole does
 pub record IsRunCut (state : State) (line : List ℕ) (files : Files) : Type 0 where
   pub cause_is : cause state (cut line) files ≡ cause state line files
   pub after_is : after state (cut line) files ≡ after state line files
   pub answer_is : answer state (cut line) files ≡ answer state line files
   pub reply_is : reply state (cut line) files ≡ reply state line files
+  pub ends_is : ends (cut line) ≡ ends line
+  pub fetches_is : fetches state (cut line) ≡ fetches state line
 
 abbrev pub LongLinesAreRunCut : Type 0
 LongLinesAreRunCut = (state : State) (line : List ℕ) (files : Files) → IsRunCut state line files
@@ -53,35 +56,86 @@ TileAndWorkersChangeNothing =
     (a b : Setup) (files : Files) (bytes : List ℕ) → a.window ≡ b.window → a.scale ≡ b.scale
     → output_by (Some a) files bytes ≡ output_by (Some b) files bytes
 
--- item bad, counted from 1, spells no sample, and each earlier one spells one
-pub record IsFirstBad (items : List (List ℕ)) (bad : ℕ) : Type 0 where
+-- a line ends the run exactly where its answer is that of an accepted line that ends it
+abbrev pub EndsAreAnswered : Type 0
+EndsAreAnswered =
+    (state : State) (line : List ℕ) (files : Files)
+    → (ends line ≡ true) ↔ ((report : Report) × (answer state line files ≡ Ended report))
+
+-- files change nothing of a line that asks for none
+abbrev pub OtherLinesReadNoFile : Type 0
+OtherLinesReadNoFile =
+    (state : State) (line : List ℕ) (files others : Files) → fetches state line ≡ false
+    → (reply state line files ≡ reply state line others) × (after state line files ≡ after state line others)
+
+-- ---- the order of the words
+
+-- the place of a word among all
+abbrev pub rank : Cause → ℕ
+rank words.Long = 0
+rank words.Version = 1
+rank words.Unknown = 2
+rank words.Fields = 3
+rank words.Number = 4
+rank words.Slot = 5
+rank words.Channel = 6
+rank (words.Sample number) = 7
+rank words.Full = 8
+rank words.File = 9
+rank words.FileSize = 10
+rank (words.Record number) = 11
+rank words.Rows = 12
+rank words.Index = 13
+
+-- the word of each stands before that of the next
+abbrev pub StandInOrder : List Condition → Type 0
+StandInOrder [] = Unit {0}
+StandInOrder (last ∷ []) = Unit {0}
+StandInOrder (first ∷ next ∷ others) = (rank first.word < rank next.word) × StandInOrder (next ∷ others)
+
+-- the conditions of a command stand in the order of the words, so that of two that hold the earlier word is the answer
+abbrev pub WordsStandInOrder : Type 0
+WordsStandInOrder = (state : State) (files : Files) (command : Command) → StandInOrder (conditions state files command)
+
+-- ---- items
+
+-- item bad, counted from 1, is bad, and each earlier one is good
+pub record IsFirstBad (scale channels : ℕ) (items : List (List ℕ)) (bad : ℕ) : Type 0 where
   pub some : 0 < bad
   pub within : bad ≤ length items
-  pub is_bad : sample_of (slice_index_or items (bad - 1) []) ≡ None
-  pub good_before : (k : ℕ) → k + 1 < bad → IsSome (sample_of (slice_index_or items k []))
+  pub is_bad : item_of scale channels bad (slice_index_or items (bad - 1) []) ≡ Err bad
+  pub good_before : (k : ℕ) → k + 1 < bad → IsOk (item_of scale channels (k + 1) (slice_index_or items k []))
 
--- each item spells a sample, and these are the samples
-pub record AreSpelled (items : List (List ℕ)) (samples : Series) : Type 0 where
-  pub all_good : All (λ item. IsSome (sample_of item)) items
-  pub samples_are : samples ≡ map sample_of items
+-- each item is good, and these are their samples
+pub record AreSpelled (scale channels : ℕ) (items : List (List ℕ)) (rows : List Row) : Type 0 where
+  pub all_good : All (λ item. IsOk (item_of scale channels 0 item)) items
+  pub rows_are : map Ok rows ≡ map (item_of scale channels 0) items
 
 pub record BadItemsAreTheFirst : Type 0 where
-  pub bad : (items : List (List ℕ)) (number : ℕ) → samples_of 1 items ≡ Err number → IsFirstBad items number
-  pub good : (items : List (List ℕ)) (samples : Series) → samples_of 1 items ≡ Ok samples → AreSpelled items samples
+  pub bad : (scale channels : ℕ) (items : List (List ℕ)) (number : ℕ) → read_items scale channels items ≡ Err number
+      → IsFirstBad scale channels items number
+  pub good : (scale channels : ℕ) (items : List (List ℕ)) (rows : List Row) → read_items scale channels items ≡ Ok rows
+      → AreSpelled scale channels items rows
 
--- each line appends the items of its group to slot 0
-abbrev pub AppendEach : List (List ℕ) → List (List (List ℕ)) → Type 0
-AppendEach [] [] = Unit {0}
-AppendEach [] (items ∷ groups) = ⊥
-AppendEach (line ∷ lines) [] = ⊥
-AppendEach (line ∷ lines) (items ∷ groups) = (asked_of line ≡ Asks (Append 0 items)) × AppendEach lines groups
+-- ---- appends
 
--- The samples of several appends, however they are cut into lines, give the series of one append, where no line is
--- refused. Then that one isn't, either.
+-- each line appends the items of its group to this slot
+abbrev pub AppendEach : ℕ → List (List ℕ) → List (List (List ℕ)) → Type 0
+AppendEach slot [] [] = Unit {0}
+AppendEach slot [] (items ∷ groups) = ⊥
+AppendEach slot (line ∷ lines) [] = ⊥
+AppendEach slot (line ∷ lines) (items ∷ groups) =
+    (asked_of line ≡ Asks (Append slot items)) × AppendEach slot lines groups
+
+-- The samples of several appends to a slot with a channel, however they are cut into lines, give the channels of one
+-- append, where no line is refused. Then that one isn't, either.
 abbrev pub AppendsAddUp : Type 0
 AppendsAddUp =
-    (state : State) (files : Files) (first : List ℕ) (lines : List (List ℕ)) (groups : List (List (List ℕ))) (whole : List ℕ)
-    → 0 < length state.stores → AppendEach (first ∷ lines) groups → asked_of whole ≡ Asks (Append 0 (flat_map (λ items. items) groups))
+    (state : State) (files : Files) (slot : ℕ)
+    (first : List ℕ) (lines : List (List ℕ)) (groups : List (List (List ℕ))) (whole : List ℕ)
+    → 0 < length (channels_at state.stores slot) → AppendEach slot (first ∷ lines) groups
+    → asked_of whole ≡ Asks (Append slot (flat_map (λ items. items) groups))
     → some_refused state files (first ∷ lines) ≡ false
     → (cause state whole files ≡ None)
-    × (series_at (state_after state files (first ∷ lines)).stores 0 ≡ series_at (after state whole files).stores 0)
+    × (channels_at (state_after state files (first ∷ lines)).stores slot
+    ≡ channels_at (after state whole files).stores slot)

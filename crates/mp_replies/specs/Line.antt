@@ -1,13 +1,18 @@
 -- What a line asks for.
-use Rattle.std.specs.Prelude.{ℕ, ◌==◌, nat_lt, List, [], ◌∷◌, length, codes, slice_index, if◌then◌else◌, Result, Ok, Err}
+use Rattle.std.specs.Prelude.{ℕ, ◌+◌, ◌==◌, Bool, true, false, nat_le, nat_lt, List, [], ◌∷◌, length, codes, slice_index, if◌then◌else◌, Option, Some, None, Result, Ok, Err}
 use Rattle.mp_bytes.specs.Bytes.{number_sign, same_text}
 use Rattle.mp_bytes.specs.Fields.{fields}
 use Rattle.mp_bytes.specs.Lines.{max_line}
 use Rattle.mp_replies.specs.declared.causes.Cause.{Cause}
-use Rattle.mp_replies.specs.declared.causes.Cause.TheVariants.{Unknown}
-use Rattle.mp_replies.specs.Command.{Command}
+use Rattle.mp_replies.specs.declared.causes.Cause.TheVariants as cause
+use Rattle.mp_replies.specs.Command.{Command, End}
+use Rattle.mp_replies.specs.SessionCommand.{session_of}
+use Rattle.mp_replies.specs.OpenCommand.{open_of}
+use Rattle.mp_replies.specs.LoadCommand.{load_fits, load_of}
 use Rattle.mp_replies.specs.AppendCommand.{append_of}
+use Rattle.mp_replies.specs.WindowCommand.{window_of}
 use Rattle.mp_replies.specs.ProfileCommand.{profile_of}
+use Rattle.mp_replies.specs.EntryCommand.{entry_of}
 
 pub data Asked : Type 0 where
   -- nothing: a blank line or a comment
@@ -16,12 +21,66 @@ pub data Asked : Type 0 where
   -- it is refused, whatever the state
   Faulty : (cause : Cause) → Asked
 
--- by the command word and the fields behind it
+-- ---- the table of commands
+
+-- a command word, which fields may stand behind it, and what they ask for, none where one of them is malformed
+pub record Form : Type 0 where
+  pub word : List ℕ
+  pub fits : List (List ℕ) → Bool
+  pub read : List (List ℕ) → Option Command
+
+-- so many fields in all, the word included
+abbrev pub in_all : ℕ → List (List ℕ) → Bool
+in_all count others = length others + 1 == count
+
+-- so many fields in all, or more
+abbrev pub at_least : ℕ → List (List ℕ) → Bool
+at_least count others = nat_le count (length others + 1)
+
+abbrev pub open_form : Form
+open_form = record { word = codes "open"; fits = in_all 3; read = open_of }
+
+abbrev pub load_form : Form
+load_form = record { word = codes "load"; fits = load_fits; read = load_of }
+
+abbrev pub append_form : Form
+append_form = record { word = codes "append"; fits = at_least 3; read = append_of }
+
+abbrev pub window_form : Form
+window_form = record { word = codes "window"; fits = in_all 3; read = window_of }
+
+abbrev pub profile_form : Form
+profile_form = record { word = codes "profile"; fits = in_all 2; read = profile_of }
+
+abbrev pub entry_form : Form
+entry_form = record { word = codes "entry"; fits = in_all 3; read = entry_of }
+
+abbrev pub end_form : Form
+end_form = record { word = codes "end"; fits = in_all 1; read = λ _. Some End }
+
+abbrev pub forms : List Form
+forms =
+    open_form ∷ load_form ∷ append_form ∷ window_form ∷ profile_form ∷ entry_form ∷ end_form ∷ []
+
+-- ---- what a line asks for, by its fields
+
+abbrev pub unless_malformed : Option Command → Result Command Cause
+unless_malformed None = Err cause.Number
+unless_malformed (Some command) = Ok command
+
+-- the number of fields is tested before the fields are
+abbrev pub by_form : Form → List (List ℕ) → Result Command Cause
+by_form form others = if form.fits others then unless_malformed (form.read others) else Err cause.Fields
+
+-- by the form of a command word
+abbrev pub command_in : List Form → List ℕ → List (List ℕ) → Result Command Cause
+command_in [] word others = Err cause.Unknown
+command_in (form ∷ more) word others =
+    if same_text word form.word then by_form form others else command_in more word others
+
+-- a version line is refused by its own word alone
 abbrev pub command_by : List ℕ → List (List ℕ) → Result Command Cause
-command_by word others =
-    if same_text word (codes "append") then append_of others
-    else if same_text word (codes "profile") then profile_of others
-    else Err Unknown
+command_by word others = if same_text word (codes "session") then session_of others else command_in forms word others
 
 abbrev pub asks : Result Command Cause → Asked
 asks (Ok command) = Asks command
@@ -31,6 +90,18 @@ abbrev pub asked_in : List (List ℕ) → Asked
 asked_in [] = Nothing
 asked_in (word ∷ others) = if slice_index word 0 == number_sign then Nothing else asks (command_by word others)
 
--- a line with too many bytes is no command, whatever it holds
+-- a line with too many bytes is refused, whatever it holds
 unfoldable pub asked_of : List ℕ → Asked
-asked_of line = if nat_lt max_line (length line) then Faulty Unknown else asked_in (fields line)
+asked_of line = if nat_lt max_line (length line) then Faulty cause.Long else asked_in (fields line)
+
+-- ---- the line that ends a run
+
+abbrev pub is_end : Asked → Bool
+is_end Nothing = false
+is_end (Faulty cause) = false
+is_end (Asks End) = true
+is_end (Asks other) = false
+
+-- whether no line behind this one is run. It is a command that no state refuses
+unfoldable pub ends : List ℕ → Bool
+ends line = is_end (asked_of line)

@@ -1,26 +1,16 @@
 -- Whole runs: what is written for an input.
-use Rattle.std.specs.Prelude.{ℕ, ◌+◌, Bool, true, false, ◌||◌, is_some, List, [], ◌∷◌, codes, if◌then◌else◌, Option, Some, None}
+use Rattle.std.specs.Prelude.{ℕ, ◌+◌, Bool, false, ◌||◌, is_some, List, [], ◌∷◌, codes, if◌then◌else◌, Option, Some, None}
 use Rattle.std.specs.List.{concat}
 use Rattle.mp_bytes.specs.Lines.{lines}
 use Rattle.mp_replies.specs.Words.{Setup, job}
 use Rattle.mp_replies.specs.State.{Files, State, opening}
-use Rattle.mp_replies.specs.Answer.{Answer, Silent, Refused, Accepted, Ended}
+use Rattle.mp_replies.specs.Line.{ends}
 use Rattle.mp_replies.specs.Step.{cause, after, answer}
 use Rattle.mp_replies.specs.Report.{text_of}
 
 -- the report of a line
 unfoldable pub reply : State → List ℕ → Files → List ℕ
 reply state line files = text_of (state.lines + 1) (answer state line files)
-
-abbrev pub ends_run : Answer → Bool
-ends_run Silent = false
-ends_run (Refused cause) = false
-ends_run (Accepted report) = false
-ends_run (Ended report) = true
-
--- whether no line behind this one is run
-unfoldable pub ends : State → List ℕ → Files → Bool
-ends state line files = ends_run (answer state line files)
 
 -- ---- lines one behind the other, each in the state behind the lines before
 
@@ -37,18 +27,18 @@ state_after state files (line ∷ rest) = state_after (after state line files) f
 -- whether one of them is refused
 abbrev pub some_refused : State → Files → List (List ℕ) → Bool
 some_refused state files [] = false
-some_refused state files (line ∷ rest) = is_some (cause state line files) || some_refused (after state line files) files rest
+some_refused state files (line ∷ rest) =
+    is_some (cause state line files) || some_refused (after state line files) files rest
 
 -- whether one of them ends the run
-abbrev pub some_ends : State → Files → List (List ℕ) → Bool
-some_ends state files [] = false
-some_ends state files (line ∷ rest) = ends state line files || some_ends (after state line files) files rest
+abbrev pub some_ends : List (List ℕ) → Bool
+some_ends [] = false
+some_ends (line ∷ rest) = ends line || some_ends rest
 
 -- those up to and with the first that ends the run
-abbrev pub until_end : State → Files → List (List ℕ) → List (List ℕ)
-until_end state files [] = []
-until_end state files (line ∷ rest) =
-    line ∷ (if ends state line files then [] else until_end (after state line files) files rest)
+abbrev pub until_end : List (List ℕ) → List (List ℕ)
+until_end [] = []
+until_end (line ∷ rest) = line ∷ (if ends line then [] else until_end rest)
 
 -- the reports, one behind the other
 abbrev pub reports : State → Files → List (List ℕ) → List ℕ
@@ -61,11 +51,11 @@ abbrev pub usage : List ℕ
 usage = codes "mprof: words: --window M [--scale D] [--tile T] [--workers W] [--generate NUMBER --count N]\n"
 
 -- the lines of an input that are run
-abbrev pub lines_run : State → Files → List ℕ → List (List ℕ)
-lines_run state files bytes = until_end state files (lines bytes)
+abbrev pub lines_run : List ℕ → List (List ℕ)
+lines_run bytes = until_end (lines bytes)
 
 abbrev pub session_output : State → Files → List ℕ → List ℕ
-session_output state files bytes = reports state files (lines_run state files bytes)
+session_output state files bytes = reports state files (lines_run bytes)
 
 abbrev pub output_by : Option Setup → Files → List ℕ → List ℕ
 output_by None files bytes = usage

@@ -1,34 +1,27 @@
--- `profile 0`: the matrix profile of the series.
-use Rattle.std.specs.Prelude.{ℕ, List, [], ◌∷◌, ◌++◌, length, codes, decimal, flat_map, slice_index_or, if◌then◌else◌, Option, None, Result, Ok, Err}
+-- `profile R`: the matrix profile of a channel.
+use Rattle.std.specs.Prelude.{ℕ, List, [], ◌∷◌, ◌++◌, length, codes, decimal, flat_map, slice_index_or, Option, None, option_map}
 use Rattle.std.specs.List.{range_with_len}
-use Rattle.mp_nums.specs.declared.nearest.Near.{Near}
 use Rattle.mp_defs.specs.Profile.{Columns, matrix_profile}
-use Rattle.mp_replies.specs.declared.causes.Cause.{Cause}
-use Rattle.mp_replies.specs.declared.causes.Cause.TheVariants.{Unknown}
-use Rattle.mp_replies.specs.State.{Store, series_at}
-use Rattle.mp_replies.specs.Change.{Change, Keep}
-use Rattle.mp_replies.specs.Command.{Command, Profile, is_slot}
 use Rattle.mp_replies.specs.Answer.{Report, ProfileReport}
-use Rattle.mp_replies.specs.Text.{slot_text, index_text}
+use Rattle.mp_replies.specs.Command.{Command, Profile}
+use Rattle.mp_replies.specs.Conditions.{Condition, no_slot, no_channel}
+use Rattle.mp_replies.specs.Numbers.{ref}
+use Rattle.mp_replies.specs.declared.refs.Ref.{Ref}
+use Rattle.mp_replies.specs.State.{State, Store, series_at}
+use Rattle.mp_replies.specs.Text.{row_text}
 
--- what the fields behind the word ask for
-abbrev pub profile_of : List (List ℕ) → Result Command Cause
-profile_of (slot ∷ []) = if is_slot slot then Ok (Profile 0) else Err Unknown
-profile_of others = Err Unknown
+-- what the field behind the word asks for
+abbrev pub profile_of : List (List ℕ) → Option Command
+profile_of (field ∷ []) = option_map (λ (at : Ref). Profile at) (ref field)
+profile_of others = None
 
-abbrev pub profile_change : Result Change Cause
-profile_change = Ok Keep
+abbrev pub profile_conditions : List Store → Ref → List Condition
+profile_conditions stores at = no_slot stores at.slot ∷ no_channel stores at ∷ []
 
 -- ---- the report
 
-abbrev pub profile_report : ℕ → List Store → ℕ → Report
-profile_report window stores slot = ProfileReport (matrix_profile window (series_at stores slot))
-
--- the line of one window: its start, its entry, and the starts of its left and its right entry
-abbrev pub row_text : ℕ → Option Near → Option Near → Option Near → List ℕ
-row_text start all left right =
-    decimal start ++ codes " " ++ slot_text all ++ codes " " ++ index_text left ++ codes " " ++ index_text right
-    ++ codes "\n"
+abbrev pub profile_report : State → Ref → Report
+profile_report state at = ProfileReport (matrix_profile state.window (series_at state.stores at))
 
 -- the line of the window at a start
 abbrev pub row_at : Columns → ℕ → List ℕ

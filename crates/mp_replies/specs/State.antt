@@ -1,9 +1,10 @@
 -- What a session keeps between lines.
-use Rattle.std.specs.Prelude.{ℕ, Bool, false, List, [], ◌∷◌, replicate, slice_get, Some, None}
+use Rattle.std.specs.Prelude.{ℕ, Bool, true, false, List, [], ◌∷◌, length, replicate, slice_get, slice_index_or, Some, None}
 use Rattle.std.specs.FinMap.{FinMap}
 use Rattle.std.specs.Cmp.Lexicographic.{slice_cmp}
 use Rattle.std.specs.Ordering.{nat_cmp}
 use Rattle.mp_defs.specs.Series.{Series}
+use Rattle.mp_replies.specs.declared.refs.Ref.{Ref}
 
 -- the files that a session may load, by name
 abbrev pub Files : Type 0
@@ -29,14 +30,30 @@ abbrev pub opening : ℕ → ℕ → State
 opening window scale =
     record { window = window; scale = scale; lines = 0; begun = false; stores = Open ([] ∷ []) ∷ replicate 7 Closed }
 
+-- ---- what stands in a slot
+
+-- the slot of this number, closed where there is none
 abbrev pub store_at : List Store → ℕ → Store
 store_at stores slot = elim (slice_get stores slot) as (λ _. Store) [ None ↦ Closed | Some store ↦ store ]
 
--- the first channel of a store, empty where there is none
-abbrev pub first_channel : Store → Series
-first_channel Closed = []
-first_channel (Open []) = []
-first_channel (Open (channel ∷ channels)) = channel
+abbrev pub is_closed : Store → Bool
+is_closed Closed = true
+is_closed (Open channels) = false
 
-abbrev pub series_at : List Store → ℕ → Series
-series_at stores slot = first_channel (store_at stores slot)
+abbrev pub channels_in : Store → List Series
+channels_in Closed = []
+channels_in (Open channels) = channels
+
+abbrev pub channels_at : List Store → ℕ → List Series
+channels_at stores slot = channels_in (store_at stores slot)
+
+-- how many samples each channel has
+abbrev pub samples_in : List Series → ℕ
+samples_in [] = 0
+samples_in (channel ∷ channels) = length channel
+
+-- ---- one channel
+
+-- the series of a channel, empty where there is none
+abbrev pub series_at : List Store → Ref → Series
+series_at stores at = slice_index_or (channels_at stores at.slot) at.channel []

@@ -1,29 +1,61 @@
 -- One line: why it is refused, what it changes and what it is answered.
-use Rattle.std.specs.Prelude.{ℕ, ◌+◌, Bool, true, false, List, if◌then◌else◌, Option, Some, None, Result, Ok, Err}
+use Rattle.std.specs.Prelude.{ℕ, ◌+◌, Bool, true, false, List, [], ◌++◌, is_none, if◌then◌else◌, Option, Some, None}
 use Rattle.mp_replies.specs.declared.causes.Cause.{Cause}
-use Rattle.mp_replies.specs.State.{Files, State}
+use Rattle.mp_replies.specs.State.{Files, State, channels_at, samples_in}
 use Rattle.mp_replies.specs.Change.{Change, Keep, changed}
-use Rattle.mp_replies.specs.Command.{Command, Append, Profile}
-use Rattle.mp_replies.specs.AppendCommand.{append_change, append_report}
-use Rattle.mp_replies.specs.ProfileCommand.{profile_change, profile_report}
-use Rattle.mp_replies.specs.Answer.{Report, Answer, Silent, Refused, Accepted, Ended}
+use Rattle.mp_replies.specs.Command.{Command, Session, OpenSlot, Load, Append, Window, Profile, Entry, End}
+use Rattle.mp_replies.specs.Conditions.{Condition, first_of}
+use Rattle.mp_replies.specs.SessionCommand.{session_conditions}
+use Rattle.mp_replies.specs.OpenCommand.{open_conditions, open_change}
+use Rattle.mp_replies.specs.LoadCommand.{load_conditions, file_conditions, file_in, load_change}
+use Rattle.mp_replies.specs.AppendCommand.{append_conditions, append_change}
+use Rattle.mp_replies.specs.WindowCommand.{window_conditions, window_report}
+use Rattle.mp_replies.specs.ProfileCommand.{profile_conditions, profile_report}
+use Rattle.mp_replies.specs.EntryCommand.{entry_conditions, entry_report}
+use Rattle.mp_replies.specs.Answer.{Report, SessionReport, OpenReport, LoadReport, AppendReport, EndReport, Answer, Silent, Refused, Accepted, Ended}
 use Rattle.mp_replies.specs.Line.{Asked, Nothing, Asks, Faulty, asked_of}
 
 -- ---- each command
 
--- what a command changes, or why it is refused
-abbrev pub change_by : State → Files → Command → Result Change Cause
-change_by state files (Append slot items) = append_change state.stores slot items
-change_by state files (Profile slot) = profile_change
+-- what is tested without the files, word for word in their order
+abbrev pub state_conditions : State → Command → List Condition
+state_conditions state (Session version) = session_conditions state
+state_conditions state (OpenSlot slot channels) = open_conditions slot channels
+state_conditions state (Load slot file columns header) = load_conditions state.stores slot columns
+state_conditions state (Append slot items) = append_conditions state.scale state.stores slot items
+state_conditions state (Window at start) = window_conditions state.window state.stores at start
+state_conditions state (Profile at) = profile_conditions state.stores at
+state_conditions state (Entry at start) = entry_conditions state.window state.stores at start
+state_conditions state End = []
+
+-- and what is tested of a file, behind them
+abbrev pub conditions : State → Files → Command → List Condition
+conditions state files (Load slot file columns header) =
+    load_conditions state.stores slot columns ++ file_conditions state.scale columns header (file_in files file)
+conditions state files other = state_conditions state other
+
+-- what a command changes where nothing refuses it
+abbrev pub change_by : State → Files → Command → Change
+change_by state files (OpenSlot slot channels) = open_change slot channels
+change_by state files (Load slot file columns header) = load_change state.scale files slot file columns header
+change_by state files (Append slot items) = append_change state.scale state.stores slot items
+change_by state files other = Keep
 
 -- the report of an accepted command, from the state behind it
 abbrev pub report_by : State → Command → Report
-report_by state (Append slot items) = append_report state.stores slot
-report_by state (Profile slot) = profile_report state.window state.stores slot
+report_by state (Session version) = SessionReport
+report_by state (OpenSlot slot channels) = OpenReport (samples_in (channels_at state.stores slot))
+report_by state (Load slot file columns header) = LoadReport (samples_in (channels_at state.stores slot))
+report_by state (Append slot items) = AppendReport (samples_in (channels_at state.stores slot))
+report_by state (Window at start) = window_report state at start
+report_by state (Profile at) = profile_report state at
+report_by state (Entry at start) = entry_report state at start
+report_by state End = EndReport
 
 -- whether no line behind an accepted command is run
 abbrev pub is_last : Command → Bool
-is_last command = false
+is_last End = true
+is_last other = false
 
 -- ---- the verdict on a line
 
@@ -33,14 +65,15 @@ pub data Verdict : Type 0 where
   IsRefused : (cause : Cause) → Verdict
   IsAccepted : (command : Command) (change : Change) → Verdict
 
-abbrev pub verdict_by : Command → Result Change Cause → Verdict
-verdict_by command (Err cause) = IsRefused cause
-verdict_by command (Ok change) = IsAccepted command change
+abbrev pub verdict_by : Command → Option Cause → Change → Verdict
+verdict_by command (Some cause) change = IsRefused cause
+verdict_by command None change = IsAccepted command change
 
 abbrev pub verdict_of : State → Files → Asked → Verdict
 verdict_of state files Nothing = Passes
 verdict_of state files (Faulty cause) = IsRefused cause
-verdict_of state files (Asks command) = verdict_by command (change_by state files command)
+verdict_of state files (Asks command) =
+    verdict_by command (first_of (conditions state files command)) (change_by state files command)
 
 unfoldable pub verdict : State → List ℕ → Files → Verdict
 verdict state line files = verdict_of state files (asked_of line)
@@ -84,3 +117,15 @@ after state line files = after_by state (verdict state line files)
 -- the answer to a line
 unfoldable pub answer : State → List ℕ → Files → Answer
 answer state line files = answer_by (after state line files) (verdict state line files)
+
+-- ---- the lines that need a file
+
+-- a file is fetched for a load alone, and only where nothing refuses it without the file
+abbrev pub fetches_by : State → Asked → Bool
+fetches_by state (Asks (Load slot file columns header)) = is_none (first_of (load_conditions state.stores slot columns))
+fetches_by state (Asks other) = false
+fetches_by state Nothing = false
+fetches_by state (Faulty cause) = false
+
+unfoldable pub fetches : State → List ℕ → Bool
+fetches state line = fetches_by state (asked_of line)

@@ -2,12 +2,23 @@
 use Rattle.std.specs.Prelude.{ℕ, List, [], ◌++◌, codes, decimal, Option, Some, None}
 use Rattle.mp_nums.specs.declared.nearest.Near.{Near}
 use Rattle.mp_replies.specs.declared.causes.Cause.{Cause}
-use Rattle.mp_replies.specs.declared.causes.Cause.TheVariants.{Unknown, Sample, Full}
+use Rattle.mp_replies.specs.declared.causes.Cause.TheVariants as cause
 
 abbrev pub word_of : Cause → List ℕ
-word_of Unknown = codes "unknown"
-word_of (Sample number) = codes "sample " ++ decimal number
-word_of Full = codes "full"
+word_of cause.Long = codes "long"
+word_of cause.Version = codes "version"
+word_of cause.Unknown = codes "unknown"
+word_of cause.Fields = codes "fields"
+word_of cause.Number = codes "number"
+word_of cause.Slot = codes "slot"
+word_of cause.Channel = codes "channel"
+word_of (cause.Sample number) = codes "sample " ++ decimal number
+word_of cause.Full = codes "full"
+word_of cause.File = codes "file"
+word_of cause.FileSize = codes "file-size"
+word_of (cause.Record number) = codes "record " ++ decimal number
+word_of cause.Rows = codes "rows"
+word_of cause.Index = codes "index"
 
 abbrev pub refused_text : ℕ → Cause → List ℕ
 refused_text line cause = codes "refused " ++ decimal line ++ codes " " ++ word_of cause ++ codes "\n"
@@ -28,3 +39,9 @@ slot_text (Some near) = decimal near.dist.0 ++ codes " " ++ decimal near.index
 abbrev pub index_text : Option Near → List ℕ
 index_text None = codes "-"
 index_text (Some near) = decimal near.index
+
+-- one window: its start, its entry, and the starts of its left and its right entry
+abbrev pub row_text : ℕ → Option Near → Option Near → Option Near → List ℕ
+row_text start all left right =
+    decimal start ++ codes " " ++ slot_text all ++ codes " " ++ index_text left ++ codes " " ++ index_text right
+    ++ codes "\n"

@@ -1,10 +1,34 @@
-/// Why a line is refused.
+/// Why a line is refused, in the order in which the words are tested.
 #[derive(Clone, Copy, Debug, PartialEq, Eq)]
 pub enum Cause {
-    /// It is no command.
+    /// The line has more than 1,048,576 bytes.
+    Long,
+    /// It begins with `session`, and isn't `session 1`, or some command was accepted before.
+    Version,
+    /// Its first field is no command word.
     Unknown,
-    /// The item of this number, counted from 1, is the first that is no sample.
+    /// The command has another number of fields.
+    Fields,
+    /// A number, a ref or a list of columns is malformed or outside its limit.
+    Number,
+    /// A slot is above 7, or it isn't open.
+    Slot,
+    /// A slot has no such channel, or another number of channels.
+    Channel,
+    /// The item of this number, counted from 1, is the first with a value that is no sample, or with another number of
+    /// values than the slot has channels.
     Sample(u64),
-    /// The series would be longer than 262,144 samples.
+    /// A series would be longer than 262,144 samples.
     Full,
+    /// There is no such file.
+    File,
+    /// The file has more than 67,108,864 bytes.
+    FileSize,
+    /// The record of this number, counted from 1 behind the header, is the first with a field that is missing or is no
+    /// sample.
+    Record(u64),
+    /// The file has more than 262,144 records.
+    Rows,
+    /// The series has no window that starts there.
+    Index,
 }

@@ -2,12 +2,21 @@
 
 ghost use Rattle.mp_replies.specs.Examples.{
   LinesEndOrNot,
-  SpelledNumbers,
+  SpelledItems,
+  SpelledWords,
+  AskedLines,
   BadItemIsNamed,
   FullSeriesIsRefused,
   PlainOutput,
   ShortOutput,
   RefusedPieceOutput,
+  EntryOutput,
+  ScaledOutput,
+  RefusalsOutput,
+  LoadedFiles,
+  LoadOutput,
+  OpenOutput,
+  EndOutput,
 };
 
 /// Lines and fields, with and without the last line's end.
@@ -15,9 +24,19 @@ pub fn lines_end_or_not()
     ensures { LinesEndOrNot }
 {}
 
-/// Texts of samples and of words, at the ends of their ranges.
-pub fn spelled_numbers()
-    ensures { SpelledNumbers }
+/// Items with one value and with two, good and bad.
+pub fn spelled_items()
+    ensures { SpelledItems }
+{}
+
+/// Words with a window, and with a scale behind.
+pub fn spelled_words()
+    ensures { SpelledWords }
+{}
+
+/// Lines of every command, good and malformed.
+pub fn asked_lines()
+    ensures { AskedLines }
 {}
 
 /// The first bad item of a line is named by its number.
@@ -43,4 +62,39 @@ pub fn short_output()
 /// A refused line changes nothing.
 pub fn refused_piece_output()
     ensures { RefusedPieceOutput }
+{}
+
+/// A window without a nearest one, and a window that isn't there.
+pub fn entry_output()
+    ensures { EntryOutput }
+{}
+
+/// Samples at a scale, and the window that they make.
+pub fn scaled_output()
+    ensures { ScaledOutput }
+{}
+
+/// A refusal of each word that no file comes before.
+pub fn refusals_output()
+    ensures { RefusalsOutput }
+{}
+
+/// The line that ends a run.
+pub fn end_output()
+    ensures { EndOutput }
+{}
+
+/// Columns of files, and why files are refused.
+pub fn loaded_files()
+    ensures { LoadedFiles }
+{}
+
+/// A column of a file, in place of what was appended.
+pub fn load_output()
+    ensures { LoadOutput }
+{}
+
+/// Two channels in place of one, and a channel that isn't there.
+pub fn open_output()
+    ensures { OpenOutput }
 {}

@@ -6,6 +6,9 @@ ghost use Rattle.mp_replies.specs.Laws.{
   QuietLinesAreSilent,
   LongLinesAreCut,
   LongLinesAreRunCut,
+  EndsAreAnswered,
+  OtherLinesReadNoFile,
+  WordsStandInOrder,
   TileAndWorkersChangeNothing,
   BadItemsAreTheFirst,
   AppendsAddUp,
@@ -26,11 +29,27 @@ pub fn quiet_lines_are_silent()
     ensures { QuietLinesAreSilent }
 {}
 
-/// Of a line, the first 1,048,577 bytes decide: what it asks for, why it is refused, the state behind it, its answer and
-/// its report.
+/// Of a line, the first 1,048,577 bytes decide: what it asks for, why it is refused, the state behind it, its answer
+/// and its report.
 pub fn long_lines_are_cut()
     ensures asked { LongLinesAreCut }
     ensures run { LongLinesAreRunCut }
+{}
+
+/// A line ends the run exactly where it is accepted as the one that does, whatever the state.
+pub fn ends_are_answered()
+    ensures { EndsAreAnswered }
+{}
+
+/// Of a line that asks for no file, the files change neither the report nor the state behind it.
+pub fn other_lines_read_no_file()
+    ensures { OtherLinesReadNoFile }
+{}
+
+/// What a command is refused for is tested in the order of the words, so that of two that hold the earlier word is the
+/// answer.
+pub fn words_stand_in_order()
+    ensures { WordsStandInOrder }
 {}
 
 /// What is written depends on the window and the scale alone, and on no tile and no number of workers.
@@ -38,12 +57,12 @@ pub fn tile_and_workers_change_nothing()
     ensures { TileAndWorkersChangeNothing }
 {}
 
-/// The item that is named as bad spells no sample, and each one before it does.
+/// The item that is named as bad is bad, and each one before it is good.
 pub fn bad_items_are_the_first()
     ensures { BadItemsAreTheFirst }
 {}
 
-/// Several appends give the series of one, however their samples are cut into lines.
+/// Several appends to a slot give the channels of one, however their samples are cut into lines.
 pub fn appends_add_up()
     ensures { AppendsAddUp }
 {}

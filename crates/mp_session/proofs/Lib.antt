@@ -1,6 +1,11 @@
-pub mod ItemLemmas
-pub mod ReportLemmas
+pub mod AppendLemmas
+pub mod ChannelLemmas
+pub mod EndLemmas
+pub mod LoadLemmas
+pub mod OpenLemmas
+pub mod RefLemmas
 pub mod RunLemmas
 pub mod ServeLemmas
 pub mod StepLemmas
 pub mod UnderWay
+pub mod WordLemmas

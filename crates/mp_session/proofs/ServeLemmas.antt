@@ -1,38 +1,37 @@
 -- From the lines that were run to what is told of them.
-use Rattle.std.proofs.Common.{◌≡◌, ◌≢◌, ◌⊎◌, ℕ, ◌+◌, ◌<◌, ◌≤◌, Bool, true, false, ◌||◌, List, [], ◌∷◌, ◌++◌, length, take, map, refl, sym, ap, ◌∙◌, subst, arith, append-nil, length-append}
+use Rattle.std.proofs.Common.{◌≡◌, ◌≢◌, ◌⊎◌, inl, inr, ℕ, ◌+◌, ◌<◌, ◌≤◌, Bool, true, false, ◌||◌, List, [], ◌∷◌, ◌++◌, length, take, drop, get_or, append_assoc, map, refl, sym, ap, ◌∙◌, subst, arith, append-nil, length-append, ⊎_elim}
 use Rattle.std.specs.Prelude.{Option, Some, None, is_some, Result, Ok, Err, IfOk, OnOk, IsErrOf, IsTrue}
 use Rattle.std.specs.List.{concat, take-map}
-use Rattle.std.specs.FinMap.{empty}
-use Rattle.std.proofs.lemmas.List.{nil_from_length, take_all, take-append-le}
+use Rattle.std.proofs.lemmas.List.{drop_more, get_or-map, length-map, nil_from_length, take_all, take-append-drop, take-append-le}
+use Rattle.std.proofs.Math.Bool.{or-true}
+use Rattle.std.proofs.lemmas.Bool.{cases_Bool}
 use Rattle.std.proofs.lemmas.List.Folds.{concat-append}
-use Rattle.std.proofs.Math.Seq.{take-append_seam}
+use Rattle.std.proofs.Math.Seq.{get_or-append_seam, take-append_seam}
 use Rattle.mp_outside.specs.declared.sinks.Sink.{Ghosts}
 use Rattle.mp_bytes.specs.Lines.{cut, lines, ended_lines}
 use Rattle.mp_feed.specs.Feeding.{nothing, lines_left}
 use Rattle.mp_feed.specs.Writing.{TellsPrefix}
 use Rattle.mp_feed.specs.WritingLaws.{front_told, wrote_flushed, wrote_nothing, wrote_told}
-use Rattle.mp_replies.specs.CutLaws.{after_cut, cause_cut, reply_cut}
+use Rattle.mp_replies.specs.CutLaws.{after_cut, cause_cut, ends_cut, fetches_cut, reply_cut}
 use Rattle.mp_replies.specs.State.{Files, State, opening}
-use Rattle.mp_replies.specs.Step.{Verdict, Passes, IsRefused, IsAccepted, verdict, cause, after, answer, answer_by}
-use Rattle.mp_replies.specs.Output.{ends, ends_run, output, output_by, reply, replies, reports, session_output, some_ends, some_refused, state_after, until_end, usage}
+use Rattle.mp_replies.specs.Line.{ends}
+use Rattle.mp_replies.specs.Step.{cause, after, fetches}
+use Rattle.mp_replies.specs.Output.{lines_run, output, output_by, reply, replies, reports, session_output, some_ends, some_refused, state_after, until_end, usage}
 use Rattle.mp_replies.specs.Words.{Setup, job}
 use Rattle.mp_session.specs.declared.halts.Halt.{Halt}
 use Rattle.mp_session.specs.declared.halts.Halt.TheVariants as halts
 use Rattle.mp_session.specs.declared.top.Status.{Status}
 use Rattle.mp_session.specs.declared.top.Status.TheVariants as statuses
-use Rattle.mp_session.specs.Sessions.{StandsFor}
+use Rattle.mp_session.specs.Sessions.{StandsFor, ToldForAll, some_fetch}
 use Rattle.mp_session.specs.Statuses.{halted, is_whole, ran, status_by}
 use Rattle.mp_session.specs.Running.{Course, WereRun}
-use Rattle.mp_session.specs.Serving.{AreFirst, RanAll, RanEnded, RanInto, RanSome, ToldTaken}
-use Rattle.mp_session.proofs.RunLemmas.{replies-append}
+use Rattle.mp_session.specs.Serving.{AreFirst, RanAll, RanEnded, RanInto, RanSome, RanToFile, ToldForRun, ToldTaken, ToldToFile}
+use Rattle.mp_session.proofs.RunLemmas.{not_both, replies-append, some_fetch-append, told_first, told_then}
 
 -- all of the text is a front of it
 pub whole_text : (now : Option (List ℕ)) (before text : List ℕ) → now ≡ Some (before ++ text) → TellsPrefix now before text
 whole_text now before text told =
     (length text, omega arith, told ∙ ap (λ t. Some (before ++ t)) (sym (take_all (length text) text (omega arith))))
-
-pub no_files : Files
-no_files = empty
 
 -- ---- how it turned out
 
@@ -40,39 +39,16 @@ pub ok_on : {T E : Type 0} {P : T → Type 0} {Q : Type 0} (r : Result T E) → 
 ok_on (Ok x) p f = f x p
 ok_on (Err e) p f = tt
 
-pub ok_if : {T E : Type 0} {P Q : T → Type 0} (r : Result T E) → IfOk r P → ((x : T) → P x → Q x) → IfOk r Q
-ok_if (Ok x) p f = f x p
-ok_if (Err e) p f = tt
-
-pub by_outcome : {R : Type 0} {A : Bool → Type 0} {B C D E : Type 0} (r : Result Bool Halt) → IfOk r A → (IsErrOf r halts.ReadFault → B)
+pub by_outcome : {R : Type 0} {A : Bool → Type 0} {B C D E F : Type 0} (r : Result Bool Halt) → IfOk r A → (IsErrOf r halts.ReadFault → B)
     → (IsErrOf r halts.InputLimit → C) → (IsErrOf r halts.Memory → D) → (IsErrOf r halts.WriteFault → E)
-    → (IsErrOf r halts.ShelfFault → ⊥)
-    → ((x : Bool) → A x → R) → (B → R) → (C → R) → (D → R) → (E → R) → R
-by_outcome (Ok x) a b c d e never f g h k l = f x a
-by_outcome (Err halts.ReadFault) a b c d e never f g h k l = g (b refl)
-by_outcome (Err halts.InputLimit) a b c d e never f g h k l = h (c refl)
-by_outcome (Err halts.Memory) a b c d e never f g h k l = k (d refl)
-by_outcome (Err halts.WriteFault) a b c d e never f g h k l = l (e refl)
-by_outcome (Err halts.ShelfFault) a b c d e never f g h k l = absurd (never refl)
-
--- ---- no command ends the run
-
-never_last : (later : State) (v : Verdict) → ends_run (answer_by later v) ≡ false
-never_last later Passes = refl
-never_last later (IsRefused why) = refl
-never_last later (IsAccepted command change) = refl
-
-ends_never : (state : State) (line : List ℕ) (files : Files) → ends state line files ≡ false
-unfolding ends answer
-ends_never state line files = never_last (after state line files) (verdict state line files)
-
-pub none_ends : (state : State) (files : Files) (ran : List (List ℕ)) → some_ends state files ran ≡ false
-none_ends state files [] = refl
-none_ends state files (line ∷ ran) = rw (ends_never state line files) (none_ends (after state line files) files ran)
-
-until_end_all : (state : State) (files : Files) (ran : List (List ℕ)) → until_end state files ran ≡ ran
-until_end_all state files [] = refl
-until_end_all state files (line ∷ ran) = rw (ends_never state line files) (ap (λ ls. line ∷ ls) (until_end_all (after state line files) files ran))
+    → (IsErrOf r halts.ShelfFault → F)
+    → ((x : Bool) → A x → R) → (B → R) → (C → R) → (D → R) → (E → R) → (F → R) → R
+by_outcome (Ok x) a b c d e n f g h k l m = f x a
+by_outcome (Err halts.ReadFault) a b c d e n f g h k l m = g (b refl)
+by_outcome (Err halts.InputLimit) a b c d e n f g h k l m = h (c refl)
+by_outcome (Err halts.Memory) a b c d e n f g h k l m = k (d refl)
+by_outcome (Err halts.WriteFault) a b c d e n f g h k l m = l (e refl)
+by_outcome (Err halts.ShelfFault) a b c d e n f g h k l m = m (n refl)
 
 -- ---- lines that are cut
 
@@ -81,18 +57,53 @@ replies_cut state files [] = refl
 replies_cut state files (line ∷ ran) =
     rw (reply_cut state files line, after_cut state files line) (ap (λ rs. reply state line files ∷ rs) (replies_cut (after state line files) files ran))
 
+state_after_cut : (state : State) (files : Files) (ran : List (List ℕ)) → state_after state files (map cut ran) ≡ state_after state files ran
+state_after_cut state files [] = refl
+state_after_cut state files (line ∷ ran) =
+    ap (λ s. state_after s files (map cut ran)) (after_cut state files line) ∙ state_after_cut (after state line files) files ran
+
 some_refused_cut : (state : State) (files : Files) (ran : List (List ℕ)) → some_refused state files (map cut ran) ≡ some_refused state files ran
 some_refused_cut state files [] = refl
 some_refused_cut state files (line ∷ ran) =
     rw (cause_cut state files line, after_cut state files line) (ap (λ b. is_some (cause state line files) || b) (some_refused_cut (after state line files) files ran))
 
--- the lines that are run of an input
-run_of : (state : State) (files : Files) (bytes : List ℕ) → until_end state files (lines_left nothing bytes) ≡ map cut (lines bytes)
-run_of state files bytes = until_end_all state files (map cut (lines bytes))
+some_ends_cut : (ran : List (List ℕ)) → some_ends (map cut ran) ≡ some_ends ran
+some_ends_cut [] = refl
+some_ends_cut (line ∷ ran) = rw (ends_cut line) (ap (λ b. ends line || b) (some_ends_cut ran))
 
-output_of : (state : State) (files : Files) (bytes : List ℕ) → session_output state files bytes ≡ concat (replies state files (map cut (lines bytes)))
-output_of state files bytes =
-    ap (reports state files) (until_end_all state files (lines bytes)) ∙ ap concat (sym (replies_cut state files (lines bytes)))
+some_fetch_cut : (state : State) (files : Files) (ran : List (List ℕ)) → some_fetch state files (map cut ran) ≡ some_fetch state files ran
+some_fetch_cut state files [] = refl
+some_fetch_cut state files (line ∷ ran) =
+    rw (fetches_cut state line, after_cut state files line) (ap (λ b. fetches state line || b) (some_fetch_cut (after state line files) files ran))
+
+until_end_cut : (ran : List (List ℕ)) → until_end (map cut ran) ≡ map cut (until_end ran)
+until_end_cut [] = refl
+until_end_cut (line ∷ ran) = rw (ends_cut line) (⊎_elim
+    (λ (last : ends line ≡ true). rw last refl)
+    (λ (goes_on : ends line ≡ false). rw goes_on (ap (λ ls. cut line ∷ ls) (until_end_cut ran)))
+    (cases_Bool (ends line)))
+
+-- the lines that are run of an input
+run_of : (bytes : List ℕ) → until_end (lines_left nothing bytes) ≡ map cut (lines_run bytes)
+run_of bytes = until_end_cut (lines bytes)
+
+output_of : (state : State) (files : Files) (bytes : List ℕ) → session_output state files bytes ≡ concat (replies state files (map cut (lines_run bytes)))
+output_of state files bytes = ap concat (sym (replies_cut state files (lines_run bytes)))
+
+-- where one of the first lines asks for a file, one of all lines does
+fetched_in : {Out : Type 0} {ran : List (List ℕ)} {old : Course Out} → AreFirst ran old → (state : State) (files : Files) (bytes : List ℕ)
+    → old.left ≡ Some bytes → some_fetch state files ran ≡ true → some_fetch state files (lines_run bytes) ≡ true
+fetched_in {ran = ran} first state files bytes e asks =
+    let more = first.more bytes e in
+    sym (some_fetch_cut state files (lines_run bytes))
+    ∙ (ap (some_fetch state files) (sym (run_of bytes) ∙ more.1)
+    ∙ (some_fetch-append state files ran more.0 ∙ rw asks refl))
+
+-- where the files are told for the whole run, they are for its first lines
+told_in : {Out : Type 0} {told : Option Files} {ran : List (List ℕ)} {old : Course Out} → AreFirst ran old → (state : State) (files : Files) (bytes : List ℕ)
+    → old.left ≡ Some bytes → ToldForRun told state files bytes → ToldForAll told state files ran
+told_in first state files bytes e t =
+    λ asks. t (fetched_in first state files bytes e asks)
 
 -- ---- what was written is a front of the output
 
@@ -105,49 +116,54 @@ front_within now before front others text whole told = (
 
 -- the output is what the first lines report, and others
 first_texts : {Out : Type 0} {ran texts : List (List ℕ)} {old : Course Out} → AreFirst ran old → (state : State) (files : Files) (bytes : List ℕ)
-    → StandsFor old.session state → old.left ≡ Some bytes → texts ≡ replies state files ran
-    → (others : List ℕ) × (session_output state files bytes ≡ concat texts ++ others)
-first_texts {ran = ran} {texts = texts} first state files bytes h e texts_are =
-    let more = first.more state files bytes h e in
+    → old.left ≡ Some bytes → texts ≡ replies state files ran → (others : List ℕ) × (session_output state files bytes ≡ concat texts ++ others)
+first_texts {ran = ran} {texts = texts} first state files bytes e texts_are =
+    let more = first.more bytes e in
     let rest = replies (state_after state files ran) files more.0 in (
       concat rest,
       output_of state files bytes
-          ∙ (ap (λ ls. concat (replies state files ls)) (sym (run_of state files bytes) ∙ more.1)
+          ∙ (ap (λ ls. concat (replies state files ls)) (sym (run_of bytes) ∙ more.1)
           ∙ (ap concat (replies-append state files ran more.0)
           ∙ (concat-append (replies state files ran) rest
           ∙ ap (λ ts. concat ts ++ concat rest) (sym texts_are)))),
     )
 
-module _ {Out : Type 0} {sink : Ghosts Out} where
-  told_front : {ran : List (List ℕ)} {old new : Course Out} {refused : Bool} (run : WereRun sink ran old new refused) → AreFirst ran old
-      → (state : State) (files : Files) (bytes before : List ℕ) → StandsFor old.session state → old.left ≡ Some bytes
+module _ {Out : Type 0} {sink : Ghosts Out} {shelf : Option Files} where
+  told_front : {ran : List (List ℕ)} {old new : Course Out} {refused : Bool} (run : WereRun sink shelf ran old new refused) → AreFirst ran old
+      → (state : State) (files : Files) (bytes before : List ℕ) → StandsFor old.session state → ToldForRun shelf state files bytes → old.left ≡ Some bytes
       → sink.written old.out ≡ Some before → length before + length (session_output state files bytes) ≤ sink.room old.out
       → sink.written new.out ≡ Some (before ++ concat run.texts)
-  told_front run first state files bytes before h e w fits =
-      let others = first_texts first state files bytes h e (run.run.texts_are state files h) in
+  told_front run first state files bytes before h t e w fits =
+      let others = first_texts first state files bytes e (run.run.texts_are state files h (told_in first state files bytes e t)) in
       wrote_told run.wrote before w (omega (arith, ap length others.1, length-append (concat run.texts) others.0, fits))
 
-  pub some_front : {old new : Course Out} → RanSome sink old new
-      → (state : State) (files : Files) (bytes before : List ℕ) → StandsFor old.session state → old.left ≡ Some bytes
+  pub some_front : {old new : Course Out} → RanSome sink shelf old new
+      → (state : State) (files : Files) (bytes before : List ℕ) → StandsFor old.session state → ToldForRun shelf state files bytes → old.left ≡ Some bytes
       → sink.written old.out ≡ Some before → length before + length (session_output state files bytes) ≤ sink.room old.out
       → TellsPrefix (sink.written new.out) before (session_output state files bytes)
-  some_front {new = new} ran state files bytes before h e w fits =
-      let others = first_texts ran.first state files bytes h e (ran.run.run.texts_are state files h) in
+  some_front {new = new} ran state files bytes before h t e w fits =
+      let others = first_texts ran.first state files bytes e (ran.run.run.texts_are state files h (told_in ran.first state files bytes e t)) in
       front_within (sink.written new.out) before (concat ran.run.texts) others.0 (session_output state files bytes) others.1
-      (whole_text (sink.written new.out) before (concat ran.run.texts) (told_front ran.run ran.first state files bytes before h e w fits))
+      (whole_text (sink.written new.out) before (concat ran.run.texts) (told_front ran.run ran.first state files bytes before h t e w fits))
 
-  pub into_front : {old new : Course Out} → RanInto sink old new
-      → (state : State) (files : Files) (bytes before : List ℕ) → StandsFor old.session state → old.left ≡ Some bytes
+  into_texts : {old new : Course Out} (ran : RanInto sink shelf old new) (state : State) (files : Files) (bytes : List ℕ)
+      → StandsFor old.session state → ToldForRun shelf state files bytes → old.left ≡ Some bytes
+      → ran.run.texts ++ ran.begun.text ∷ [] ≡ replies state files (ran.lines ++ ran.line ∷ [])
+  into_texts ran state files bytes h t e =
+      let all = told_in ran.first state files bytes e t in
+      let first = told_first state files ran.lines (ran.line ∷ []) all in
+      let then = told_then state files ran.lines (ran.line ∷ []) all in
+      ap (λ ts. ts ++ (ran.begun.text ∷ [])) (ran.run.run.texts_are state files h first)
+      ∙ (ap (λ ts. replies state files ran.lines ++ ts) (ran.begun.text_is (state_after state files ran.lines) files (ran.run.run.stands state files h first) then)
+      ∙ sym (replies-append state files ran.lines (ran.line ∷ [])))
+
+  pub into_front : {old new : Course Out} → RanInto sink shelf old new
+      → (state : State) (files : Files) (bytes before : List ℕ) → StandsFor old.session state → ToldForRun shelf state files bytes → old.left ≡ Some bytes
       → sink.written old.out ≡ Some before → length before + length (session_output state files bytes) ≤ sink.room old.out
       → TellsPrefix (sink.written new.out) before (session_output state files bytes)
-  into_front {new = new} ran state files bytes before h e w fits =
-      let later = state_after state files ran.lines in
+  into_front {new = new} ran state files bytes before h t e w fits =
       let all = ran.run.texts ++ ran.begun.text ∷ [] in
-      let texts_are : all ≡ replies state files (ran.lines ++ ran.line ∷ []) =
-      ap (λ ts. ts ++ (ran.begun.text ∷ [])) (ran.run.run.texts_are state files h)
-      ∙ (ap (λ ts. replies state files ran.lines ++ ts) (ran.begun.text_is later files (ran.run.run.stands state files h))
-      ∙ sym (replies-append state files ran.lines (ran.line ∷ []))) in
-      let others = first_texts ran.first state files bytes h e texts_are in
+      let others = first_texts ran.first state files bytes e (into_texts ran state files bytes h t e) in
       let front_is : concat all ≡ concat ran.run.texts ++ ran.begun.text =
       concat-append ran.run.texts (ran.begun.text ∷ []) ∙ ap (λ t. concat ran.run.texts ++ t) (append-nil ran.begun.text) in
       let whole : session_output state files bytes ≡ (concat ran.run.texts ++ ran.begun.text) ++ others.0 =
@@ -158,57 +174,52 @@ module _ {Out : Type 0} {sink : Ghosts Out} where
 
   -- ---- the whole output
 
-  all_first : {limit : ℕ} {old new : Course Out} {refused : Bool} (ran : RanAll sink limit old new refused) → AreFirst ran.lines old
+  all_first : {limit : ℕ} {old new : Course Out} {refused : Bool} (ran : RanAll sink shelf limit old new refused) → AreFirst ran.lines old
   all_first ran = record {
-    more = λ state files bytes h e. ([], ran.lines_are state files bytes h e ∙ sym (append-nil ran.lines));
+    more = λ bytes e. ([], ran.lines_are bytes e ∙ sym (append-nil ran.lines));
   }
 
-  pub all_told : {limit : ℕ} {old new : Course Out} {refused : Bool} → RanAll sink limit old new refused
-      → (state : State) (files : Files) (bytes before : List ℕ) → StandsFor old.session state → old.left ≡ Some bytes
+  pub all_told : {limit : ℕ} {old new : Course Out} {refused : Bool} → RanAll sink shelf limit old new refused
+      → (state : State) (files : Files) (bytes before : List ℕ) → StandsFor old.session state → ToldForRun shelf state files bytes → old.left ≡ Some bytes
       → sink.written old.out ≡ Some before → length before + length (session_output state files bytes) ≤ sink.room old.out
       → sink.written new.out ≡ Some (before ++ session_output state files bytes)
-  all_told ran state files bytes before h e w fits =
+  all_told ran state files bytes before h t e w fits =
       let all : concat ran.run.texts ≡ session_output state files bytes =
-      ap concat (ran.run.run.texts_are state files h
-      ∙ ap (replies state files) (sym (ran.lines_are state files bytes h e) ∙ run_of state files bytes))
+      ap concat (ran.run.run.texts_are state files h (told_in (all_first ran) state files bytes e t)
+      ∙ ap (replies state files) (sym (ran.lines_are bytes e) ∙ run_of bytes))
       ∙ sym (output_of state files bytes) in
-      told_front ran.run (all_first ran) state files bytes before h e w fits ∙ ap (λ t. Some (before ++ t)) all
+      told_front ran.run (all_first ran) state files bytes before h t e w fits ∙ ap (λ t. Some (before ++ t)) all
 
-  pub all_some : {limit : ℕ} {old new : Course Out} {refused : Bool} → RanAll sink limit old new refused → RanSome sink old new
+  pub all_some : {limit : ℕ} {old new : Course Out} {refused : Bool} → RanAll sink shelf limit old new refused → RanSome sink shelf old new
   all_some {refused = refused} ran = record { lines = ran.lines; refused = refused; run = ran.run; first = all_first ran }
 
-  pub all_refused : {limit : ℕ} {old new : Course Out} {refused : Bool} → RanAll sink limit old new refused
-      → (state : State) (files : Files) (bytes : List ℕ) → StandsFor old.session state → old.left ≡ Some bytes
-      → refused ≡ some_refused state files (lines bytes)
-  all_refused ran state files bytes h e =
-      ran.run.run.refused_is state files h
-      ∙ (ap (some_refused state files) (sym (ran.lines_are state files bytes h e) ∙ run_of state files bytes)
-      ∙ some_refused_cut state files (lines bytes))
+  pub all_refused : {limit : ℕ} {old new : Course Out} {refused : Bool} → RanAll sink shelf limit old new refused
+      → (state : State) (files : Files) (bytes : List ℕ) → StandsFor old.session state → ToldForRun shelf state files bytes → old.left ≡ Some bytes
+      → refused ≡ some_refused state files (lines_run bytes)
+  all_refused ran state files bytes h t e =
+      ran.run.run.refused_is state files h (told_in (all_first ran) state files bytes e t)
+      ∙ (ap (some_refused state files) (sym (ran.lines_are bytes e) ∙ run_of bytes)
+      ∙ some_refused_cut state files (lines_run bytes))
 
-  pub all_read : {limit : ℕ} {old new : Course Out} {refused : Bool} → RanAll sink limit old new refused
-      → (state : State) (bytes : List ℕ) → StandsFor old.session state → old.left ≡ Some bytes
-      → (new.left ≡ Some []) × (length bytes ≤ limit)
-  all_read ran state bytes h e = ran.read state no_files bytes h e (none_ends state no_files ran.lines)
+  pub all_read : {limit : ℕ} {old new : Course Out} {refused : Bool} → RanAll sink shelf limit old new refused
+      → (bytes : List ℕ) → old.left ≡ Some bytes → some_ends (lines_run bytes) ≡ false → (new.left ≡ Some []) × (length bytes ≤ limit)
+  all_read ran bytes e none =
+      ran.read bytes e (ap some_ends (sym (ran.lines_are bytes e) ∙ run_of bytes) ∙ (some_ends_cut (lines_run bytes) ∙ none))
 
   -- ---- a sink that nothing was to be written to
 
-  pub some_quiet : {old new : Course Out} → RanSome sink old new → (state : State) (files : Files) (bytes : List ℕ)
-      → StandsFor old.session state → old.left ≡ Some bytes → session_output state files bytes ≡ [] → new.out ≡ old.out
-  some_quiet ran state files bytes h e none =
-      let others = first_texts ran.first state files bytes h e (ran.run.run.texts_are state files h) in
+  pub some_quiet : {old new : Course Out} → RanSome sink shelf old new → (state : State) (files : Files) (bytes : List ℕ)
+      → StandsFor old.session state → ToldForRun shelf state files bytes → old.left ≡ Some bytes → session_output state files bytes ≡ [] → new.out ≡ old.out
+  some_quiet ran state files bytes h t e none =
+      let others = first_texts ran.first state files bytes e (ran.run.run.texts_are state files h (told_in ran.first state files bytes e t)) in
       wrote_nothing ran.run.wrote
       (nil_from_length (concat ran.run.texts) (omega (arith, ap length others.1, length-append (concat ran.run.texts) others.0, ap length none)))
 
-  pub into_quiet : {old new : Course Out} → RanInto sink old new → (state : State) (files : Files) (bytes : List ℕ)
-      → StandsFor old.session state → old.left ≡ Some bytes → session_output state files bytes ≡ [] → new.out ≡ old.out
-  into_quiet ran state files bytes h e none =
-      let later = state_after state files ran.lines in
+  pub into_quiet : {old new : Course Out} → RanInto sink shelf old new → (state : State) (files : Files) (bytes : List ℕ)
+      → StandsFor old.session state → ToldForRun shelf state files bytes → old.left ≡ Some bytes → session_output state files bytes ≡ [] → new.out ≡ old.out
+  into_quiet ran state files bytes h t e none =
       let all = ran.run.texts ++ ran.begun.text ∷ [] in
-      let texts_are : all ≡ replies state files (ran.lines ++ ran.line ∷ []) =
-      ap (λ ts. ts ++ (ran.begun.text ∷ [])) (ran.run.run.texts_are state files h)
-      ∙ (ap (λ ts. replies state files ran.lines ++ ts) (ran.begun.text_is later files (ran.run.run.stands state files h))
-      ∙ sym (replies-append state files ran.lines (ran.line ∷ []))) in
-      let others = first_texts ran.first state files bytes h e texts_are in
+      let others = first_texts ran.first state files bytes e (into_texts ran state files bytes h t e) in
       absurd (omega (
         arith,
         ran.begun.front.some,
@@ -222,39 +233,73 @@ module _ {Out : Type 0} {sink : Ghosts Out} where
 
   -- ---- which front it is
 
-  texts_of : {old new : Course Out} (ran : RanSome sink old new) (state : State) (files : Files) (whole : List (List ℕ))
-      → StandsFor old.session state → map cut whole ≡ ran.lines → concat ran.run.texts ≡ reports state files whole
-  texts_of ran state files whole h is =
-      ap concat (ran.run.run.texts_are state files h ∙ (ap (replies state files) (sym is) ∙ replies_cut state files whole))
+  texts_of : {old new : Course Out} (ran : RanSome sink shelf old new) (state : State) (files : Files) (whole : List (List ℕ))
+      → StandsFor old.session state → ToldForAll shelf state files ran.lines → map cut whole ≡ ran.lines → concat ran.run.texts ≡ reports state files whole
+  texts_of ran state files whole h t is =
+      ap concat (ran.run.run.texts_are state files h t ∙ (ap (replies state files) (sym is) ∙ replies_cut state files whole))
 
-  pub some_whole : {old new : Course Out} → RanSome sink old new
-      → (state : State) (files : Files) (bytes before : List ℕ) → StandsFor old.session state → old.left ≡ Some bytes
+  pub some_whole : {old new : Course Out} → RanSome sink shelf old new
+      → (state : State) (files : Files) (bytes before : List ℕ) → StandsFor old.session state → ToldForRun shelf state files bytes → old.left ≡ Some bytes
       → sink.written old.out ≡ Some before → length before + length (session_output state files bytes) ≤ sink.room old.out
-      → (count : ℕ) × (sink.written new.out ≡ Some (before ++ reports state files (take count (lines bytes))))
-  some_whole ran state files bytes before h e w fits =
+      → (count : ℕ) × (sink.written new.out ≡ Some (before ++ reports state files (take count (lines_run bytes))))
+  some_whole ran state files bytes before h t e w fits =
       let count = length ran.lines in
-      let more = ran.first.more state files bytes h e in
-      let is : map cut (take count (lines bytes)) ≡ ran.lines =
-      sym (take-map cut count (lines bytes))
-      ∙ (ap (take count) (sym (run_of state files bytes) ∙ more.1) ∙ take-append_seam ran.lines more.0) in (
+      let more = ran.first.more bytes e in
+      let is : map cut (take count (lines_run bytes)) ≡ ran.lines =
+      sym (take-map cut count (lines_run bytes))
+      ∙ (ap (take count) (sym (run_of bytes) ∙ more.1) ∙ take-append_seam ran.lines more.0) in (
         count,
-        told_front ran.run ran.first state files bytes before h e w fits
-            ∙ ap (λ t. Some (before ++ t)) (texts_of ran state files (take count (lines bytes)) h is),
+        told_front ran.run ran.first state files bytes before h t e w fits
+            ∙ ap (λ t. Some (before ++ t)) (texts_of ran state files (take count (lines_run bytes)) h (told_in ran.first state files bytes e t) is),
       )
 
-  pub ended_told : {overs : ℕ} {old new : Course Out} (ran : RanEnded sink overs old new)
-      → (state : State) (files : Files) (bytes before : List ℕ) → StandsFor old.session state → old.left ≡ Some bytes
+  -- the lines before the one that asks for a file, in whole lines of the input
+  pub told_to_file : {old new : Course Out} → RanToFile sink shelf old new
+      → (state : State) (files : Files) (bytes before : List ℕ) → StandsFor old.session state → ToldForRun shelf state files bytes
+      → old.left ≡ Some bytes → sink.written old.out ≡ Some before
+      → length before + length (session_output state files bytes) ≤ sink.room old.out
+      → ToldToFile state files bytes before (sink.written new.out)
+  told_to_file ran state files bytes before h t e w fits =
+      let all = lines_run bytes in
+      let count = length ran.some.lines in
+      let more = ran.next.more bytes e in
+      let cut_are : map cut all ≡ (ran.some.lines ++ ran.line ∷ []) ++ more.0 = sym (run_of bytes) ∙ more.1 in
+      let split : map cut all ≡ ran.some.lines ++ ran.line ∷ more.0 =
+      cut_are ∙ append_assoc ran.some.lines (ran.line ∷ []) more.0 in
+      let within : count < length all =
+      omega (arith, sym (length-map all cut), ap length split, length-append ran.some.lines (ran.line ∷ more.0)) in
+      let front : map cut (take count all) ≡ ran.some.lines =
+      sym (take-map cut count all) ∙ (ap (take count) split ∙ take-append_seam ran.some.lines (ran.line ∷ more.0)) in
+      let here : cut (get_or all count []) ≡ ran.line =
+      sym (get_or-map cut all count [] [] within)
+      ∙ (ap (λ ls. get_or ls count []) split ∙ get_or-append_seam ran.some.lines ran.line more.0 []) in
+      let told = told_in ran.some.first state files bytes e t in
+      record {
+        ran = take count all;
+        line = get_or all count [];
+        others = drop (count + 1) all;
+        lines_are = sym (take-append-drop count all) ∙ ap (λ ls. take count all ++ ls) (drop_more all count [] within);
+        asks = ap (λ s. fetches s (get_or all count [])) (sym (state_after_cut state files (take count all)))
+            ∙ (sym (fetches_cut (state_after state files (map cut (take count all))) (get_or all count []))
+            ∙ (ap (fetches (state_after state files (map cut (take count all)))) here
+            ∙ (ap (λ ls. fetches (state_after state files ls) ran.line) front ∙ ran.asks state files h told)));
+        told = told_front ran.some.run ran.some.first state files bytes before h t e w fits
+            ∙ ap (λ text. Some (before ++ text)) (texts_of ran.some state files (take count all) h told front);
+      }
+
+  pub ended_told : {overs : ℕ} {old new : Course Out} (ran : RanEnded sink shelf overs old new)
+      → (state : State) (files : Files) (bytes before : List ℕ) → StandsFor old.session state → ToldForRun shelf state files bytes → old.left ≡ Some bytes
       → sink.written old.out ≡ Some before → length before + length (session_output state files bytes) ≤ sink.room old.out
       → sink.written new.out ≡ Some (before ++ reports state files (ended_lines ran.taken))
-  ended_told ran state files bytes before h e w fits =
-      told_front ran.some.run ran.some.first state files bytes before h e w fits
-      ∙ ap (λ t. Some (before ++ t)) (texts_of ran.some state files (ended_lines ran.taken) h ran.lines_are)
+  ended_told ran state files bytes before h t e w fits =
+      told_front ran.some.run ran.some.first state files bytes before h t e w fits
+      ∙ ap (λ t. Some (before ++ t)) (texts_of ran.some state files (ended_lines ran.taken) h (told_in ran.some.first state files bytes e t) ran.lines_are)
 
-  pub told_taken : {old new : Course Out} → RanEnded sink 0 old new
-      → (state : State) (files : Files) (bytes before : List ℕ) → StandsFor old.session state → old.left ≡ Some bytes
+  pub told_taken : {old new : Course Out} → RanEnded sink shelf 0 old new
+      → (state : State) (files : Files) (bytes before : List ℕ) → StandsFor old.session state → ToldForRun shelf state files bytes → old.left ≡ Some bytes
       → sink.written old.out ≡ Some before → length before + length (session_output state files bytes) ≤ sink.room old.out
       → ToldTaken state files bytes new.left before (sink.written new.out)
-  told_taken ran state files bytes before h e w fits =
+  told_taken ran state files bytes before h t e w fits =
       let off = ran.source bytes e in
       let none : off.over ≡ [] = nil_from_length off.over off.over_count in
       record {
@@ -262,28 +307,38 @@ module _ {Out : Type 0} {sink : Ghosts Out} where
         rest = off.rest;
         bytes_are = off.bytes_are ∙ ap (λ over. ran.taken ++ (over ++ off.rest)) none;
         left_is = off.later_is;
-        told = ended_told ran state files bytes before h e w fits;
+        told = ended_told ran state files bytes before h t e w fits;
       }
 
-  pub told_within : {limit : ℕ} {old new : Course Out} → (ran : RanEnded sink 1 old new) → length ran.taken ≡ limit
-      → (state : State) (files : Files) (bytes before : List ℕ) → StandsFor old.session state → old.left ≡ Some bytes
+  pub told_within : {limit : ℕ} {old new : Course Out} → (ran : RanEnded sink shelf 1 old new) → length ran.taken ≡ limit
+      → (state : State) (files : Files) (bytes before : List ℕ) → StandsFor old.session state → ToldForRun shelf state files bytes → old.left ≡ Some bytes
       → sink.written old.out ≡ Some before → length before + length (session_output state files bytes) ≤ sink.room old.out
       → sink.written new.out ≡ Some (before ++ reports state files (ended_lines (take limit bytes)))
-  told_within ran count state files bytes before h e w fits =
+  told_within ran count state files bytes before h t e w fits =
       let off = ran.source bytes e in
       let front : take _ bytes ≡ ran.taken =
       ap (λ n. take n bytes) (sym count) ∙ (ap (take (length ran.taken)) off.bytes_are ∙ take-append_seam ran.taken (off.over ++ off.rest)) in
-      ended_told ran state files bytes before h e w fits
+      ended_told ran state files bytes before h t e w fits
       ∙ ap (λ t. Some (before ++ reports state files (ended_lines t))) (sym front)
 
   -- a byte past the limit was taken, so there was one
-  pub longer_than_limit : {limit : ℕ} {old new : Course Out} → (ran : RanEnded sink 1 old new) → length ran.taken ≡ limit
+  pub longer_than_limit : {limit : ℕ} {old new : Course Out} → (ran : RanEnded sink shelf 1 old new) → length ran.taken ≡ limit
       → (bytes : List ℕ) → old.left ≡ Some bytes → limit < length bytes
   longer_than_limit ran count bytes e =
       let off = ran.source bytes e in
       omega (arith, ap length off.bytes_are, off.over_count, count, length-append ran.taken (off.over ++ off.rest), length-append off.over off.rest)
 
-  pub some_flushed : {old new : Course Out} → RanSome sink old new → (sink.flushed new.out ≡ true) ⊎ (new.out ≡ old.out)
+  -- the run stopped where a file was asked for, so one was
+  pub stopped_at_file : {old new : Course Out} → RanToFile sink shelf old new → (state : State) (files : Files) (bytes : List ℕ)
+      → StandsFor old.session state → old.left ≡ Some bytes → some_fetch state files (lines_run bytes) ≡ false → ⊥
+  stopped_at_file ran state files bytes h e none =
+      let told : ToldForRun shelf state files bytes = λ asks. absurd (not_both asks none) in
+      let asks = ran.asks state files h (told_in ran.some.first state files bytes e told) in
+      let fetched : some_fetch state files (ran.some.lines ++ ran.line ∷ []) ≡ true =
+      some_fetch-append state files ran.some.lines (ran.line ∷ []) ∙ rw asks (or-true (some_fetch state files ran.some.lines)) in
+      not_both (fetched_in ran.next state files bytes e fetched) none
+
+  pub some_flushed : {old new : Course Out} → RanSome sink shelf old new → (sink.flushed new.out ≡ true) ⊎ (new.out ≡ old.out)
   some_flushed ran = wrote_flushed ran.run.wrote
 
 -- ---- by the words
@@ -322,18 +377,18 @@ whole_status (Ok refused) status b is p whole = is ∙ ap ran p
 whole_status (Err halt) status b is p whole = ran_on halt (subst (λ (s : Status). IsTrue (is_whole s)) is whole)
 
 -- why a run ended early, read off its status
-read_fault_by : (r : Result Bool Halt) → (IsErrOf r halts.ShelfFault → ⊥) → statuses.ReadFault ≡ status_by r → IsErrOf r halts.ReadFault
-read_fault_by (Ok false) never is = cc
-read_fault_by (Ok true) never is = cc
-read_fault_by (Err halts.ReadFault) never is = refl
-read_fault_by (Err halts.ShelfFault) never is = absurd (never refl)
-read_fault_by (Err halts.WriteFault) never is = cc
-read_fault_by (Err halts.InputLimit) never is = cc
-read_fault_by (Err halts.Memory) never is = cc
+read_fault_by : (r : Result Bool Halt) → statuses.ReadFault ≡ status_by r → IsErrOf r halts.ReadFault ⊎ IsErrOf r halts.ShelfFault
+read_fault_by (Ok false) is = absurd (cc is)
+read_fault_by (Ok true) is = absurd (cc is)
+read_fault_by (Err halts.ReadFault) is = inl refl
+read_fault_by (Err halts.ShelfFault) is = inr refl
+read_fault_by (Err halts.WriteFault) is = absurd (cc is)
+read_fault_by (Err halts.InputLimit) is = absurd (cc is)
+read_fault_by (Err halts.Memory) is = absurd (cc is)
 
-pub on_read_fault : (r : Result Bool Halt) (status : Status) → (IsErrOf r halts.ShelfFault → ⊥) → status ≡ status_by r
-    → status ≡ statuses.ReadFault → IsErrOf r halts.ReadFault
-on_read_fault r status never is fault = read_fault_by r never (sym fault ∙ is)
+pub on_read_fault : (r : Result Bool Halt) (status : Status) → status ≡ status_by r → status ≡ statuses.ReadFault
+    → IsErrOf r halts.ReadFault ⊎ IsErrOf r halts.ShelfFault
+on_read_fault r status is fault = read_fault_by r (sym fault ∙ is)
 
 input_limit_by : (r : Result Bool Halt) → statuses.InputLimit ≡ status_by r → IsErrOf r halts.InputLimit
 input_limit_by (Ok false) is = cc

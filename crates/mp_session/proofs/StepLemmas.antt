@@ -1,24 +1,27 @@
 -- What was prepared for a line, and the state behind it.
-use Rattle.std.proofs.Common.{◌≡◌, ℕ, ◌+◌, Bool, true, false, ◌||◌, List, [], ◌∷◌, refl, ap, ◌∙◌, sym}
+use Rattle.std.proofs.Common.{◌≡◌, ℕ, ◌+◌, Bool, true, false, ◌||◌, List, refl, ap, ◌∙◌, sym}
 use Rattle.std.proofs.Math.Bool.{or-false, or-true}
-use Rattle.std.specs.Prelude.{is_some, replicate, if◌then◌else◌}
-use Rattle.std.proofs.lemmas.List.{map-append}
-use Rattle.mp_nums.specs.declared.samples.Sample.{Sample}
-use Rattle.mp_defs.specs.Series.{reading_of}
+use Rattle.std.specs.Prelude.{is_some, if◌then◌else◌, Option, Some, None}
+use Rattle.mp_replies.specs.declared.causes.Cause.{Cause}
 use Rattle.mp_replies.specs.Answer as replies
 use Rattle.mp_replies.specs.Answer.{Report}
+use Rattle.mp_replies.specs.Change as change
 use Rattle.mp_replies.specs.Change.{changed}
-use Rattle.mp_replies.specs.Line.{Asked, asked_of}
+use Rattle.mp_replies.specs.Command as asked
+use Rattle.mp_replies.specs.Command.{Command}
+use Rattle.mp_replies.specs.Conditions.{first_of}
+use Rattle.mp_replies.specs.Line.{Asked, Nothing, Asks, Faulty, asked_of, ends, is_end}
 use Rattle.mp_replies.specs.Report.{text_of}
-use Rattle.mp_replies.specs.State.{Files, State, Open, Closed}
-use Rattle.mp_replies.specs.Step.{Verdict, Passes, IsRefused, IsAccepted, verdict, verdict_of, cause, cause_in, change_in, after, after_by, answer, answer_by, is_last, report_by}
-use Rattle.mp_replies.specs.Output.{reply, ends, ends_run}
-use Rattle.mp_session.specs.declared.prepared.Change.{Change}
-use Rattle.mp_session.specs.declared.prepared.Change.TheVariants.{Keep, AddSamples}
+use Rattle.mp_replies.specs.State.{Files, State}
+use Rattle.mp_replies.specs.Step.{Verdict, Passes, IsRefused, IsAccepted, verdict, verdict_by, verdict_of, cause, cause_in, change_by, change_in, conditions, after, after_by, answer, answer_by, is_last, report_by}
+use Rattle.mp_replies.specs.Output.{reply}
+use Rattle.mp_session.specs.declared.answers.Answer.TheVariants as answers
+use Rattle.mp_session.specs.declared.answers.Report as ours
+use Rattle.mp_session.specs.declared.prepared.Change.TheVariants.{Keep}
 use Rattle.mp_session.specs.declared.prepared.Prepared.{Prepared}
-use Rattle.mp_session.specs.Answers.{answered, kind_of, is_accepted, is_ended, is_refused}
-use Rattle.mp_session.specs.Preparing.{IsPrepared, IsSameButRoom, HasCommitted, added_by, changed_by}
-use Rattle.mp_session.specs.Sessions.{Held, StandsFor, stores_of}
+use Rattle.mp_session.specs.Answers.{answered, kind_of, is_accepted, is_ended, is_refused, reported}
+use Rattle.mp_session.specs.Preparing.{IsPrepared, IsSameButRoom, HasCommitted, changed_by}
+use Rattle.mp_session.specs.Sessions.{Held, StandsFor}
 
 -- ---- kinds
 
@@ -35,15 +38,71 @@ pub refused_kind : (state : State) (line : List ℕ) (files : Files) → is_refu
 unfolding answer cause
 refused_kind state line files = refused_in (after state line files) (verdict state line files)
 
-ended_in : (a : replies.Answer) → is_ended (kind_of a) ≡ ends_run a
-ended_in replies.Silent = refl
-ended_in (replies.Refused why) = refl
-ended_in (replies.Accepted report) = refl
-ended_in (replies.Ended report) = refl
+ended_by : (command : Command) (later : State) (why : Option Cause) (more : change.Change) → is_last command ≡ false
+    → is_ended (kind_of (answer_by later (verdict_by command why more))) ≡ false
+ended_by command later (Some cause) more h = refl
+ended_by command later None more h = rw h refl
 
-pub ended_kind : (state : State) (line : List ℕ) (files : Files) → is_ended (kind_of (answer state line files)) ≡ ends state line files
-unfolding ends
-ended_kind state line files = ended_in (answer state line files)
+ended_in : (state later : State) (files : Files) (line : Asked) → is_ended (kind_of (answer_by later (verdict_of state files line))) ≡ is_end line
+ended_in state later files Nothing = refl
+ended_in state later files (Faulty why) = refl
+ended_in state later files (Asks (asked.Session version)) = ended_by (asked.Session version) later (first_of (conditions state files (asked.Session version))) (change_by state files (asked.Session version)) refl
+ended_in state later files (Asks (asked.OpenSlot slot channels)) = ended_by (asked.OpenSlot slot channels) later (first_of (conditions state files (asked.OpenSlot slot channels))) (change_by state files (asked.OpenSlot slot channels)) refl
+ended_in state later files (Asks (asked.Load slot file columns header)) = ended_by (asked.Load slot file columns header) later (first_of (conditions state files (asked.Load slot file columns header))) (change_by state files (asked.Load slot file columns header)) refl
+ended_in state later files (Asks (asked.Append slot items)) = ended_by (asked.Append slot items) later (first_of (conditions state files (asked.Append slot items))) (change_by state files (asked.Append slot items)) refl
+ended_in state later files (Asks (asked.Window at start)) = ended_by (asked.Window at start) later (first_of (conditions state files (asked.Window at start))) (change_by state files (asked.Window at start)) refl
+ended_in state later files (Asks (asked.Profile at)) = ended_by (asked.Profile at) later (first_of (conditions state files (asked.Profile at))) (change_by state files (asked.Profile at)) refl
+ended_in state later files (Asks (asked.Entry at start)) = ended_by (asked.Entry at start) later (first_of (conditions state files (asked.Entry at start))) (change_by state files (asked.Entry at start)) refl
+ended_in state later files (Asks asked.End) = refl
+
+pub ended_kind : (state : State) (line : List ℕ) (files : Files) → is_ended (kind_of (answer state line files)) ≡ ends line
+unfolding ends answer verdict
+ended_kind state line files = ended_in state (after state line files) files (asked_of line)
+
+-- ---- what was prepared
+
+refused_at : (state : State) (files : Files) (command : Command) (why : Option Cause) (cause : Cause) (prepared : Prepared) → why ≡ Some cause
+    → prepared.answer ≡ answers.Refused cause
+    → answered prepared.answer ≡ answer_by (after_by state (verdict_by command why (change_by state files command))) (verdict_by command why (change_by state files command))
+refused_at state files command None cause prepared h is = absurd (cc h)
+refused_at state files command (Some why) cause prepared h is = cc (h, ap answered is)
+
+kept_at : (state : State) (files : Files) (command : Command) (why : Option Cause) (cause : Cause) (prepared : Prepared) → why ≡ Some cause
+    → prepared.change ≡ Keep → changed_by prepared.change ≡ change_in (verdict_by command why (change_by state files command))
+kept_at state files command None cause prepared h is = absurd (cc h)
+kept_at state files command (Some why) cause prepared h is = ap changed_by is
+
+-- a refusal by the first condition that holds
+pub prepared_refused : (state : State) (files : Files) (command : Command) (cause : Cause) (prepared : Prepared)
+    → first_of (conditions state files command) ≡ Some cause → prepared.answer ≡ answers.Refused cause → prepared.change ≡ Keep
+    → IsPrepared state files (Asks command) prepared
+prepared_refused state files command cause prepared h answer kept = record {
+  answer_is = refused_at state files command (first_of (conditions state files command)) cause prepared h answer;
+  change_is = kept_at state files command (first_of (conditions state files command)) cause prepared h kept;
+}
+
+accepted_at : (state : State) (files : Files) (command : Command) (why : Option Cause) (report : ours.Report) (prepared : Prepared) → why ≡ None
+    → is_last command ≡ false → prepared.answer ≡ answers.Accepted report
+    → reported report ≡ report_by (after_by state (IsAccepted command (change_by state files command))) command
+    → answered prepared.answer ≡ answer_by (after_by state (verdict_by command why (change_by state files command))) (verdict_by command why (change_by state files command))
+accepted_at state files command (Some why) report prepared h last answer is = absurd (cc h)
+accepted_at state files command None report prepared h last answer is = ap answered answer ∙ (ap replies.Accepted is ∙ rw last refl)
+
+change_at : (state : State) (files : Files) (command : Command) (why : Option Cause) (prepared : Prepared) → why ≡ None
+    → changed_by prepared.change ≡ change_by state files command
+    → changed_by prepared.change ≡ change_in (verdict_by command why (change_by state files command))
+change_at state files command (Some why) prepared h is = absurd (cc h)
+change_at state files command None prepared h is = is
+
+-- a report and a change, where no condition holds
+pub prepared_accepted : (state : State) (files : Files) (command : Command) (report : ours.Report) (prepared : Prepared)
+    → first_of (conditions state files command) ≡ None → is_last command ≡ false → prepared.answer ≡ answers.Accepted report
+    → reported report ≡ report_by (after_by state (IsAccepted command (change_by state files command))) command
+    → changed_by prepared.change ≡ change_by state files command → IsPrepared state files (Asks command) prepared
+prepared_accepted state files command report prepared h last answer is change = record {
+  answer_is = accepted_at state files command (first_of (conditions state files command)) report prepared h last answer is;
+  change_is = change_at state files command (first_of (conditions state files command)) prepared h change;
+}
 
 -- ---- the answer
 
@@ -86,11 +145,6 @@ behind state (IsAccepted command change) =
       stores_is = refl;
     }
 
-stores_by : (samples : List Sample) (change : Change) → changed (stores_of samples) (changed_by change) ≡ stores_of (added_by change samples)
-stores_by samples Keep = refl
-stores_by samples (AddSamples more) =
-    ap (λ s. Open (s ∷ []) ∷ replicate 7 Closed) (sym (map-append reading_of samples more.items))
-
 -- the session that made the change stands for the state behind the line
 stands_by : (old mid new : Held) (state : State) (files : Files) (asked : Asked) (prepared : Prepared) → StandsFor old state
     → IsPrepared state files asked prepared → IsSameButRoom old mid → HasCommitted mid new prepared
@@ -106,10 +160,8 @@ stands_by old mid new state files asked prepared h step same made =
           ∙ (ap (λ b. b || is_accepted (answer_by (after_by state v) v)) (h.begun_is ∙ sym same.begun_is)
           ∙ (ap (λ a. mid.begun || is_accepted a) (sym step.answer_is) ∙ sym made.begun_is));
       stores_is = is.stores_is
-          ∙ (ap (λ change. changed state.stores change) (sym step.change_is)
-          ∙ (ap (λ stores. changed stores (changed_by prepared.change)) h.stores_is
-          ∙ (stores_by old.samples.items prepared.change
-          ∙ (ap (λ items. stores_of (added_by prepared.change items)) (sym same.items_are) ∙ ap stores_of (sym made.items_are)))));
+          ∙ (ap (λ more. changed state.stores more) (sym step.change_is)
+          ∙ (ap (λ stores. changed stores (changed_by prepared.change)) (h.stores_is ∙ sym same.stores_are) ∙ sym made.stores_are));
     }
 
 pub stands_after : (old mid new : Held) (state : State) (files : Files) (line : List ℕ) (prepared : Prepared) → StandsFor old state

@@ -6,106 +6,115 @@ use Rattle.mp_outside.specs.declared.sinks.Sink.{Ghosts}
 use Rattle.mp_feed.specs.declared.readers.Next.TheVariants.{Line, End, PastLimit}
 use Rattle.mp_feed.specs.Reading.{Reading, at_start, after_line, bit, Gave, IsNext, IsFailed}
 use Rattle.mp_feed.specs.ReadingLaws.{gave_none, gave_on, dry_on, line_comes, lines_at_end, lines_at_rest, lines_so_far}
+use Rattle.mp_replies.specs.Line.{ends}
+use Rattle.mp_replies.specs.Output.{some_ends, state_after, until_end}
 use Rattle.mp_replies.specs.State.{Files, State}
-use Rattle.mp_replies.specs.Step.{after}
-use Rattle.mp_replies.specs.Output.{ends, some_ends, state_after, until_end}
+use Rattle.mp_replies.specs.Step.{fetches}
 use Rattle.mp_session.specs.Sessions.{Held, StandsFor}
 use Rattle.mp_session.specs.Running.{Course, WasBegun, WereRun, course_at}
-use Rattle.mp_session.specs.Serving.{AreFirst, RanAll, RanEnded, RanInto, RanSome}
-use Rattle.mp_session.proofs.RunLemmas.{some_ends-append, until_end-append, until_end-one, were_run_none, were_run_on}
-
-not_both : {P : Type 0} (b : Bool) → b ≡ true → b ≡ false → P
-not_both b t f = let clash : true ≡ false = sym t ∙ f in absurd (cc clash)
+use Rattle.mp_session.specs.Serving.{AreFirst, RanAll, RanEnded, RanInto, RanSome, RanToFile}
+use Rattle.mp_session.proofs.RunLemmas.{not_both, some_ends-append, until_end-append, until_end-one, were_run_none, were_run_on}
 
 -- These lines were run, and none of them ended the run. They are those that the reader gave.
-pub record IsUnderWay {Out : Type 0} (sink : Ghosts Out) (limit : ℕ) (old now : Course Out) (reader : Reading) (refused : Bool) : Type 0 where
+pub record IsUnderWay {Out : Type 0} (sink : Ghosts Out) (told : Option Files) (limit : ℕ) (old now : Course Out) (reader : Reading) (refused : Bool) : Type 0 where
   pub lines : List (List ℕ)
-  pub run : WereRun sink lines old now refused
-  pub none_ends : (state : State) (files : Files) → StandsFor old.session state → some_ends state files lines ≡ false
+  pub run : WereRun sink told lines old now refused
+  pub none_ends : some_ends lines ≡ false
   pub gave : Gave lines (at_start limit) reader old.left now.left
 
-module _ {Out : Type 0} {sink : Ghosts Out} where
-  pub under_way_start : (limit : ℕ) (old : Course Out) → IsUnderWay sink limit old old (at_start limit) false
+module _ {Out : Type 0} {sink : Ghosts Out} {told : Option Files} where
+  pub under_way_start : (limit : ℕ) (old : Course Out) → IsUnderWay sink told limit old old (at_start limit) false
   under_way_start limit old = record {
     lines = [];
-    run = were_run_none old;
-    none_ends = λ state files h. refl;
+    run = were_run_none told old;
+    none_ends = refl;
     gave = gave_none (at_start limit) old.left;
   }
 
   -- ---- a line that came next was run
 
-  line_ends : {limit : ℕ} {old now : Course Out} {reader : Reading} {refused : Bool} (u : IsUnderWay sink limit old now reader refused)
-      (line : List ℕ) (last : Bool) → ((state : State) (files : Files) → StandsFor now.session state → last ≡ ends state line files)
-      → (state : State) (files : Files) → StandsFor old.session state → some_ends state files (u.lines ++ line ∷ []) ≡ last
-  line_ends u line last is state files h =
-      some_ends-append state files u.lines (line ∷ [])
-      ∙ rw (u.none_ends state files h, ← is (state_after state files u.lines) files (u.run.run.stands state files h)) (or-false last)
+  line_ends : {limit : ℕ} {old now : Course Out} {reader : Reading} {refused : Bool} (u : IsUnderWay sink told limit old now reader refused)
+      (line : List ℕ) (last : Bool) → last ≡ ends line
+      → some_ends (u.lines ++ line ∷ []) ≡ last
+  line_ends u line last is = some_ends-append u.lines (line ∷ []) ∙ rw (u.none_ends, ← is) (or-false last)
 
   pub under_way_on : {limit : ℕ} {old now : Course Out} {reader : Reading} {refused also : Bool} {line : List ℕ} {last : Bool}
-      {session : Held} {out : Out} (next : Reading) (later : Option (List ℕ)) → IsUnderWay sink limit old now reader refused
+      {session : Held} {out : Out} (next : Reading) (later : Option (List ℕ)) → IsUnderWay sink told limit old now reader refused
       → IsNext reader next now.left later (Line false) → line ≡ next.holding.kept
-      → WereRun sink (line ∷ []) (course_at now.session later now.out) (course_at session later out) also
-      → ((state : State) (files : Files) → StandsFor now.session state → last ≡ ends state line files) → last ≡ false
-      → IsUnderWay sink limit old (course_at session later out) (after_line next) (refused || also)
+      → WereRun sink told (line ∷ []) (course_at now.session later now.out) (course_at session later out) also
+      → last ≡ ends line → last ≡ false
+      → IsUnderWay sink told limit old (course_at session later out) (after_line next) (refused || also)
   under_way_on {now = now} {reader = reader} {line = line} {last = last} next later u comes line_is run is goes_on = record {
     lines = u.lines ++ line ∷ [];
     run = were_run_on u.run record { texts = run.texts; run = run.run; wrote = run.wrote };
-    none_ends = λ state files h. line_ends u line last is state files h ∙ goes_on;
+    none_ends = line_ends u line last is ∙ goes_on;
     gave = gave_on u.gave (subst (λ l. Gave (l ∷ []) reader (after_line next) now.left later) (sym line_is) comes.gave);
   }
 
   -- it ended the run
   pub all_to_end : {limit : ℕ} {old now : Course Out} {reader : Reading} {refused also : Bool} {line : List ℕ} {last : Bool}
-      {session : Held} {out : Out} (next : Reading) (later : Option (List ℕ)) → IsUnderWay sink limit old now reader refused
+      {session : Held} {out : Out} (next : Reading) (later : Option (List ℕ)) → IsUnderWay sink told limit old now reader refused
       → (final : Bool) → IsNext reader next now.left later (Line final) → line ≡ next.holding.kept
-      → WereRun sink (line ∷ []) (course_at now.session later now.out) (course_at session later out) also
-      → ((state : State) (files : Files) → StandsFor now.session state → last ≡ ends state line files) → last ≡ true
-      → RanAll sink limit old (course_at session later out) (refused || also)
+      → WereRun sink told (line ∷ []) (course_at now.session later now.out) (course_at session later out) also
+      → last ≡ ends line → last ≡ true
+      → RanAll sink told limit old (course_at session later out) (refused || also)
   all_to_end {line = line} {last = last} next later u final comes line_is run is ended = record {
     lines = u.lines ++ line ∷ [];
     run = were_run_on u.run record { texts = run.texts; run = run.run; wrote = run.wrote };
-    lines_are = λ state files bytes h e.
+    lines_are = λ bytes e.
         let comes_next = line_comes next later u.gave final comes bytes e in
-        let first = state_after state files u.lines in
-        let ending : ends first line files ≡ true = sym (is first files (u.run.run.stands state files h)) ∙ ended in
-        ap (until_end state files) (comes_next.1 ∙ ap (λ l. u.lines ++ (l ∷ comes_next.0)) (sym line_is))
-        ∙ (until_end-append state files u.lines (line ∷ comes_next.0) (u.none_ends state files h)
-        ∙ ap (λ b. u.lines ++ (line ∷ (if b then [] else until_end (after first line files) files comes_next.0))) ending);
-    read = λ state files bytes h e goes_on. not_both last ended (sym (line_ends u line last is state files h) ∙ goes_on);
+        ap until_end (comes_next.1 ∙ ap (λ l. u.lines ++ (l ∷ comes_next.0)) (sym line_is))
+        ∙ (until_end-append u.lines (line ∷ comes_next.0) u.none_ends
+        ∙ ap (λ b. u.lines ++ (line ∷ (if b then [] else until_end comes_next.0))) (sym is ∙ ended));
+    read = λ bytes e goes_on. not_both ended (sym (line_ends u line last is) ∙ goes_on);
   }
 
   -- it was the last line
   pub all_to_last : {limit : ℕ} {old now : Course Out} {reader : Reading} {refused also : Bool} {line : List ℕ}
-      {session : Held} {out : Out} (next : Reading) (later : Option (List ℕ)) → IsUnderWay sink limit old now reader refused
+      {session : Held} {out : Out} (next : Reading) (later : Option (List ℕ)) → IsUnderWay sink told limit old now reader refused
       → (final : Bool) → final ≡ true → IsNext reader next now.left later (Line final) → line ≡ next.holding.kept
-      → WereRun sink (line ∷ []) (course_at now.session later now.out) (course_at session later out) also
-      → RanAll sink limit old (course_at session later out) (refused || also)
+      → WereRun sink told (line ∷ []) (course_at now.session later now.out) (course_at session later out) also
+      → RanAll sink told limit old (course_at session later out) (refused || also)
   all_to_last {line = line} next later u true is_final comes line_is run =
       let gave = gave_on u.gave comes.gave in
       let dry = dry_on u.gave comes.dry in
       record {
         lines = u.lines ++ line ∷ [];
         run = were_run_on u.run record { texts = run.texts; run = run.run; wrote = run.wrote };
-        lines_are = λ state files bytes h e.
-            ap (until_end state files)
+        lines_are = λ bytes e.
+            ap until_end
             ((lines_at_end gave comes.rest.unread comes.within dry bytes e).lines_are
             ∙ (ap (λ ls. (u.lines ++ []) ++ ls) (comes.line_is ∙ ap (λ l. l ∷ []) (sym line_is))
             ∙ ap (λ ls. ls ++ (line ∷ [])) (append-nil u.lines)))
-            ∙ (until_end-append state files u.lines (line ∷ []) (u.none_ends state files h)
-            ∙ ap (λ ls. u.lines ++ ls) (until_end-one (state_after state files u.lines) files line));
-        read = λ state files bytes h e goes_on.
+            ∙ (until_end-append u.lines (line ∷ []) u.none_ends ∙ ap (λ ls. u.lines ++ ls) (until_end-one line));
+        read = λ bytes e goes_on.
             let all = lines_at_end gave comes.rest.unread comes.within dry bytes e in
             (all.read, all.within);
       }
-  all_to_last next later u false is_final comes line_is run = not_both false is_final refl
+  all_to_last next later u false is_final comes line_is run = not_both is_final refl
+
+  -- the lines before it, and it
+  with_line : {limit : ℕ} {old now : Course Out} {reader : Reading} {refused : Bool} {line : List ℕ}
+      (next : Reading) (later : Option (List ℕ)) (u : IsUnderWay sink told limit old now reader refused)
+      → (final : Bool) → IsNext reader next now.left later (Line final) → line ≡ next.holding.kept
+      → AreFirst (u.lines ++ line ∷ []) old
+  with_line {line = line} next later u final comes line_is = record {
+    more = λ bytes e.
+        let comes_next = line_comes next later u.gave final comes bytes e in
+        let rest = if ends line then [] else until_end comes_next.0 in (
+          rest,
+          ap until_end (comes_next.1 ∙ ap (λ l. u.lines ++ (l ∷ comes_next.0)) (sym line_is))
+              ∙ (until_end-append u.lines (line ∷ comes_next.0) u.none_ends
+              ∙ sym (append_assoc u.lines (line ∷ []) rest)),
+        );
+  }
 
   -- a front of its report was written
   pub into_line : {limit : ℕ} {old now : Course Out} {reader : Reading} {refused : Bool} {line : List ℕ} {session : Held} {out : Out}
-      (next : Reading) (later : Option (List ℕ)) → IsUnderWay sink limit old now reader refused
+      (next : Reading) (later : Option (List ℕ)) → IsUnderWay sink told limit old now reader refused
       → (final : Bool) → IsNext reader next now.left later (Line final) → line ≡ next.holding.kept
-      → WasBegun sink line (course_at now.session later now.out) (course_at session later out)
-      → RanInto sink old (course_at session later out)
+      → WasBegun sink told line (course_at now.session later now.out) (course_at session later out)
+      → RanInto sink told old (course_at session later out)
   into_line {now = now} {refused = refused} {line = line} next later u final comes line_is begun = record {
     lines = u.lines;
     line = line;
@@ -113,66 +122,68 @@ module _ {Out : Type 0} {sink : Ghosts Out} where
     between = now;
     run = u.run;
     begun = record { text = begun.text; text_is = begun.text_is; front = begun.front };
-    first = record {
-      more = λ state files bytes h e.
-          let comes_next = line_comes next later u.gave final comes bytes e in
-          let first = state_after state files u.lines in
-          let rest = if ends first line files then [] else until_end (after first line files) files comes_next.0 in (
-            rest,
-            ap (until_end state files) (comes_next.1 ∙ ap (λ l. u.lines ++ (l ∷ comes_next.0)) (sym line_is))
-                ∙ (until_end-append state files u.lines (line ∷ comes_next.0) (u.none_ends state files h)
-                ∙ sym (append_assoc u.lines (line ∷ []) rest)),
-          );
-    };
+    first = with_line next later u final comes line_is;
   }
 
   -- ---- no line more was run
 
   pub first_lines : {limit : ℕ} {old now : Course Out} {reader : Reading} {refused : Bool}
-      (u : IsUnderWay sink limit old now reader refused) → AreFirst u.lines old
+      (u : IsUnderWay sink told limit old now reader refused) → AreFirst u.lines old
   first_lines u = record {
-    more = λ state files bytes h e.
-        let all = lines_so_far u.gave bytes e in (
-          until_end (state_after state files u.lines) files all.0,
-          ap (until_end state files) all.1 ∙ until_end-append state files u.lines all.0 (u.none_ends state files h),
-        );
+    more = λ bytes e.
+        let all = lines_so_far u.gave bytes e in
+        (until_end all.0, ap until_end all.1 ∙ until_end-append u.lines all.0 u.none_ends);
   }
 
   pub some_lines : {limit : ℕ} {old now : Course Out} {reader : Reading} {refused also : Bool} {session : Held} {later : Option (List ℕ)} {out : Out}
-      → IsUnderWay sink limit old now reader refused
-      → WereRun sink [] (course_at now.session later now.out) (course_at session later out) also
-      → RanSome sink old (course_at session later out)
+      → IsUnderWay sink told limit old now reader refused
+      → WereRun sink told [] (course_at now.session later now.out) (course_at session later out) also
+      → RanSome sink told old (course_at session later out)
   some_lines {old = old} {refused = refused} {also = also} {session = session} {later = later} {out = out} u run = record {
     lines = u.lines;
     refused = refused || also;
-    run = subst (λ ls. WereRun sink ls old (course_at session later out) (refused || also)) (append-nil u.lines)
+    run = subst (λ ls. WereRun sink told ls old (course_at session later out) (refused || also)) (append-nil u.lines)
         (were_run_on u.run record { texts = run.texts; run = run.run; wrote = run.wrote });
     first = first_lines u;
   }
 
+  -- it asks for a file, and none was fetched
+  pub to_file : {limit : ℕ} {old now : Course Out} {reader : Reading} {refused also : Bool} {line : List ℕ} {session : Held} {out : Out}
+      (next : Reading) (later : Option (List ℕ)) → IsUnderWay sink told limit old now reader refused
+      → (final : Bool) → IsNext reader next now.left later (Line final) → line ≡ next.holding.kept
+      → WereRun sink told [] (course_at now.session later now.out) (course_at session later out) also
+      → ((state : State) → StandsFor now.session state → fetches state line ≡ true)
+      → RanToFile sink told old (course_at session later out)
+  unfolding some_lines
+  to_file {old = old} {line = line} next later u final comes line_is run asks = record {
+    some = some_lines u run;
+    line = line;
+    next = with_line next later u final comes line_is;
+    asks = λ state files h t. asks (state_after state files u.lines) (u.run.run.stands state files h t);
+  }
+
   pub all_at_end : {limit : ℕ} {old now : Course Out} {reader : Reading} {refused : Bool} (next : Reading) (later : Option (List ℕ))
-      → IsUnderWay sink limit old now reader refused → IsNext reader next now.left later End
-      → RanAll sink limit old (course_at now.session later now.out) refused
+      → IsUnderWay sink told limit old now reader refused → IsNext reader next now.left later End
+      → RanAll sink told limit old (course_at now.session later now.out) refused
   all_at_end next later u comes =
       let gave = gave_on u.gave comes.gave in
       let dry = dry_on u.gave comes.dry in
       record {
         lines = u.lines;
         run = record { texts = u.run.texts; run = u.run.run; wrote = u.run.wrote };
-        lines_are = λ state files bytes h e.
-            ap (until_end state files)
+        lines_are = λ bytes e.
+            ap until_end
             ((lines_at_end gave comes.rest.unread comes.within dry bytes e).lines_are
             ∙ (ap (λ ls. (u.lines ++ []) ++ ls) comes.none_left ∙ append-nil (u.lines ++ [])))
-            ∙ (until_end-append state files u.lines [] (u.none_ends state files h)
-            ∙ append-nil u.lines);
-        read = λ state files bytes h e goes_on.
+            ∙ (until_end-append u.lines [] u.none_ends ∙ append-nil u.lines);
+        read = λ bytes e goes_on.
             let all = lines_at_end gave comes.rest.unread comes.within dry bytes e in
             (all.read, all.within);
       }
 
   pub lines_before_fault : {limit : ℕ} {old now : Course Out} {reader : Reading} {refused : Bool} (next : Reading) (later : Option (List ℕ))
-      → IsUnderWay sink limit old now reader refused → IsFailed reader next now.left later
-      → RanEnded sink 0 old (course_at now.session later now.out)
+      → IsUnderWay sink told limit old now reader refused → IsFailed reader next now.left later
+      → RanEnded sink told 0 old (course_at now.session later now.out)
   lines_before_fault {refused = refused} next later u failed =
       let gave = gave_on u.gave failed.gave in
       let none : gave.overs ≡ 0 = omega (arith, gave.overs_are, ap bit failed.within) in
@@ -191,8 +202,8 @@ module _ {Out : Type 0} {sink : Ghosts Out} where
       }
 
   pub lines_within : {limit : ℕ} {old now : Course Out} {reader : Reading} {refused : Bool} (next : Reading) (later : Option (List ℕ))
-      → IsUnderWay sink limit old now reader refused → IsNext reader next now.left later PastLimit
-      → (ran : RanEnded sink 1 old (course_at now.session later now.out)) × (length ran.taken ≡ limit)
+      → IsUnderWay sink told limit old now reader refused → IsNext reader next now.left later PastLimit
+      → (ran : RanEnded sink told 1 old (course_at now.session later now.out)) × (length ran.taken ≡ limit)
   lines_within {refused = refused} next later u comes =
       let gave = gave_on u.gave comes.gave in
       let over : gave.overs ≡ 1 = omega (arith, gave.overs_are, ap bit comes.past) in (

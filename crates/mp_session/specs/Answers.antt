@@ -1,21 +1,25 @@
 -- How an answer of the program stands for that of the definitions.
 use Rattle.std.specs.Prelude.{Bool, true, false}
-use Rattle.mp_defs.specs.Profile.{Columns}
-use Rattle.mp_partial.specs.Profiled.{Profiled}
+use Rattle.mp_defs.specs.Series.{series_of}
 use Rattle.mp_replies.specs.Answer as replies
+use Rattle.mp_replies.specs.EntryCommand.{entry_in}
+use Rattle.mp_report.specs.Profiles.{columns_in}
 use Rattle.mp_session.specs.declared.answers.Answer.{Answer}
 use Rattle.mp_session.specs.declared.answers.Answer.TheVariants.{Silent, Refused, Accepted, Ended}
 use Rattle.mp_session.specs.declared.answers.Report.{Report}
-use Rattle.mp_session.specs.declared.answers.Report.TheVariants.{Append, Profile}
+use Rattle.mp_session.specs.declared.answers.Report.TheVariants.{Session, Open, Load, Append, Window, Profile, Entry, End}
 use Rattle.mp_session.specs.declared.answers.ReplyKind.{ReplyKind}
 use Rattle.mp_session.specs.declared.answers.ReplyKind.TheVariants as kinds
 
-abbrev pub columns_in : Profiled → Columns
-columns_in profile = record { all = profile.all; left = profile.left; right = profile.right }
-
 abbrev pub reported : Report → replies.Report
+reported Session = replies.SessionReport
+reported (Open samples) = replies.OpenReport samples
+reported (Load samples) = replies.LoadReport samples
 reported (Append samples) = replies.AppendReport samples
+reported (Window window) = replies.WindowReport window.start (series_of window.samples.items) window.scale
 reported (Profile profile) = replies.ProfileReport (columns_in profile)
+reported (Entry entry) = entry_in (columns_in entry.profile) entry.start
+reported End = replies.EndReport
 
 abbrev pub answered : Answer → replies.Answer
 answered Silent = replies.Silent

@@ -1,9 +1,7 @@
 pub mod Limits
-pub mod Lines
 pub mod Answers
 pub mod Sessions
 pub mod Preparing
-pub mod Items
 pub mod Reads
 pub mod Running
 pub mod Serving

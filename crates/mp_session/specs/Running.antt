@@ -4,13 +4,16 @@ use Rattle.mp_outside.specs.declared.sinks.Sink.{Ghosts}
 use Rattle.mp_feed.specs.Writing.{Wrote, WroteFront}
 use Rattle.mp_replies.specs.State.{Files, State}
 use Rattle.mp_replies.specs.Output.{replies, state_after, some_refused}
-use Rattle.mp_session.specs.Sessions.{Held, StandsFor}
+use Rattle.mp_session.specs.Sessions.{Held, StandsFor, ToldForAll}
 
--- these lines were run one behind the other, with these reports
-pub record HaveRun (lines texts : List (List ℕ)) (old new : Held) (refused : Bool) : Type 0 where
-  pub texts_are : (state : State) (files : Files) → StandsFor old state → texts ≡ replies state files lines
-  pub stands : (state : State) (files : Files) → StandsFor old state → StandsFor new (state_after state files lines)
-  pub refused_is : (state : State) (files : Files) → StandsFor old state → refused ≡ some_refused state files lines
+-- these lines were run one behind the other with a shelf that tells these files, with these reports
+pub record HaveRun (told : Option Files) (lines texts : List (List ℕ)) (old new : Held) (refused : Bool) : Type 0 where
+  pub texts_are : (state : State) (files : Files) → StandsFor old state → ToldForAll told state files lines
+      → texts ≡ replies state files lines
+  pub stands : (state : State) (files : Files) → StandsFor old state → ToldForAll told state files lines
+      → StandsFor new (state_after state files lines)
+  pub refused_is : (state : State) (files : Files) → StandsFor old state → ToldForAll told state files lines
+      → refused ≡ some_refused state files lines
   pub count : new.lines ≡ old.lines + length lines
 
 -- what a run works on: its session, the bytes that its source has left, where they are told, and its sink
@@ -23,13 +26,16 @@ abbrev pub course_at : {Out : Type 0} → Held → Option (List ℕ) → Out →
 course_at session left out = record { session = session; left = left; out = out }
 
 -- these lines were run, and the report of each was written whole
-pub record WereRun {Out : Type 0} (sink : Ghosts Out) (lines : List (List ℕ)) (old new : Course Out) (refused : Bool) : Type 0 where
+pub record WereRun {Out : Type 0} (sink : Ghosts Out) (told : Option Files) (lines : List (List ℕ))
+    (old new : Course Out) (refused : Bool) : Type 0 where
   pub texts : List (List ℕ)
-  pub run : HaveRun lines texts old.session new.session refused
+  pub run : HaveRun told lines texts old.session new.session refused
   pub wrote : Wrote sink texts old.out new.out
 
 -- a front of the report of this line was written
-pub record WasBegun {Out : Type 0} (sink : Ghosts Out) (line : List ℕ) (old new : Course Out) : Type 0 where
+pub record WasBegun {Out : Type 0} (sink : Ghosts Out) (told : Option Files) (line : List ℕ)
+    (old new : Course Out) : Type 0 where
   pub text : List ℕ
-  pub text_is : (state : State) (files : Files) → StandsFor old.session state → text ∷ [] ≡ replies state files (line ∷ [])
+  pub text_is : (state : State) (files : Files) → StandsFor old.session state → ToldForAll told state files (line ∷ [])
+      → text ∷ [] ≡ replies state files (line ∷ [])
   pub front : WroteFront sink text old.out new.out

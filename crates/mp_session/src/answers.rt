@@ -4,10 +4,11 @@ ghost use Rattle.std.specs.Prelude.{◌≡◌, IfOk};
 ghost use Rattle.mp_replies.specs.Report.{report_text, text_of};
 ghost use Rattle.mp_session.specs.Answers.{answered, is_accepted as is_accepted_answer, is_ended as is_ended_kind, is_refused as is_refused_kind, kind_of, reported};
 
-use crate::reports::{ok_text, profile_text, refused_text};
+use crate::windows::{WindowEntry, WindowSamples};
 use mp_nums::{Memory, Text};
 use mp_partial::Profile;
 use mp_replies::Cause;
+use mp_report::{entry_text, ok_text, profile_text, refused_text, window_text};
 use std::alloc::Global;
 
 /// What became of a line.
@@ -46,9 +47,15 @@ impl ReplyKind {
 /// What an accepted command reports.
 #[derive(Debug, Drop)]
 pub(crate) enum Report {
-    /// The number of samples in the slot.
+    Session,
+    /// The number of samples in each channel of the slot.
+    Open { samples: u64 },
+    Load { samples: u64 },
     Append { samples: u64 },
+    Window(WindowSamples),
     Profile(Profile),
+    Entry(WindowEntry),
+    End,
 }
 
 impl Report {
@@ -57,8 +64,19 @@ impl Report {
         ensures { IfOk result (λ text. text.items ≡ report_text line (reported self.now)) }
     {
         match self {
-            Report::Append { samples } => ok_text(alloc, line, Some(*samples)),
+            Report::Session | Report::End => ok_text(alloc, line, None),
+            Report::Open { samples } | Report::Load { samples } | Report::Append { samples } => {
+                ok_text(alloc, line, Some(*samples))
+            }
+            Report::Window(window) => window_text(
+                alloc,
+                line,
+                window.start,
+                window.samples.as_slice(),
+                window.scale,
+            ),
             Report::Profile(profile) => profile_text(alloc, line, profile),
+            Report::Entry(entry) => entry_text(alloc, line, &entry.profile, entry.start),
         }
     }
 }

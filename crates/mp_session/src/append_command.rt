@@ -1,123 +1,165 @@
-//! `append 0 ITEM ITEM ..`: samples behind those of the series.
+//! `append S ITEM ITEM ..`: samples behind those of each channel of a slot.
 
-ghost use Rattle.std.specs.Prelude.{◌≡◌, ◌+◌, ◌^◌, ◌<◌, ◌≤◌, ℕ, List, length, IfOk, IfErr, OnOk, OnErr, Ok, Err, true, false};
+ghost use Rattle.std.specs.Prelude.{◌≡◌, ◌+◌, ℕ, ◌<◌, ◌≤◌, ◌==◌, length, map, slice_index_or, is_ok, Ok, Some, None, IfOk, IfErr, OnOk, OnErr, true, false};
 ghost use Rattle.mp_bytes.specs.Fields.{fields_in};
 ghost use Rattle.mp_defs.specs.Limits.{max_samples};
-ghost use Rattle.mp_defs.specs.Series.{series_of};
-ghost use Rattle.mp_replies.specs.AppendCommand.{added_to, append_of, samples_of};
-ghost use Rattle.mp_replies.specs.Command.{Append as AppendOf};
-ghost use Rattle.mp_replies.specs.Line.{asks, Asks};
-ghost use Rattle.mp_replies.specs.SampleText.{sample_of};
-ghost use Rattle.mp_replies.specs.State.{Files, State};
-ghost use Rattle.mp_session.specs.Items.{AreGood};
-ghost use Rattle.mp_session.specs.Lines.{read_as};
-ghost use Rattle.mp_session.specs.Preparing.{CanMake, IsPrepared, IsUnrefused};
-ghost use Rattle.mp_session.specs.Sessions.{stores_of};
+ghost use Rattle.mp_defs.specs.Series.{reading_of, series_of};
+ghost use Rattle.mp_replies.specs.AppendCommand.{append_conditions, bad_in, item_of, read_items as items_read, rows_in};
+ghost use Rattle.mp_replies.specs.Command as asked;
+ghost use Rattle.mp_replies.specs.Conditions.{first_of};
+ghost use Rattle.mp_replies.specs.Limits.{max_scale};
+ghost use Rattle.mp_replies.specs.Line.{Asks};
+ghost use Rattle.mp_replies.specs.State.{Files, State, channels_at, is_closed, samples_in, store_at};
+ghost use Rattle.mp_session.specs.Answers.{answered, is_ended, kind_of};
+ghost use Rattle.mp_session.specs.Preparing.{CanMake, IsPrepared, IsUnrefused, KeepsUnlessAccepted, puts};
+ghost use Rattle.mp_session.specs.Reads.{AreUnread};
+ghost use Rattle.mp_slots.specs.Slots.{lists_in, stores_of};
+ghost use Rattle.mp_text.specs.Rows.{Row, column_at, columns_of};
 
 use crate::answers::{Answer, Report};
-use crate::commands::{Command, is_slot};
 use crate::prepared::{Change, Prepared};
-use mp_bytes::Fields;
+use mp_bytes::{Fields, Values};
 use mp_nums::{Memory, Sample};
 use mp_replies::Cause;
-use mp_series::{MAX_SAMPLES, Samples};
+use mp_series::MAX_SAMPLES;
+use mp_slots::Slots;
 use mp_text::read_sample;
 use std::alloc::Global;
-
-/// Reads what stands behind the word.
-pub(crate) fn parse_append(mut fields: Fields<'_>) -> Result<Command<'_>, Cause>
-    ensures { read_as result ≡ asks (append_of (fields_in fields.entry.text.now)) }
-{
-    let slot = fields.next().ok_or(Cause::Unknown)?;
-    let items = fields;
-    if fields.next().is_none() || !is_slot(slot) {
-        return Err(Cause::Unknown);
-    }
-    Ok(Command::Append { items })
-}
 
 /// Takes the room for the items and reads them, where none is bad and all fit. Want of memory comes only where nothing
 /// refuses the line.
 pub(crate) fn prepare_append(
     alloc: Global,
-    series: &mut Samples,
-    items: Fields<'_>,
+    slots: &mut Slots,
+    scale: u8,
+    slot: u64,
+    items: &[u8],
 ) -> Result<Prepared, Memory>
-    ensures ok { (state : State) (files : Files) → state.stores ≡ stores_of series.old.items
-        → IfOk result (IsPrepared state files (Asks (AppendOf 0 (fields_in items.entry.text.now)))) }
-    ensures memory { (state : State) (files : Files) → state.stores ≡ stores_of series.old.items
-        → OnErr result (IsUnrefused state files (Asks (AppendOf 0 (fields_in items.entry.text.now)))) }
-    ensures can { IfOk result (λ prepared. CanMake series.new prepared.change) }
-    ensures items { series.new.items ≡ series.old.items }
-    ensures reads { series.new.reads ≡ series.old.reads }
+    requires { scale ≤ max_scale }
+    ensures ok { (state : State) (files : Files) → state.scale ≡ scale → state.stores ≡ stores_of slots.old
+        → IfOk result (IsPrepared state files (Asks (asked.Append slot (fields_in items.now)))) }
+    ensures memory { (state : State) → state.scale ≡ scale → state.stores ≡ stores_of slots.old
+        → OnErr result (IsUnrefused state (Asks (asked.Append slot (fields_in items.now)))) }
+    ensures goes_on { IfOk result (λ prepared. is_ended (kind_of (answered prepared.answer)) ≡ false) }
+    ensures can { IfOk result (λ prepared. CanMake slots.new prepared.change) }
+    ensures kept { IfOk result KeepsUnlessAccepted }
+    ensures puts { IfOk result (λ prepared. (other : ℕ) → puts prepared.change other ≡ false) }
+    ensures stores { stores_of slots.new ≡ stores_of slots.old }
+    ensures unread { AreUnread slots.old slots.new }
 {
-    let added = match judge_items(items, series.len()) {
-        Ok(added) => added,
+    let form = Form {
+        scale,
+        channels: slots.count(slot),
+    };
+    let more = match count_items(slots, form, slot, items) {
+        Ok(more) => more,
         Err(cause) => return Ok(Prepared::refused(cause)),
     };
-    let samples = read_items(alloc, items, added)?;
-    series.reserve(added)?;
+    let added = read_items(alloc, items, form)?;
+    slots.reserve(slot, more)?;
     Ok(Prepared {
         answer: Answer::Accepted(Report::Append {
-            samples: series.len() + added,
+            samples: slots.len(slot) + more,
         }),
-        change: Change::AddSamples(samples),
+        change: Change::AddSamples { slot, added },
     })
 }
 
-/// How many items there are, where none is bad and all fit behind so many samples, or why the line is refused. It takes
-/// no memory.
-fn judge_items(items: Fields<'_>, held: u64) -> Result<u64, Cause>
-    requires { held ≤ max_samples }
-    ensures good { IfOk result (AreGood (fields_in items.entry.text.now)) }
-    ensures fit { IfOk result (λ added. held + added ≤ max_samples) }
-    ensures refused { IfErr result (λ why. added_to 0 held (samples_of 1 (fields_in items.entry.text.now)) ≡ Err why) }
-{
-    let added = count_items(items)?;
-    if added > MAX_SAMPLES - held {
-        return Err(Cause::Full);
-    }
-    Ok(added)
+/// How the items for a slot are read.
+#[derive(Clone, Copy)]
+struct Form {
+    scale: u8,
+    /// How many values an item has.
+    channels: u64,
 }
 
-/// How many items there are, each of which spells a sample, or the first one that doesn't.
+/// How many items there are, where none is bad and all fit behind the samples of the slot, or why the line is refused.
+/// It takes no memory.
 #[tactic(auto, using(mp_bytes::specs::FieldLaws::fields_within))]
-fn count_items(items: Fields<'_>) -> Result<u64, Cause>
-    ensures good { IfOk result (AreGood (fields_in items.entry.text.now)) }
-    ensures bad { IfErr result (λ why. (number : ℕ) × (why ≡ Cause.Sample number)
-        × (samples_of 1 (fields_in items.entry.text.now) ≡ Err number)) }
+fn count_items(slots: &Slots, form: Form, slot: u64, items: &[u8]) -> Result<u64, Cause>
+    requires places { form.scale ≤ max_scale }
+    requires channels { form.channels ≡ length (channels_at (stores_of slots.now) slot) }
+    requires closed { is_closed (store_at (stores_of slots.now) slot) ≡ (form.channels == 0) }
+    ensures refused { IfErr result (λ cause. first_of (append_conditions form.scale (stores_of slots.now) slot (fields_in items.now)) ≡ Some cause) }
+    ensures fine { OnOk result (first_of (append_conditions form.scale (stores_of slots.now) slot (fields_in items.now)) ≡ None) }
+    ensures good { OnOk result (bad_in (items_read form.scale form.channels (fields_in items.now)) ≡ None) }
+    ensures count { IfOk result (λ count. count ≡ length (fields_in items.now)) }
+    ensures fits { IfOk result (λ count. samples_in (channels_at (stores_of slots.now) slot) + count ≤ max_samples) }
+    ensures open { OnOk result (0 < form.channels) }
 {
+    if form.channels == 0 {
+        return Err(Cause::Slot);
+    }
     let mut count = 0;
-    for item in items {
-        if read_item(item).is_none() {
+    for item in (Fields { text: items }) {
+        if !is_good(item, form) {
             return Err(Cause::Sample(count + 1));
         }
         count += 1;
     }
+    if MAX_SAMPLES - slots.len(slot) < count {
+        return Err(Cause::Full);
+    }
     Ok(count)
 }
 
-/// The samples that the items spell, all of which are good, and of which there are `count`.
-fn read_items(alloc: Global, items: Fields<'_>, count: u64) -> Result<Vec<Sample>, Memory>
-    requires { AreGood (fields_in items.text.now) count }
-    ensures { IfOk result (λ samples. samples_of 1 (fields_in items.entry.text.now) ≡ Ok (series_of samples.items)) }
+/// Whether an item has a value for each channel, and each spells a sample.
+#[tactic(auto, using(crate::proofs::AppendLemmas::values_within))]
+fn is_good(item: &[u8], form: Form) -> bool
+    requires { form.scale ≤ max_scale }
+    ensures { (number : ℕ) → result ≡ is_ok (item_of form.scale form.channels number item.now) }
 {
-    let mut samples = Vec::with_capacity(alloc, count as usize)?;
-    for item in items {
-        samples.push(Sample::Value(read_item(item).unwrap()))?;
+    let mut count = 0;
+    for value in Values::of(item) {
+        if read_sample(value, form.scale).is_err() {
+            return false;
+        }
+        count += 1;
+    }
+    count == form.channels
+}
+
+/// The samples of each channel, of items each of which is good.
+fn read_items(alloc: Global, items: &[u8], form: Form) -> Result<Vec<Vec<Sample>>, Memory>
+    requires places { form.scale ≤ max_scale }
+    requires good { bad_in (items_read form.scale form.channels (fields_in items.now)) ≡ None }
+    ensures { IfOk result (λ added. map series_of (lists_in added.items)
+        ≡ columns_of form.channels (rows_in (items_read form.scale form.channels (fields_in items.now)))) }
+{
+    let mut added = Vec::new(alloc);
+    for k in 0..form.channels {
+        added.push(read_channel(alloc, items, form, k)?)?;
+    }
+    Ok(added)
+}
+
+/// The samples of one channel, of items each of which is good.
+fn read_channel(
+    alloc: Global,
+    items: &[u8],
+    form: Form,
+    channel: u64,
+) -> Result<Vec<Sample>, Memory>
+    requires places { form.scale ≤ max_scale }
+    requires good { bad_in (items_read form.scale form.channels (fields_in items.now)) ≡ None }
+    requires within { channel < form.channels }
+    ensures { IfOk result (λ samples. series_of samples.items
+        ≡ column_at (rows_in (items_read form.scale form.channels (fields_in items.now))) channel) }
+{
+    let mut samples = Vec::new(alloc);
+    for item in (Fields { text: items }) {
+        samples.push(sample_at(item, form, channel))?;
     }
     Ok(samples)
 }
 
-/// The number that an item spells without a point.
-fn read_item(item: &[u8]) -> Option<i32>
-    ensures { result ≡ sample_of item.now }
+/// The sample that a good item has for a channel.
+fn sample_at(item: &[u8], form: Form, channel: u64) -> Sample
+    requires places { form.scale ≤ max_scale }
+    requires good { is_ok (item_of form.scale form.channels 0 item.now) ≡ true }
+    requires within { channel < form.channels }
+    ensures { (row : Row) → item_of form.scale form.channels 0 item.now ≡ Ok row → reading_of result ≡ slice_index_or row channel None }
 {
-    if item.contains(&b'.') {
-        return None;
-    }
-    match read_sample(item, 0) {
-        Ok(Sample::Value(number)) => Some(number),
-        Ok(Sample::Missing) | Err(_) => None,
-    }
+    let value = Values::of(item).nth(channel as usize).unwrap();
+    read_sample(value, form.scale).unwrap()
 }

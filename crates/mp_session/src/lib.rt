@@ -3,18 +3,22 @@
 
 mod answers;
 mod append_command;
-mod commands;
+mod conditions;
 mod halts;
+mod load_command;
+mod open_command;
 mod prepared;
 mod profile_command;
-mod reports;
 mod runs;
+mod session_command;
 mod sessions;
 mod settings;
 pub mod top;
+mod window_command;
+mod windows;
 mod words;
 
 pub use answers::ReplyKind;
-pub use mp_feed::{Fed, Feed};
+pub use mp_lines::{Fed, Feed};
 pub use sessions::{Reply, Session, Stop};
 pub use settings::Settings;

@@ -4,18 +4,21 @@ ghost use Rattle.std.specs.Prelude.{◌≡◌, IfOk};
 ghost use Rattle.mp_replies.specs.Report.{text_of};
 ghost use Rattle.mp_session.specs.Answers.{answered, kind_of};
 
-use crate::answers::Answer;
+use crate::answers::{Answer, Report};
 use crate::sessions::Reply;
 use mp_nums::{Memory, Sample};
 use mp_replies::Cause;
+use mp_series::Samples;
 use std::alloc::Global;
 
 /// What an accepted line changes in the slots. All memory for it is there.
 #[derive(Debug, Drop)]
 pub(crate) enum Change {
     Keep,
-    /// Samples behind those of slot 0.
-    AddSamples(Vec<Sample>),
+    /// Channels in place of what stood in a slot.
+    PutChannels { slot: u64, channels: Vec<Samples> },
+    /// Samples behind those of each channel of a slot.
+    AddSamples { slot: u64, added: Vec<Vec<Sample>> },
 }
 
 /// The answer to a line, and its change.
@@ -43,6 +46,14 @@ impl Prepared {
         ensures change { result.change ≡ Change.Keep }
     {
         Prepared::keeping(Answer::Refused(cause))
+    }
+
+    /// The answer to an accepted line that changes no slot.
+    pub(crate) fn accepted(report: Report) -> Prepared
+        ensures answer { result.answer ≡ Answer.Accepted report }
+        ensures change { result.change ≡ Change.Keep }
+    {
+        Prepared::keeping(Answer::Accepted(report))
     }
 
     /// The reply to the line of this number.

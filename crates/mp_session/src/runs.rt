@@ -1,11 +1,12 @@
 //! Lines run one after another, each with its report.
 
-ghost use Rattle.std.specs.Prelude.{◌≡◌, ◌⊎◌, ℕ, ◌+◌, ◌-◌, ◌^◌, ◌<◌, ◌≤◌, List, [], ◌∷◌, length, IfOk, OnErr, IsErrOf, false};
+ghost use Rattle.std.specs.Prelude.{◌≡◌, ◌⊎◌, ℕ, ◌+◌, ◌-◌, ◌^◌, ◌<◌, ◌≤◌, List, [], ◌∷◌, length, IfOk, OnErr, IsErrOf, true, false};
 ghost use Rattle.mp_outside.specs.Counts.{Rose};
-ghost use Rattle.mp_replies.specs.Output.{ends};
-ghost use Rattle.mp_replies.specs.State.{Files, State};
+ghost use Rattle.mp_replies.specs.Line.{ends};
+ghost use Rattle.mp_replies.specs.State.{State};
+ghost use Rattle.mp_replies.specs.Step.{fetches};
 ghost use Rattle.mp_session.specs.Running.{WasBegun, WereRun, course_at};
-ghost use Rattle.mp_session.specs.Serving.{RanAll, RanEnded, RanInto, RanSome};
+ghost use Rattle.mp_session.specs.Serving.{RanAll, RanEnded, RanInto, RanSome, RanToFile};
 ghost use Rattle.mp_session.specs.Sessions.{StandsFor};
 
 use crate::halts::Halt;
@@ -33,17 +34,21 @@ fn run_line<R: Threads + Sync, H: Shelf, K: Sink, G: Gate>(
     gate: &G,
 ) -> Result<Ran, Halt>
     requires { session.old.lines < 2 ^ 64 - 1 }
-    ensures run { (left : _) → IfOk result (λ ran. WereRun K.Sink (line.now ∷ [])
+    ensures run { (left : _) → IfOk result (λ ran. WereRun K.Sink (H.files shelf.old) (line.now ∷ [])
         (course_at session.old left out.old) (course_at session.new left out.new) ran.refused) }
-    ensures ends { (state : State) (files : Files) → StandsFor session.old state
-        → IfOk result (λ ran. ran.ends ≡ ends state line.now files) }
+    ensures ends { IfOk result (λ ran. ran.ends ≡ ends line.now) }
     ensures begun { (left : _) → IsErrOf result Halt.WriteFault
-        → WasBegun K.Sink line.now (course_at session.old left out.old) (course_at session.new left out.new) }
+        → WasBegun K.Sink (H.files shelf.old) line.now (course_at session.old left out.old) (course_at session.new left out.new) }
     ensures memory { (left : _) → IsErrOf result Halt.Memory
-        → WereRun K.Sink [] (course_at session.old left out.old) (course_at session.new left out.new) false }
+        → WereRun K.Sink (H.files shelf.old) [] (course_at session.old left out.old) (course_at session.new left out.new) false }
     ensures write_fault { IsErrOf result Halt.WriteFault → Rose (K.faults out.old) (K.faults out.new) }
-    ensures only { OnErr result ((result ≡ Err Halt.WriteFault) ⊎ (result ≡ Err Halt.Memory)) }
-    ensures shelf { H.faults shelf.new ≡ H.faults shelf.old }
+    ensures shelf_fault { (left : _) → IsErrOf result Halt.ShelfFault
+        → WereRun K.Sink (H.files shelf.old) [] (course_at session.old left out.old) (course_at session.new left out.new) false }
+    ensures shelf_cause { IsErrOf result Halt.ShelfFault → Rose (H.faults shelf.old) (H.faults shelf.new) }
+    ensures shelf_asked { (state : State) → StandsFor session.old state → IsErrOf result Halt.ShelfFault → fetches state line.now ≡ true }
+    ensures calm { ¬ IsErrOf result Halt.ShelfFault → H.faults shelf.new ≡ H.faults shelf.old }
+    ensures files { H.files shelf.new ≡ H.files shelf.old }
+    ensures only { OnErr result ((result ≡ Err Halt.WriteFault) ⊎ ((result ≡ Err Halt.Memory) ⊎ (result ≡ Err Halt.ShelfFault))) }
 {
     let reply = match session.run(rt, alloc, line, shelf, gate) {
         Ok(reply) => reply,
@@ -75,25 +80,28 @@ pub(crate) fn run_lines<R: Threads + Sync, H: Shelf, S: Source, K: Sink, G: Gate
     requires lines { session.old.lines + limit < 2 ^ 64 - 1 }
     requires given { S.given input.old ≤ 2 ^ 127 }
 
-    ensures all { IfOk result (λ refused. RanAll K.Sink limit (course_at session.old (S.left input.old) out.old)
+    ensures all { IfOk result (λ refused. RanAll K.Sink (H.files shelf.old) limit (course_at session.old (S.left input.old) out.old)
         (course_at session.new (S.left input.new) out.new) refused) }
 
     // What was run where the run ended early, and why it did.
     ensures read_fault { IsErrOf result Halt.ReadFault
-        → RanEnded K.Sink 0 (course_at session.old (S.left input.old) out.old) (course_at session.new (S.left input.new) out.new) }
+        → RanEnded K.Sink (H.files shelf.old) 0 (course_at session.old (S.left input.old) out.old) (course_at session.new (S.left input.new) out.new) }
     ensures input_limit { IsErrOf result Halt.InputLimit
-        → (ran : RanEnded K.Sink 1 (course_at session.old (S.left input.old) out.old) (course_at session.new (S.left input.new) out.new))
+        → (ran : RanEnded K.Sink (H.files shelf.old) 1 (course_at session.old (S.left input.old) out.old) (course_at session.new (S.left input.new) out.new))
         × (length ran.taken ≡ limit) }
     ensures memory { IsErrOf result Halt.Memory
-        → RanSome K.Sink (course_at session.old (S.left input.old) out.old) (course_at session.new (S.left input.new) out.new) }
+        → RanSome K.Sink (H.files shelf.old) (course_at session.old (S.left input.old) out.old) (course_at session.new (S.left input.new) out.new) }
     ensures write_fault { IsErrOf result Halt.WriteFault
-        → RanInto K.Sink (course_at session.old (S.left input.old) out.old) (course_at session.new (S.left input.new) out.new) }
-    ensures no_shelf_fault { IsErrOf result Halt.ShelfFault → ⊥ }
+        → RanInto K.Sink (H.files shelf.old) (course_at session.old (S.left input.old) out.old) (course_at session.new (S.left input.new) out.new) }
+    ensures shelf_fault { IsErrOf result Halt.ShelfFault
+        → RanToFile K.Sink (H.files shelf.old) (course_at session.old (S.left input.old) out.old) (course_at session.new (S.left input.new) out.new) }
+    ensures shelf_cause { IsErrOf result Halt.ShelfFault → Rose (H.faults shelf.old) (H.faults shelf.new) }
     ensures read_cause { IsErrOf result Halt.ReadFault → Rose (S.faults input.old) (S.faults input.new) }
     ensures write_cause { IsErrOf result Halt.WriteFault → Rose (K.faults out.old) (K.faults out.new) }
     ensures limit_cause { IsErrOf result Halt.InputLimit → S.given input.old + limit < S.given input.new }
     ensures given { S.given input.new ≤ S.given input.old + limit + 1 }
-    ensures shelf { H.faults shelf.new ≡ H.faults shelf.old }
+    ensures calm { ¬ IsErrOf result Halt.ShelfFault → H.faults shelf.new ≡ H.faults shelf.old }
+    ensures files { H.files shelf.new ≡ H.files shelf.old }
 {
     let mut reader = LineReader::new(alloc, limit)?;
     let mut refused = false;

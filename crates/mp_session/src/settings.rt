@@ -7,7 +7,7 @@ use mp_series::{MAX_WINDOW, MIN_WINDOW};
 use std::marker::Model;
 
 /// The most digits of a sample behind its point.
-const MAX_SCALE: u8 = 9;
+pub(crate) const MAX_SCALE: u8 = 9;
 
 /// The most diagonals in a tile.
 const MAX_TILE: u32 = 65_536;
@@ -70,7 +70,8 @@ impl Settings {
 
     /// How many digits of a sample stand behind its point.
     pub fn scale(&self) -> u8
-        ensures { result ≡ self.now.scale }
+        ensures value { result ≡ self.now.scale }
+        ensures within { IsWithinLimits self.now }
     {
         self.scale
     }

@@ -1,14 +1,15 @@
 //! Serving an input, from its first byte to its last.
 
-ghost use Rattle.std.specs.Prelude.{◌≡◌, ◌⊎◌, ℕ, ◌+◌, ◌-◌, ◌^◌, ◌<◌, ◌≤◌, List, [], ◌++◌, length, take, drop, map, string_bytes, Some, None, IfOk, OnOk, OnErr, IsErrOf, IsTrue, true};
-ghost use Rattle.mp_bytes.specs.Lines.{lines, ended_lines};
+ghost use Rattle.std.specs.Prelude.{◌≡◌, ◌⊎◌, ℕ, ◌+◌, ◌-◌, ◌^◌, ◌<◌, ◌≤◌, List, [], ◌++◌, length, take, drop, map, string_bytes, Some, None, IfOk, OnOk, OnErr, IsErrOf, IsTrue, true, false};
+ghost use Rattle.mp_bytes.specs.Lines.{ended_lines};
 ghost use Rattle.mp_feed.specs.Writing.{TellsPrefix};
 ghost use Rattle.mp_outside.specs.Counts.{Rose};
 ghost use Rattle.mp_replies.specs.Limits.{input_limit};
-ghost use Rattle.mp_replies.specs.Output.{output, reports, session_output, some_refused, usage};
+ghost use Rattle.mp_replies.specs.Output.{lines_run, output, reports, session_output, some_ends, some_refused, usage};
 ghost use Rattle.mp_replies.specs.State.{Files, opening};
 ghost use Rattle.mp_replies.specs.Words.{Setup, job};
-ghost use Rattle.mp_session.specs.Serving.{ToldTaken};
+ghost use Rattle.mp_session.specs.Serving.{ToldForRun, ToldForWords, ToldTaken, ToldToFile};
+ghost use Rattle.mp_session.specs.Sessions.{some_fetch};
 ghost use Rattle.mp_session.specs.Statuses.{is_whole, ran, status_by};
 
 use crate::halts::Halt;
@@ -52,7 +53,8 @@ pub enum Status {
 /// writes nor flushes. Words outside the grammar have the usage written and flushed, and no input is read.
 ///
 /// `rt` is what starts threads, `shelf` what fetches files, and `gate` what a worker passes before each piece of its
-/// work. No line makes use of these three: profiles are computed on the calling thread, from the lines' items alone.
+/// work. The profile of a line is shared among as many workers as the words say. An accepted `end` ends the run, and no
+/// byte behind its line is looked at.
 pub fn serve<R: Threads + Sync, H: Shelf, S: Source, K: Sink, G: Gate>(
     rt: &R,
     alloc: Global,
@@ -65,42 +67,60 @@ pub fn serve<R: Threads + Sync, H: Shelf, S: Source, K: Sink, G: Gate>(
     requires given { S.given input.old ≤ 2 ^ 127 }
 
     // The whole output, or a front of it where the run ended early.
-    ensures output { (files : Files) (bytes before : List ℕ) → S.left input.old ≡ Some bytes → K.written out.old ≡ Some before
+    ensures output { (files : Files) (bytes before : List ℕ)
+        → ToldForWords (H.files shelf.old) (map string_bytes words.now) files bytes → S.left input.old ≡ Some bytes
+        → K.written out.old ≡ Some before
         → length before + length (output (map string_bytes words.now) files bytes) ≤ K.room out.old
         → IsTrue (is_whole result) → K.written out.new ≡ Some (before ++ output (map string_bytes words.now) files bytes) }
-    ensures front { (files : Files) (bytes before : List ℕ) → S.left input.old ≡ Some bytes → K.written out.old ≡ Some before
+    ensures front { (files : Files) (bytes before : List ℕ)
+        → ToldForWords (H.files shelf.old) (map string_bytes words.now) files bytes → S.left input.old ≡ Some bytes
+        → K.written out.old ≡ Some before
         → length before + length (output (map string_bytes words.now) files bytes) ≤ K.room out.old
         → TellsPrefix (K.written out.new) before (output (map string_bytes words.now) files bytes) }
 
-    // Which front it is: behind a failed read, the reports of all lines that an LF ended before it; behind the limit on
-    // input, those of the lines ended within it; for want of memory, those of whole lines.
+    // Which front it is: behind a failed read of the input, the reports of all lines that an LF ended before it; behind
+    // the limit on input, those of the lines ended within it; behind a failed read of a file, those of all lines before the
+    // one that asks for it; for want of memory, those of whole lines.
     ensures read_fault_front { (setup : Setup) (files : Files) (bytes before : List ℕ) → job (map string_bytes words.now) ≡ Some setup
+        → ToldForRun (H.files shelf.old) (opening setup.window setup.scale) files bytes
         → S.left input.old ≡ Some bytes → K.written out.old ≡ Some before
         → length before + length (output (map string_bytes words.now) files bytes) ≤ K.room out.old
-        → result ≡ Status.ReadFault
+        → result ≡ Status.ReadFault → ¬ Rose (H.faults shelf.old) (H.faults shelf.new)
         → ToldTaken (opening setup.window setup.scale) files bytes (S.left input.new) before (K.written out.new) }
+    ensures shelf_fault_front { (setup : Setup) (files : Files) (bytes before : List ℕ) → job (map string_bytes words.now) ≡ Some setup
+        → ToldForRun (H.files shelf.old) (opening setup.window setup.scale) files bytes
+        → S.left input.old ≡ Some bytes → K.written out.old ≡ Some before
+        → length before + length (output (map string_bytes words.now) files bytes) ≤ K.room out.old
+        → result ≡ Status.ReadFault → ¬ Rose (S.faults input.old) (S.faults input.new)
+        → ToldToFile (opening setup.window setup.scale) files bytes before (K.written out.new) }
     ensures input_limit_front { (setup : Setup) (files : Files) (bytes before : List ℕ) → job (map string_bytes words.now) ≡ Some setup
+        → ToldForRun (H.files shelf.old) (opening setup.window setup.scale) files bytes
         → S.left input.old ≡ Some bytes → K.written out.old ≡ Some before
         → length before + length (output (map string_bytes words.now) files bytes) ≤ K.room out.old
         → result ≡ Status.InputLimit
         → K.written out.new ≡ Some (before ++ reports (opening setup.window setup.scale) files (ended_lines (take input_limit bytes))) }
     ensures memory_front { (setup : Setup) (files : Files) (bytes before : List ℕ) → job (map string_bytes words.now) ≡ Some setup
+        → ToldForRun (H.files shelf.old) (opening setup.window setup.scale) files bytes
         → S.left input.old ≡ Some bytes → K.written out.old ≡ Some before
         → length before + length (output (map string_bytes words.now) files bytes) ≤ K.room out.old
         → result ≡ Status.Memory
-        → (count : ℕ) × (K.written out.new ≡ Some (before ++ reports (opening setup.window setup.scale) files (take count (lines bytes)))) }
+        → (count : ℕ) × (K.written out.new ≡ Some (before ++ reports (opening setup.window setup.scale) files (take count (lines_run bytes)))) }
 
     // Where nothing is to be written, nothing is done with the sink, however the run ended.
-    ensures quiet { (files : Files) (bytes : List ℕ) → S.left input.old ≡ Some bytes
+    ensures quiet { (files : Files) (bytes : List ℕ)
+        → ToldForWords (H.files shelf.old) (map string_bytes words.now) files bytes → S.left input.old ≡ Some bytes
         → output (map string_bytes words.now) files bytes ≡ [] → out.new ≡ out.old }
 
-    // To the end of the input: whether some line was refused, that nothing is left, and that it was no longer than the
-    // limit.
+    // To the end: whether some line was refused, and, where none ended the run, that nothing is left of the input and
+    // that it was no longer than the limit.
     ensures refused { (setup : Setup) (files : Files) (bytes : List ℕ) → job (map string_bytes words.now) ≡ Some setup
+        → ToldForRun (H.files shelf.old) (opening setup.window setup.scale) files bytes
         → S.left input.old ≡ Some bytes → IsTrue (is_whole result)
-        → result ≡ ran (some_refused (opening setup.window setup.scale) files (lines bytes)) }
-    ensures read { (bytes : List ℕ) → S.left input.old ≡ Some bytes → IsTrue (is_whole result) → S.left input.new ≡ Some [] }
-    ensures within { (bytes : List ℕ) → S.left input.old ≡ Some bytes → IsTrue (is_whole result) → length bytes ≤ input_limit }
+        → result ≡ ran (some_refused (opening setup.window setup.scale) files (lines_run bytes)) }
+    ensures read { (bytes : List ℕ) → S.left input.old ≡ Some bytes → some_ends (lines_run bytes) ≡ false
+        → IsTrue (is_whole result) → S.left input.new ≡ Some [] }
+    ensures within { (bytes : List ℕ) → S.left input.old ≡ Some bytes → some_ends (lines_run bytes) ≡ false
+        → IsTrue (is_whole result) → length bytes ≤ input_limit }
 
     // At most one byte past the limit is taken.
     ensures given { S.given input.new ≤ S.given input.old + input_limit + 1 }
@@ -117,6 +137,7 @@ pub fn serve<R: Threads + Sync, H: Shelf, S: Source, K: Sink, G: Gate>(
         → ¬ ((K.written out.new ≡ Some (before ++ usage)) × (K.flushed out.new ≡ true)) }
     ensures unread { job (map string_bytes words.now) ≡ None
         → (S.left input.new ≡ S.left input.old) × (S.given input.new ≡ S.given input.old) × (S.faults input.new ≡ S.faults input.old) }
+    ensures unfetched { job (map string_bytes words.now) ≡ None → shelf.new ≡ shelf.old }
 
     // Every sink is flushed, or nothing was done with it, also one that tells nothing. So one that was flushed is flushed.
     ensures flushed_or_untouched { IsTrue (is_whole result) → (K.flushed out.new ≡ true) ⊎ (out.new ≡ out.old) }
@@ -124,13 +145,19 @@ pub fn serve<R: Threads + Sync, H: Shelf, S: Source, K: Sink, G: Gate>(
     ensures usage_flushed { result ≡ Status.Words → K.flushed out.new ≡ true }
 
     // Why a run ended early.
-    ensures read_fault { result ≡ Status.ReadFault → Rose (S.faults input.old) (S.faults input.new) }
+    ensures read_fault { result ≡ Status.ReadFault
+        → Rose (S.faults input.old) (S.faults input.new) ⊎ Rose (H.faults shelf.old) (H.faults shelf.new) }
     ensures write_fault { result ≡ Status.WriteFault → Rose (K.faults out.old) (K.faults out.new) }
     ensures input_limit { result ≡ Status.InputLimit → S.given input.old + input_limit < S.given input.new }
     ensures past_limit { (bytes : List ℕ) → S.left input.old ≡ Some bytes → result ≡ Status.InputLimit → input_limit < length bytes }
-    ensures shelf { H.faults shelf.new ≡ H.faults shelf.old }
+    ensures calm { ¬ (result ≡ Status.ReadFault) → H.faults shelf.new ≡ H.faults shelf.old }
+    ensures fileless { (setup : Setup) (files : Files) (bytes : List ℕ) → job (map string_bytes words.now) ≡ Some setup
+        → S.left input.old ≡ Some bytes → some_fetch (opening setup.window setup.scale) files (lines_run bytes) ≡ false
+        → H.faults shelf.new ≡ H.faults shelf.old }
+    ensures files { H.files shelf.new ≡ H.files shelf.old }
     ensures complete { (setup : Setup) → job (map string_bytes words.now) ≡ Some setup
-        → ¬ Rose (S.faults input.old) (S.faults input.new) → ¬ Rose (K.faults out.old) (K.faults out.new)
+        → ¬ Rose (S.faults input.old) (S.faults input.new) → ¬ Rose (H.faults shelf.old) (H.faults shelf.new)
+        → ¬ Rose (K.faults out.old) (K.faults out.new)
         → S.given input.new ≤ S.given input.old + input_limit
         → IsTrue (is_whole result) ⊎ (result ≡ Status.Memory) }
 {
@@ -184,40 +211,66 @@ fn run_session<R: Threads + Sync, H: Shelf, S: Source, K: Sink, G: Gate>(
     requires limit { limit < 2 ^ 64 - 1 }
     requires given { S.given input.old ≤ 2 ^ 127 }
 
-    ensures told { (files : Files) (bytes before : List ℕ) → S.left input.old ≡ Some bytes → K.written out.old ≡ Some before
+    ensures told { (files : Files) (bytes before : List ℕ)
+        → ToldForRun (H.files shelf.old) (opening settings.window settings.scale) files bytes
+        → S.left input.old ≡ Some bytes → K.written out.old ≡ Some before
         → length before + length (session_output (opening settings.window settings.scale) files bytes) ≤ K.room out.old
         → OnOk result (K.written out.new ≡ Some (before ++ session_output (opening settings.window settings.scale) files bytes)) }
-    ensures front { (files : Files) (bytes before : List ℕ) → S.left input.old ≡ Some bytes → K.written out.old ≡ Some before
+    ensures front { (files : Files) (bytes before : List ℕ)
+        → ToldForRun (H.files shelf.old) (opening settings.window settings.scale) files bytes
+        → S.left input.old ≡ Some bytes → K.written out.old ≡ Some before
         → length before + length (session_output (opening settings.window settings.scale) files bytes) ≤ K.room out.old
         → TellsPrefix (K.written out.new) before (session_output (opening settings.window settings.scale) files bytes) }
-    ensures read_fault_front { (files : Files) (bytes before : List ℕ) → S.left input.old ≡ Some bytes → K.written out.old ≡ Some before
+    ensures read_fault_front { (files : Files) (bytes before : List ℕ)
+        → ToldForRun (H.files shelf.old) (opening settings.window settings.scale) files bytes
+        → S.left input.old ≡ Some bytes → K.written out.old ≡ Some before
         → length before + length (session_output (opening settings.window settings.scale) files bytes) ≤ K.room out.old
         → IsErrOf result Halt.ReadFault
         → ToldTaken (opening settings.window settings.scale) files bytes (S.left input.new) before (K.written out.new) }
-    ensures input_limit_front { (files : Files) (bytes before : List ℕ) → S.left input.old ≡ Some bytes → K.written out.old ≡ Some before
+    ensures input_limit_front { (files : Files) (bytes before : List ℕ)
+        → ToldForRun (H.files shelf.old) (opening settings.window settings.scale) files bytes
+        → S.left input.old ≡ Some bytes → K.written out.old ≡ Some before
         → length before + length (session_output (opening settings.window settings.scale) files bytes) ≤ K.room out.old
         → IsErrOf result Halt.InputLimit
         → K.written out.new ≡ Some (before ++ reports (opening settings.window settings.scale) files (ended_lines (take limit bytes))) }
-    ensures memory_front { (files : Files) (bytes before : List ℕ) → S.left input.old ≡ Some bytes → K.written out.old ≡ Some before
+    ensures memory_front { (files : Files) (bytes before : List ℕ)
+        → ToldForRun (H.files shelf.old) (opening settings.window settings.scale) files bytes
+        → S.left input.old ≡ Some bytes → K.written out.old ≡ Some before
         → length before + length (session_output (opening settings.window settings.scale) files bytes) ≤ K.room out.old
         → IsErrOf result Halt.Memory
-        → (count : ℕ) × (K.written out.new ≡ Some (before ++ reports (opening settings.window settings.scale) files (take count (lines bytes)))) }
+        → (count : ℕ) × (K.written out.new ≡ Some (before ++ reports (opening settings.window settings.scale) files (take count (lines_run bytes)))) }
 
-    ensures quiet { (files : Files) (bytes : List ℕ) → S.left input.old ≡ Some bytes
+    ensures shelf_fault_front { (files : Files) (bytes before : List ℕ)
+        → ToldForRun (H.files shelf.old) (opening settings.window settings.scale) files bytes
+        → S.left input.old ≡ Some bytes → K.written out.old ≡ Some before
+        → length before + length (session_output (opening settings.window settings.scale) files bytes) ≤ K.room out.old
+        → IsErrOf result Halt.ShelfFault
+        → ToldToFile (opening settings.window settings.scale) files bytes before (K.written out.new) }
+
+    ensures quiet { (files : Files) (bytes : List ℕ)
+        → ToldForRun (H.files shelf.old) (opening settings.window settings.scale) files bytes
+        → S.left input.old ≡ Some bytes
         → session_output (opening settings.window settings.scale) files bytes ≡ [] → out.new ≡ out.old }
-    ensures refused { (files : Files) (bytes : List ℕ) → S.left input.old ≡ Some bytes
-        → IfOk result (λ refused. refused ≡ some_refused (opening settings.window settings.scale) files (lines bytes)) }
-    ensures read { (bytes : List ℕ) → S.left input.old ≡ Some bytes → OnOk result (S.left input.new ≡ Some []) }
-    ensures within { (bytes : List ℕ) → S.left input.old ≡ Some bytes → OnOk result (length bytes ≤ limit) }
+    ensures refused { (files : Files) (bytes : List ℕ)
+        → ToldForRun (H.files shelf.old) (opening settings.window settings.scale) files bytes
+        → S.left input.old ≡ Some bytes
+        → IfOk result (λ refused. refused ≡ some_refused (opening settings.window settings.scale) files (lines_run bytes)) }
+    ensures read { (bytes : List ℕ) → S.left input.old ≡ Some bytes → some_ends (lines_run bytes) ≡ false
+        → OnOk result (S.left input.new ≡ Some []) }
+    ensures within { (bytes : List ℕ) → S.left input.old ≡ Some bytes → some_ends (lines_run bytes) ≡ false
+        → OnOk result (length bytes ≤ limit) }
     ensures past { (bytes : List ℕ) → S.left input.old ≡ Some bytes → IsErrOf result Halt.InputLimit → limit < length bytes }
     ensures given { S.given input.new ≤ S.given input.old + limit + 1 }
 
     ensures flushed { OnOk result ((K.flushed out.new ≡ true) ⊎ (out.new ≡ out.old)) }
     ensures read_fault { IsErrOf result Halt.ReadFault → Rose (S.faults input.old) (S.faults input.new) }
-    ensures no_shelf_fault { IsErrOf result Halt.ShelfFault → ⊥ }
+    ensures shelf_fault { IsErrOf result Halt.ShelfFault → Rose (H.faults shelf.old) (H.faults shelf.new) }
     ensures write_fault { IsErrOf result Halt.WriteFault → Rose (K.faults out.old) (K.faults out.new) }
     ensures input_limit { IsErrOf result Halt.InputLimit → S.given input.old + limit < S.given input.new }
-    ensures shelf { H.faults shelf.new ≡ H.faults shelf.old }
+    ensures calm { ¬ IsErrOf result Halt.ShelfFault → H.faults shelf.new ≡ H.faults shelf.old }
+    ensures fileless { (files : Files) (bytes : List ℕ) → S.left input.old ≡ Some bytes
+        → some_fetch (opening settings.window settings.scale) files (lines_run bytes) ≡ false → IsErrOf result Halt.ShelfFault → ⊥ }
+    ensures files { H.files shelf.new ≡ H.files shelf.old }
 {
     let mut session = Session::new(alloc, settings)?;
     run_lines(&mut session, rt, alloc, shelf, input, out, gate, limit)

@@ -1,8 +1,8 @@
-//! The longest lines and the longest series.
+//! The longest lines, the longest series and the largest files.
 
 ghost use Rattle.std.specs.Prelude.{◌<◌};
 
-use crate::run::{Run, check};
+use crate::run::{File, Run, check};
 use mp_session::Feed;
 use mp_session::top::Status;
 use std::alloc::{AllocError, Global};
@@ -16,6 +16,9 @@ const LINE: usize = 1_048_576;
 /// The most samples of a series.
 const SERIES: usize = 262_144;
 
+/// The most bytes of a file.
+const FILE: usize = 67_108_864;
+
 /// Serves the input for windows of three samples.
 fn check_long<R: Abort + AllocGlobal + Threads + Sync>(
     rt: &R,
@@ -23,9 +26,24 @@ fn check_long<R: Abort + AllocGlobal + Threads + Sync>(
     output: &str,
     status: Status,
 ) -> Result<(), Fail> {
+    check_file(rt, b"", input, output, status)
+}
+
+/// Serves the input for windows of three samples, with a file `long.csv` of these bytes.
+fn check_file<R: Abort + AllocGlobal + Threads + Sync>(
+    rt: &R,
+    bytes: &[u8],
+    input: &[u8],
+    output: &str,
+    status: Status,
+) -> Result<(), Fail> {
     let run = Run {
         shows: output,
         words: "--window 3",
+        files: &[File {
+            name: "long.csv",
+            bytes,
+        }],
         input,
         output,
         status,
@@ -67,12 +85,12 @@ fn a_line_that_is_too_long_is_refused(rt: HostRuntime) -> Result<(), Fail> {
     for (length, end, output, status) in [
         (LINE, "\n", "", Status::Done),
         (LINE - 1, "\r\n", "", Status::Done),
-        (LINE + 1, "\n", "refused 1 unknown\n", Status::Refused),
-        (LINE, "\r\n", "refused 1 unknown\n", Status::Refused),
+        (LINE + 1, "\n", "refused 1 long\n", Status::Refused),
+        (LINE, "\r\n", "refused 1 long\n", Status::Refused),
         (
             3 * LINE,
             "\nappend 0 1",
-            "refused 1 unknown\nok 2 1\n",
+            "refused 1 long\nok 2 1\n",
             Status::Refused,
         ),
     ] {
@@ -106,6 +124,95 @@ fn a_series_takes_no_more_than_the_longest(rt: HostRuntime) -> Result<(), Fail> 
     Ok(())
 }
 
+/// So many bytes of a line, and what ends it.
+fn padded(alloc: Global, line: &str, length: usize, end: &str) -> Result<Vec<u8>, AllocError> {
+    let mut padded = line.as_bytes().to_vec(alloc)?;
+    padded.resize(length, b' ')?;
+    padded.extend_from_slice(end.as_bytes())?;
+    Ok(padded)
+}
+
+#[test]
+fn too_long_comes_before_every_other_refusal(rt: HostRuntime) -> Result<(), Fail> {
+    for (line, word) in [
+        ("session 2", "version"),
+        ("frob", "unknown"),
+        ("open", "fields"),
+        ("append x 1", "number"),
+        ("profile 1", "slot"),
+        ("profile 0.1", "channel"),
+        ("append 0 x", "sample 1"),
+        ("load 0 none.csv 0", "file"),
+        ("entry 0 0", "index"),
+    ] {
+        let output = format!(in rt.alloc(); "refused 1 long\nrefused 2 {word}\nok 3\n")?;
+        let mut input = padded(rt.alloc(), line, LINE + 1, "\n")?;
+        input.extend_from_slice(padded(rt.alloc(), line, LINE, "\nend\n")?.as_slice())?;
+        check_long(&rt, input.as_slice(), output.as_str(), Status::Refused)?;
+    }
+    Ok(())
+}
+
+/// A file of so many records `0`, and what stands behind them.
+fn records(alloc: Global, count: usize, end: &str) -> Result<Vec<u8>, AllocError> {
+    let mut bytes = Vec::new(alloc);
+    for _ in 0..count {
+        bytes.extend_from_slice(b"0\n")?;
+    }
+    bytes.extend_from_slice(end.as_bytes())?;
+    Ok(bytes)
+}
+
+#[test]
+fn a_table_has_no_more_records_than_the_longest_series(rt: HostRuntime) -> Result<(), Fail> {
+    let lines = b"append 0 1 2 3\nload 0 long.csv 0\nappend 0 0\n";
+    for (count, end, output) in [
+        (SERIES, "", "ok 1 3\nok 2 262144\nrefused 3 full\n"),
+        (SERIES, "\n\n", "ok 1 3\nok 2 262144\nrefused 3 full\n"),
+        (SERIES + 1, "", "ok 1 3\nrefused 2 rows\nok 3 4\n"),
+        (SERIES, "x\n", "ok 1 3\nrefused 2 rows\nok 3 4\n"),
+        (
+            SERIES - 1,
+            "x\n0\n",
+            "ok 1 3\nrefused 2 record 262144\nok 3 4\n",
+        ),
+    ] {
+        let bytes = records(rt.alloc(), count, end)?;
+        check_file(&rt, bytes.as_slice(), lines, output, Status::Refused)?;
+    }
+    Ok(())
+}
+
+#[test]
+fn a_header_is_no_record(rt: HostRuntime) -> Result<(), Fail> {
+    let bytes = records(rt.alloc(), SERIES + 1, "")?;
+    let lines = b"load 0 long.csv 0 header\nload 0 long.csv 0\n";
+    let output = "ok 1 262144\nrefused 2 rows\n";
+    check_file(&rt, bytes.as_slice(), lines, output, Status::Refused)
+}
+
+#[test]
+fn the_largest_file_is_loaded(rt: HostRuntime) -> Result<(), Fail> {
+    let mut bytes = b"7\n".to_vec(rt.alloc())?;
+    bytes.resize(FILE, b'\n')?;
+    check_file(
+        &rt,
+        bytes.as_slice(),
+        b"load 0 long.csv 0\n",
+        "ok 1 1\n",
+        Status::Done,
+    )
+}
+
+// Its first record is no sample.
+#[test]
+fn a_larger_file_is_refused_before_it_is_read(rt: HostRuntime) -> Result<(), Fail> {
+    let bytes = vec![in rt.alloc(); b'x'; FILE + 1]?;
+    let lines = b"append 0 1 2 3\nload 0 long.csv 0\nload 0 long.csv 0,1\nwindow 0 0\n";
+    let output = "ok 1 3\nrefused 2 file-size\nrefused 3 channel\nwindow 4 0 1 2 3\n";
+    check_file(&rt, bytes.as_slice(), lines, output, Status::Refused)
+}
+
 /// How many windows of 16,384 samples lie in 30,000.
 const WINDOWS: u64 = 13_617;
 
@@ -132,6 +239,7 @@ fn a_long_series_has_a_profile_of_the_longest_windows(rt: HostRuntime) -> Result
     let run = Run {
         shows: "the longest windows of 30,000 samples",
         words: "--window 16384",
+        files: &[],
         input: input.as_slice(),
         output: output.as_str(),
         status: Status::Done,

@@ -2,6 +2,7 @@
 
 ghost use Rattle.std.specs.Prelude.{◌≤◌};
 
+use mp_nums::Memory;
 use mp_outside::{CalmShelf, CalmSink, CalmSource, OpenGate};
 use mp_session::top::{Status, serve};
 use std::alloc::{AllocError, Global};
@@ -13,12 +14,20 @@ use std::thread::Threads;
 /// How many bytes of output are kept: more than any run here writes.
 const ROOM: u64 = 1_048_576;
 
+/// A file that can be fetched.
+#[derive(Clone, Copy)]
+pub(crate) struct File<'a> {
+    pub(crate) name: &'a str,
+    pub(crate) bytes: &'a [u8],
+}
+
 /// A whole run.
 #[derive(Clone, Copy)]
 pub(crate) struct Run<'a> {
     pub(crate) shows: &'a str,
     /// The words behind the program's name, with one space between two.
     pub(crate) words: &'a str,
+    pub(crate) files: &'a [File<'a>],
     pub(crate) input: &'a [u8],
     pub(crate) output: &'a str,
     pub(crate) status: Status,
@@ -47,7 +56,7 @@ pub(crate) fn check<R: Abort + AllocGlobal + Threads + Sync>(
 {
     let alloc = rt.alloc();
     let words = split_words(alloc, run.words)?;
-    let mut shelf = CalmShelf::new(alloc);
+    let mut shelf = shelf_with(alloc, run.files)?;
     let mut input = CalmSource::new(run.input.to_vec(alloc)?, step);
     let mut out = CalmSink::new(alloc, ROOM)?;
     let status = serve(
@@ -69,8 +78,18 @@ pub(crate) fn check<R: Abort + AllocGlobal + Threads + Sync>(
     Ok(())
 }
 
-fn split_words(alloc: Global, text: &str) -> Result<Vec<String>, AllocError> {
+/// The words of a text, with one space between two.
+pub(crate) fn split_words(alloc: Global, text: &str) -> Result<Vec<String>, AllocError> {
     text.split_ascii_whitespace()
         .map(|word| String::from_str(alloc, word))
         .try_collect(alloc)
+}
+
+fn shelf_with(alloc: Global, files: &[File<'_>]) -> Result<CalmShelf, Memory> {
+    let mut shelf = CalmShelf::new(alloc);
+    for file in files {
+        let name = file.name.as_bytes().to_vec(alloc)?;
+        shelf.put(name, file.bytes.to_vec(alloc)?)?;
+    }
+    Ok(shelf)
 }

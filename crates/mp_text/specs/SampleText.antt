@@ -42,7 +42,8 @@ is_point b = b == 46
 -- at least one digit in all, and nothing else
 abbrev pub has_form : Numeral → Bool
 has_form n =
-    not (is_empty n.whole && is_empty n.fraction) && list_all is_ascii_digit n.whole && list_all is_ascii_digit n.fraction
+    not (is_empty n.whole && is_empty n.fraction)
+    && list_all is_ascii_digit n.whole && list_all is_ascii_digit n.fraction
 
 -- what stands before the first point of a text and what stands behind it
 abbrev pub parted : Bool → List ℕ → Numeral

@@ -6,13 +6,13 @@ ghost use Rattle.std.specs.Process.{exit_status};
 ghost use Rattle.mp_session.specs.Statuses.{number};
 
 use mp_nums::Memory;
-use mp_outside::{CalmShelf, OpenGate, StdSink, StdSource};
+use mp_outside::{DiskShelf, OpenGate, StdSink, StdSource};
 use mp_session::top::{Status, serve};
 use std::alloc::Global;
 use std::env;
 use std::io::ErrorKind;
 use std::process::ExitCode;
-use std::rt::Env;
+use std::rt::{Env, Files};
 use std::thread::Threads;
 
 fn main(rt: HostRuntime) -> ExitCode {
@@ -31,12 +31,13 @@ fn exit_code(status: Status) -> ExitCode
 }
 
 /// Serves standard input with the words behind the program's name, both of which `shell` has, as it has standard output.
-fn run<R: AllocGlobal + Threads + Sync, E: Env + Input + Print>(
+/// Files are those of the system.
+fn run<R: AllocGlobal + Clone + Files + Threads + Sync, E: Env + Input + Print>(
     rt: &R,
     shell: &E,
 ) -> Result<Status, Memory> {
     let words = words(rt.alloc(), shell)?;
-    let mut shelf = CalmShelf::new(rt.alloc());
+    let mut shelf = DiskShelf::new(rt)?;
     let mut input = StdSource::new(shell)?;
     let mut out = StdSink::new(shell)?;
     Ok(serve(

@@ -6,6 +6,7 @@ use std::env::{Env, FillError};
 use std::fmt::Display;
 use std::io::{BufRead, ErrorKind, Input, Lines, Print};
 use std::process::Abort;
+use std::rt::Files;
 use std::test::Fail;
 use std::thread::Threads;
 use std::{io, str};
@@ -90,6 +91,8 @@ const WITHOUT_A_NUMBER: &[&[u8]] = &[b"mprof", b"--window"];
 
 const THREE_WORDS: &[&[u8]] = &[b"mprof", b"--window", b"3", b"4"];
 
+const WINDOW_AND_SCALE: &[&[u8]] = &[b"mprof", b"--window", b"3", b"--scale", b"1"];
+
 const NO_TEXT: &[&[u8]] = &[b"mprof", b"--window", b"\xff"];
 
 #[test]
@@ -108,7 +111,25 @@ fn an_input_gives_its_reports_and_status(rt: HostRuntime) -> Result<(), Fail> {
         "refused 1 sample 2\n",
         Status::Refused,
     )?;
+    check(
+        &rt,
+        WINDOW_AND_SCALE,
+        b"append 0 1 2.5 3\nwindow 0 0\nend\n",
+        "ok 1 3\nwindow 2 0 1.0 2.5 3.0\nok 3\n",
+        Status::Done,
+    )?;
     Ok(())
+}
+
+#[test]
+fn a_name_of_no_file_is_refused(rt: HostRuntime) -> Result<(), Fail> {
+    check(
+        &rt,
+        WINDOW_OF_3,
+        b"load 0 there/is/no/such.csv 0\n",
+        "refused 1 file\n",
+        Status::Refused,
+    )
 }
 
 #[test]
@@ -120,7 +141,7 @@ fn words_outside_the_grammar_give_the_usage(rt: HostRuntime) -> Result<(), Fail>
 }
 
 /// Runs the program in a shell.
-fn check<R: Abort + AllocGlobal + Threads + Sync>(
+fn check<R: Abort + AllocGlobal + Clone + Files + Threads + Sync>(
     rt: &R,
     words: &'static [&'static [u8]],
     typed: &'static [u8],

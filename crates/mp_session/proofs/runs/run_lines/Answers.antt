@@ -4,14 +4,14 @@ use Rattle.mp_feed.specs.declared.readers.Next.TheVariants.{Line}
 use Rattle.mp_feed.specs.WritingLaws.{wrote_faults}
 use Rattle.mp_session.specs.Running.{course_at}
 use Rattle.mp_session.proofs.RunLemmas.{were_run_none}
-use Rattle.mp_session.proofs.UnderWay.{under_way_start, under_way_on, all_to_end, all_to_last, all_at_end, into_line, some_lines, lines_before_fault, lines_within}
+use Rattle.mp_session.proofs.UnderWay.{under_way_start, under_way_on, all_to_end, all_to_last, all_at_end, into_line, some_lines, lines_before_fault, lines_within, to_file}
 use Rattle.mp_session.proofs.runs.run_lines.Goals as goal
 use Rattle.mp_session.proofs.runs.run_lines.Goals.{then-ran-via-then-ran, then-ran-via-else-ran+then-last}
 
 pub returns-in_err-reader-clause-memory : goal.returns-in_err-reader-clause-memory
 returns-in_err-reader-clause-memory g c = λ _.
     let start = course_at c.args.session.now (g.S.Source.left c.args.input.now) c.args.out.now in
-    some_lines (under_way_start c.args.limit start) (were_run_none start)
+    some_lines (under_way_start c.args.limit start) (were_run_none (g.H.Shelf.files c.args.shelf.now) start)
 
 pub loop-reader-init : goal.loop-reader-init
 loop-reader-init g c = rw c.in_ok-reader.ensures (record {
@@ -22,7 +22,8 @@ loop-reader-init g c = rw c.in_ok-reader.ensures (record {
   left = omega arith;
   source_faults = omega arith;
   sink_faults = omega arith;
-  shelf = refl;
+  calm = refl;
+  files = refl;
 })
 
 pub returns-in-Err-clause-read_fault : goal.returns-in-Err-clause-read_fault
@@ -41,19 +42,26 @@ returns-in-Ok-End-clause-all g c =
 
 pub returns-in_err-ran-clause-memory : goal.returns-in_err-ran-clause-memory
 returns-in_err-ran-clause-memory g c = λ e.
-    some_lines c.loop-reader.invariant.run (c.in_err-ran.ensures.memory (g.S.Source.left c.advance.new.input) (search rules))
+    some_lines c.loop-reader.invariant.run (rw c.loop-reader.invariant.files at c.in_err-ran.ensures.memory (g.S.Source.left c.advance.new.input) (search rules))
+
+pub returns-in_err-ran-clause-shelf_fault : goal.returns-in_err-ran-clause-shelf_fault
+returns-in_err-ran-clause-shelf_fault g c = λ e.
+    to_file c.advance.new.self (g.S.Source.left c.advance.new.input) c.loop-reader.invariant.run c.in-Ok-Line.last
+    (rw c.in-Ok-Line.field-0-is at c.in-Ok-Line.ensures.next) c.line.ensures
+    (rw c.loop-reader.invariant.files at c.in_err-ran.ensures.shelf_fault (g.S.Source.left c.advance.new.input) (search rules))
+    (λ state h. c.in_err-ran.ensures.shelf_asked state h (search rules))
 
 pub returns-in_err-ran-clause-write_fault : goal.returns-in_err-ran-clause-write_fault
 returns-in_err-ran-clause-write_fault g c = λ e.
     into_line c.advance.new.self (g.S.Source.left c.advance.new.input) c.loop-reader.invariant.run c.in-Ok-Line.last
     (rw c.in-Ok-Line.field-0-is at c.in-Ok-Line.ensures.next) c.line.ensures
-    (c.in_err-ran.ensures.begun (g.S.Source.left c.advance.new.input) (search rules))
+    (rw c.loop-reader.invariant.files at c.in_err-ran.ensures.begun (g.S.Source.left c.advance.new.input) (search rules))
 
 pub returns-then-ran-clause-all : goal.returns-then-ran-clause-all
 returns-then-ran-clause-all g c =
     let left = g.S.Source.left c.advance.new.input in
     let next = rw c.in-Ok-Line.field-0-is at c.in-Ok-Line.ensures.next in
-    let run = c.in_ok-ran.ensures.run left in
+    let run = rw c.loop-reader.invariant.files at c.in_ok-ran.ensures.run left in
     elim c.then-ran.branch [
       | then-ran-via-then-ran w ↦ all_to_end c.advance.new.self left c.loop-reader.invariant.run c.in-Ok-Line.last next c.line.ensures
           run c.in_ok-ran.ensures.ends w.if-ran.true
@@ -71,12 +79,13 @@ loop-reader-preserved g c =
     let fewer = read.fewer (c.in-Ok-Line.field-0-is ∙ ap Line c.if-last.false) in
     let ran = c.in_ok-ran.ensures in
     rw c.drop_line.ensures (record {
-      run = under_way_on c.advance.new.self left i.run line_held c.line.ensures (ran.run left) ran.ends c.if-ran.false;
+      run = under_way_on c.advance.new.self left i.run line_held c.line.ensures (rw i.files at ran.run left) ran.ends c.if-ran.false;
       part = λ whole. absurd (cc whole);
       count = omega (arith, i.count, fewer, (ran.run left).run.count);
       given = omega (arith, i.given, read.given);
       left = omega (arith, i.left, line_held.gave.count);
       source_faults = omega (arith, i.source_faults, read.faults);
       sink_faults = omega (arith, i.sink_faults, wrote_faults (ran.run left).wrote);
-      shelf = ran.shelf ∙ i.shelf;
+      calm = ran.calm (λ e. absurd (cc e)) ∙ i.calm;
+      files = ran.files ∙ i.files;
     })

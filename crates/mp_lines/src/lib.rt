@@ -1,0 +1,19 @@
+//! The lines of a session: what cuts an input into lines, and what a line asks for.
+#![tactic(auto)]
+
+mod append_line;
+mod commands;
+mod entry_line;
+mod load_line;
+mod numbers;
+mod open_line;
+mod profile_line;
+mod session_line;
+#[cfg(test)]
+mod tests;
+mod window_line;
+
+pub use commands::{Command, LineFault, parse_line};
+pub use mp_feed::{Fed, Feed};
+pub use mp_replies::Ref;
+pub use numbers::Columns;

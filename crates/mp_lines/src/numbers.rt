@@ -1,0 +1,122 @@
+//! Numbers, refs and lists of columns.
+
+ghost use Rattle.std.specs.Prelude.{◌≡◌, ◌+◌, ◌<◌, [], length, drop, position, is_some, unwrap_or, Some, true, IfOk, IfSome};
+ghost use Rattle.mp_replies.specs.Numbers.{column, columns, is_point, number, ref};
+
+use mp_bytes::{Values, read_number};
+use mp_nums::Memory;
+use mp_replies::Ref;
+use std::alloc::Global;
+
+/// The most digits of a number, leading zeros counted.
+const MAX_DIGITS: usize = 39;
+
+/// The greatest column, counted from 0.
+const MAX_COLUMN: u32 = 65_535;
+
+/// The most columns.
+const MAX_COLUMNS: usize = 8;
+
+/// A number of 64 bits.
+pub(crate) fn read_u64(field: &[u8]) -> Option<u64>
+    ensures { result ≡ number field.now }
+{
+    Some(read_number(field, MAX_DIGITS, u128::from(u64::MAX))? as u64)
+}
+
+/// A slot, or a slot and a channel with a point between.
+pub(crate) fn read_ref(field: &[u8]) -> Option<Ref>
+    ensures { result ≡ ref field.now }
+{
+    match point_in(field) {
+        None => {
+            let slot = read_u64(field)?;
+            Some(Ref { slot, channel: 0 })
+        }
+        Some(at) => {
+            let slot = read_u64(&field[..at])?;
+            let channel = read_u64(behind(field, at))?;
+            Some(Ref { slot, channel })
+        }
+    }
+}
+
+fn point_in(field: &[u8]) -> Option<usize>
+    ensures { result ≡ position is_point field.now }
+{
+    field.iter().position(|byte| *byte == b'.')
+}
+
+/// What stands behind the byte at a place.
+fn behind(field: &[u8], at: usize) -> &[u8]
+    requires { at < length field.now }
+    ensures { result.now ≡ drop (at + 1) field.now }
+{
+    &field[at + 1..]
+}
+
+fn read_column(text: &[u8]) -> Option<u32>
+    ensures { result ≡ column text.now }
+{
+    Some(read_number(text, MAX_DIGITS, u128::from(MAX_COLUMN))? as u32)
+}
+
+/// A field that lists 1 to 8 columns.
+#[derive(Clone, Copy, Debug, PartialEq, Eq)]
+pub struct Columns<'a> {
+    pub field: &'a [u8],
+    ghost tested: { is_some (columns field.now) ≡ true },
+}
+
+impl<'a> Columns<'a> {
+    /// `None` for a field that is no such list.
+    pub(crate) fn of(field: &'a [u8]) -> Option<Columns<'a>>
+        ensures some { is_some result ≡ is_some (columns field.now) }
+        ensures field { IfSome result (λ list. list.field.now ≡ field.now) }
+    {
+        if are_columns(field) {
+            Some(Columns { field })
+        } else {
+            None
+        }
+    }
+
+    /// How many columns there are.
+    pub fn count(self) -> u64
+        ensures { result ≡ length (unwrap_or (columns self.entry.field.now) []) }
+    {
+        let mut count = 0;
+        for _ in Values::of(self.field) {
+            count += 1;
+        }
+        count
+    }
+
+    /// The columns.
+    pub fn read(self, alloc: Global) -> Result<Vec<u32>, Memory>
+        ensures { IfOk result (λ read. columns self.entry.field.now ≡ Some read.items) }
+    {
+        let mut read = Vec::new(alloc);
+        for text in Values::of(self.field) {
+            read.push(read_column(text).unwrap())?;
+        }
+        Ok(read)
+    }
+}
+
+/// Whether a field is a list of 1 to 8 columns.
+fn are_columns(field: &[u8]) -> bool
+    ensures { result ≡ is_some (columns field.now) }
+{
+    let mut count = 0;
+    for text in Values::of(field) {
+        if count == MAX_COLUMNS {
+            return false;
+        }
+        if read_column(text).is_none() {
+            return false;
+        }
+        count += 1;
+    }
+    true
+}

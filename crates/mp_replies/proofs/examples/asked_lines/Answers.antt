@@ -1,0 +1,30 @@
+use Rattle.std.proofs.Common.{refl}
+use Rattle.mp_replies.specs.Line.{asked_of}
+use Rattle.mp_replies.proofs.examples.asked_lines.Goals as goal
+
+pub returns : goal.returns
+unfolding asked_of
+returns c = record {
+  session = refl;
+  other_version = refl;
+  no_version = refl;
+  unknown = refl;
+  no_items = refl;
+  no_slot = refl;
+  items = refl;
+  open_two = refl;
+  columns = refl;
+  no_header = refl;
+  other_header = refl;
+  empty_column = refl;
+  many_columns = refl;
+  great_column = refl;
+  slot_alone = refl;
+  channel = refl;
+  no_channel = refl;
+  two_points = refl;
+  great_number = refl;
+  end = refl;
+  end_with_more = refl;
+  comment = refl;
+}

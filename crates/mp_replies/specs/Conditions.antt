@@ -1,0 +1,33 @@
+-- Why a command is refused: of some conditions, in their order, the first that holds.
+use Rattle.std.specs.Prelude.{ℕ, Bool, nat_le, List, [], ◌∷◌, length, if◌then◌else◌, Option, Some, None}
+use Rattle.mp_defs.specs.Window.{windows}
+use Rattle.mp_replies.specs.declared.causes.Cause.{Cause}
+use Rattle.mp_replies.specs.declared.causes.Cause.TheVariants.{Slot, Channel, Index}
+use Rattle.mp_replies.specs.declared.refs.Ref.{Ref}
+use Rattle.mp_replies.specs.State.{Store, store_at, is_closed, channels_at, series_at}
+
+-- a word, and whether the command is refused by it where no word before it does
+pub record Condition : Type 0 where
+  pub holds : Bool
+  pub word : Cause
+
+abbrev pub when : Bool → Cause → Condition
+when holds word = record { holds = holds; word = word }
+
+abbrev pub first_of : List Condition → Option Cause
+first_of [] = None
+first_of (condition ∷ others) = if condition.holds then Some condition.word else first_of others
+
+-- ---- conditions of several commands
+
+-- the slot is above the last one, or it isn't open
+abbrev pub no_slot : List Store → ℕ → Condition
+no_slot stores slot = when (is_closed (store_at stores slot)) Slot
+
+-- the slot has no such channel
+abbrev pub no_channel : List Store → Ref → Condition
+no_channel stores at = when (nat_le (length (channels_at stores at.slot)) at.channel) Channel
+
+-- the series has no window that starts there
+abbrev pub no_window : ℕ → List Store → Ref → ℕ → Condition
+no_window m stores at start = when (nat_le (windows (length (series_at stores at)) m) start) Index

@@ -1,0 +1,86 @@
+-- `load S FILE COL,COL`, or with `header` behind: columns of a file in place of what stood in a slot.
+use Rattle.std.specs.Prelude.{ℕ, ◌==◌, Bool, true, false, not, nat_lt, List, [], ◌∷◌, length, codes, Option, Some, None, is_none, unwrap_or, option_map, option_and_then, Result, Ok, Err}
+use Rattle.std.specs.FinMap.{get}
+use Rattle.mp_bytes.specs.Bytes.{same_text}
+use Rattle.mp_defs.specs.Series.{Series}
+use Rattle.mp_text.specs.Table.{Fault, BadField, NoField, TooManyRows, data_records, table_of}
+use Rattle.mp_replies.specs.declared.causes.Cause.TheVariants.{Channel, File, FileSize, Record, Rows}
+use Rattle.mp_replies.specs.Change.{Change, PutChannels}
+use Rattle.mp_replies.specs.Command.{Command, Load}
+use Rattle.mp_replies.specs.Conditions.{Condition, when, no_slot}
+use Rattle.mp_replies.specs.Limits.{max_file}
+use Rattle.mp_replies.specs.Numbers.{number, columns}
+use Rattle.mp_replies.specs.State.{Files, Store, channels_at}
+
+-- three fields stand behind the word, or four, of which the last is `header`
+abbrev pub load_fits : List (List ℕ) → Bool
+load_fits (slot ∷ file ∷ cols ∷ []) = true
+load_fits (slot ∷ file ∷ cols ∷ last ∷ []) = same_text last (codes "header")
+load_fits others = false
+
+abbrev pub load_with : List ℕ → List ℕ → List ℕ → Bool → Option Command
+load_with slot file cols header =
+    option_and_then (λ (s : ℕ). option_map (λ (cs : List ℕ). Load s file cs header) (columns cols)) (number slot)
+
+-- what these fields ask for
+abbrev pub load_of : List (List ℕ) → Option Command
+load_of (slot ∷ file ∷ cols ∷ []) = load_with slot file cols false
+load_of (slot ∷ file ∷ cols ∷ last ∷ []) = load_with slot file cols true
+load_of others = None
+
+-- ---- what the file holds
+
+-- its bytes, none where there is no such file
+abbrev pub file_in : Files → List ℕ → Option (List ℕ)
+file_in files file = get files file
+
+-- the series of these columns, or the first fault
+abbrev pub table_in : ℕ → List ℕ → Bool → List ℕ → Result (List Series) Fault
+table_in scale cols header bytes = table_of scale cols (data_records header bytes)
+
+-- the number of the record with a fault, where that is the fault
+abbrev pub bad_record : Result (List Series) Fault → Option ℕ
+bad_record (Ok series) = None
+bad_record (Err (BadField number column fault)) = Some number
+bad_record (Err (NoField number column)) = Some number
+bad_record (Err TooManyRows) = None
+
+abbrev pub has_too_many : Result (List Series) Fault → Bool
+has_too_many (Ok series) = false
+has_too_many (Err (BadField number column fault)) = false
+has_too_many (Err (NoField number column)) = false
+has_too_many (Err TooManyRows) = true
+
+abbrev pub series_in : Result (List Series) Fault → List Series
+series_in (Ok series) = series
+series_in (Err fault) = []
+
+-- ---- what is refused
+
+-- what is known without the file
+abbrev pub load_conditions : List Store → ℕ → List ℕ → List Condition
+load_conditions stores slot cols =
+    no_slot stores slot
+    ∷ when (not (length cols == length (channels_at stores slot))) Channel
+    ∷ []
+
+abbrev pub record_conditions : Result (List Series) Fault → List Condition
+record_conditions table =
+    when (not (is_none (bad_record table))) (Record (unwrap_or (bad_record table) 0))
+    ∷ when (has_too_many table) Rows
+    ∷ []
+
+-- what the file is refused for
+abbrev pub file_conditions : ℕ → List ℕ → Bool → Option (List ℕ) → List Condition
+file_conditions scale cols header None = when true File ∷ []
+file_conditions scale cols header (Some bytes) =
+    when (nat_lt max_file (length bytes)) FileSize ∷ record_conditions (table_in scale cols header bytes)
+
+-- ---- what is changed
+
+abbrev pub channels_of : ℕ → List ℕ → Bool → Option (List ℕ) → List Series
+channels_of scale cols header None = []
+channels_of scale cols header (Some bytes) = series_in (table_in scale cols header bytes)
+
+abbrev pub load_change : ℕ → Files → ℕ → List ℕ → List ℕ → Bool → Change
+load_change scale files slot file cols header = PutChannels slot (channels_of scale cols header (file_in files file))

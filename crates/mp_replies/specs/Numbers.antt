@@ -1,0 +1,51 @@
+-- How the fields of a line are read: numbers, refs and lists of columns.
+use Rattle.std.specs.Prelude.{ℕ, ◌+◌, ◌==◌, Bool, nat_le, take, drop, position, List, [], ◌∷◌, length, map, if◌then◌else◌, Option, Some, None, option_map, option_and_then}
+use Rattle.mp_bytes.specs.Bytes.{point}
+use Rattle.mp_bytes.specs.Digits.{number_of}
+use Rattle.mp_bytes.specs.Values.{values_in}
+use Rattle.mp_replies.specs.Limits.{max_digits, max_number, max_column, max_channels}
+use Rattle.mp_replies.specs.declared.refs.Ref.{Ref}
+
+abbrev pub number : List ℕ → Option ℕ
+number field = number_of max_digits max_number field
+
+-- ---- refs: a slot, or a slot and a channel with a point between
+
+abbrev pub is_point : ℕ → Bool
+is_point b = b == point
+
+abbrev ref_of : ℕ → ℕ → Ref
+ref_of slot channel = record { slot = slot; channel = channel }
+
+-- both, where there are both
+abbrev pub ref_with : Option ℕ → Option ℕ → Option Ref
+ref_with slot channel =
+    option_and_then (λ (s : ℕ). option_map (ref_of s) channel) slot
+
+-- by the place of the first point
+abbrev pub ref_at : List ℕ → Option ℕ → Option Ref
+ref_at field None = ref_with (number field) (Some 0)
+ref_at field (Some at) = ref_with (number (take at field)) (number (drop (at + 1) field))
+
+abbrev pub ref : List ℕ → Option Ref
+ref field = ref_at field (position is_point field)
+
+-- ---- columns: numbers with commas between
+
+-- one more in front of others, where there are both
+abbrev pub onto_some : {A : Type 0} → Option A → Option (List A) → Option (List A)
+onto_some None others = None
+onto_some (Some x) None = None
+onto_some (Some x) (Some xs) = Some (x ∷ xs)
+
+-- all of them, where each is there
+abbrev pub all_some : {A : Type 0} → List (Option A) → Option (List A)
+all_some [] = Some []
+all_some (x ∷ xs) = onto_some x (all_some xs)
+
+abbrev pub column : List ℕ → Option ℕ
+column text = number_of max_digits max_column text
+
+-- a slot has no more channels than this many columns
+abbrev pub columns : List ℕ → Option (List ℕ)
+columns field = if nat_le (length (values_in field)) max_channels then all_some (map column (values_in field)) else None

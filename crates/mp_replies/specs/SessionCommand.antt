@@ -1,0 +1,27 @@
+-- `session 1`: the version of the lines that follow.
+use Rattle.std.specs.Prelude.{ℕ, List, [], ◌∷◌, ◌==◌, if◌then◌else◌, Option, Some, None, Result, Ok, Err}
+use Rattle.mp_replies.specs.declared.causes.Cause.{Cause}
+use Rattle.mp_replies.specs.declared.causes.Cause.TheVariants.{Version}
+use Rattle.mp_replies.specs.Command.{Command, Session}
+use Rattle.mp_replies.specs.Conditions.{Condition, when}
+use Rattle.mp_replies.specs.Numbers.{number}
+use Rattle.mp_replies.specs.State.{State}
+
+-- the one version that there is
+abbrev pub version : ℕ
+version = 1
+
+abbrev pub session_with : Option ℕ → Result Command Cause
+session_with None = Err Version
+session_with (Some n) = if n == version then Ok (Session n) else Err Version
+
+-- what the fields behind the word ask for. They are one number, and no other refusal comes before its own
+abbrev pub session_of : List (List ℕ) → Result Command Cause
+session_of (field ∷ []) = session_with (number field)
+session_of others = Err Version
+
+-- ---- what is refused
+
+-- it comes before all other commands
+abbrev pub session_conditions : State → List Condition
+session_conditions state = when state.begun Version ∷ []

@@ -1,0 +1,37 @@
+-- `window R I`: the samples of a window.
+use Rattle.std.specs.Prelude.{ℕ, List, [], ◌∷◌, ◌++◌, take, drop, codes, decimal, flat_map, Option, None, option_map, option_and_then}
+use Rattle.mp_defs.specs.Series.{Series}
+use Rattle.mp_text.specs.SampleText.{sample_text}
+use Rattle.mp_replies.specs.Answer.{Report, WindowReport}
+use Rattle.mp_replies.specs.Command.{Command, Window}
+use Rattle.mp_replies.specs.Conditions.{Condition, no_slot, no_channel, no_window}
+use Rattle.mp_replies.specs.Numbers.{number, ref}
+use Rattle.mp_replies.specs.declared.refs.Ref.{Ref}
+use Rattle.mp_replies.specs.State.{State, Store, series_at}
+
+-- what two fields behind the word ask for
+abbrev pub window_of : List (List ℕ) → Option Command
+window_of (field ∷ start ∷ []) =
+    option_and_then (λ (at : Ref). option_map (λ (i : ℕ). Window at i) (number start)) (ref field)
+window_of others = None
+
+abbrev pub window_conditions : ℕ → List Store → Ref → ℕ → List Condition
+window_conditions m stores at start =
+    no_slot stores at.slot ∷ no_channel stores at ∷ no_window m stores at start ∷ []
+
+-- ---- the report
+
+-- so many samples from a start on
+abbrev pub window_at : ℕ → Series → ℕ → Series
+window_at m series start = take m (drop start series)
+
+abbrev pub window_report : State → Ref → ℕ → Report
+window_report state at start = WindowReport start (window_at state.window (series_at state.stores at) start) state.scale
+
+-- samples, each behind a space
+abbrev pub samples_text : ℕ → Series → List ℕ
+samples_text scale samples = flat_map (λ sample. codes " " ++ sample_text scale sample) samples
+
+abbrev pub window_text : ℕ → ℕ → Series → ℕ → List ℕ
+window_text line start samples scale =
+    codes "window " ++ decimal line ++ codes " " ++ decimal start ++ samples_text scale samples ++ codes "\n"

@@ -1,0 +1,69 @@
+//! Numbers and slots in texts.
+
+ghost use Rattle.std.specs.Prelude.{◌≡◌, ◌++◌, decimal, OnOk};
+ghost use Rattle.mp_replies.specs.Text.{index_text, row_text, slot_text};
+
+use itoa::Buffer;
+use mp_nums::{Memory, Slot};
+
+/// A window's start, the distance and the start of its nearest window, and the starts of its nearest windows to the
+/// left and right.
+pub(crate) fn push_row(
+    text: &mut Vec<u8>,
+    start: u64,
+    all: Slot,
+    left: Slot,
+    right: Slot,
+) -> Result<(), Memory>
+    ensures { OnOk result (text.new.items ≡ text.old.items ++ row_text start all left right) }
+{
+    push_number(text, start)?;
+    text.extend_from_slice(b" ")?;
+    push_slot(text, all)?;
+    text.extend_from_slice(b" ")?;
+    push_index(text, left)?;
+    text.extend_from_slice(b" ")?;
+    push_index(text, right)?;
+    text.extend_from_slice(b"\n")?;
+    Ok(())
+}
+
+/// A distance and a start.
+pub(crate) fn push_slot(text: &mut Vec<u8>, slot: Slot) -> Result<(), Memory>
+    ensures { OnOk result (text.new.items ≡ text.old.items ++ slot_text slot) }
+{
+    match slot {
+        None => text.extend_from_slice(b"- -")?,
+        Some(near) => {
+            push_distance(text, near.dist.0)?;
+            text.extend_from_slice(b" ")?;
+            push_number(text, near.index)?;
+        }
+    }
+    Ok(())
+}
+
+/// The start alone.
+fn push_index(text: &mut Vec<u8>, slot: Slot) -> Result<(), Memory>
+    ensures { OnOk result (text.new.items ≡ text.old.items ++ index_text slot) }
+{
+    match slot {
+        None => text.extend_from_slice(b"-")?,
+        Some(near) => push_number(text, near.index)?,
+    }
+    Ok(())
+}
+
+pub(crate) fn push_number(text: &mut Vec<u8>, n: u64) -> Result<(), Memory>
+    ensures { OnOk result (text.new.items ≡ text.old.items ++ decimal n) }
+{
+    text.extend_from_slice(Buffer::new().format(n).as_bytes())?;
+    Ok(())
+}
+
+fn push_distance(text: &mut Vec<u8>, dist: u128) -> Result<(), Memory>
+    ensures { OnOk result (text.new.items ≡ text.old.items ++ decimal dist) }
+{
+    text.extend_from_slice(Buffer::new().format(dist).as_bytes())?;
+    Ok(())
+}

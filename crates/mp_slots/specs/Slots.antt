@@ -1,0 +1,102 @@
+-- What is seen of slots, and the stores that they stand for.
+use Rattle.std.specs.Prelude.{◌≡◌, ◌≢◌, ℕ, ◌+◌, ◌≤◌, List, [], ◌∷◌, All, length, map, sum_by, slice_index_or, Vec}
+use Rattle.std.specs.List.{AllZip}
+use Rattle.std.specs.declared.alloc.Global.{Global}
+use Rattle.mp_defs.specs.Limits.{max_samples}
+use Rattle.mp_nums.specs.declared.samples.Sample.{Sample}
+use Rattle.mp_defs.specs.Series.{Series, series_of}
+use Rattle.mp_series.specs.Samples.{Counted}
+use Rattle.mp_replies.specs.Limits.{max_channels, slot_count}
+use Rattle.mp_replies.specs.State.{Store, Closed, Open}
+use Rattle.mp_replies.specs.declared.refs.Ref.{Ref}
+
+-- the channels of a slot, none where it is closed
+abbrev pub Held : Type 0
+Held = List Counted
+
+-- what stands for a channel that isn't there
+abbrev pub nothing : Counted
+nothing = record { items = []; reads = 0; spare = 0 }
+
+-- ---- channels
+
+abbrev pub items_in : Held → List (List Sample)
+items_in channels = map (λ channel. channel.items) channels
+
+abbrev pub series_in : Held → List Series
+series_in channels = map (λ channel. series_of channel.items) channels
+
+-- how many samples the first of some lists has
+abbrev pub count_of : List (List Sample) → ℕ
+count_of [] = 0
+count_of (samples ∷ lists) = length samples
+
+-- how many samples the first channel has
+abbrev pub count_in : Held → ℕ
+count_in channels = count_of (items_in channels)
+
+-- how often samples were read, of all together
+abbrev pub reads_in : Held → ℕ
+reads_in channels = sum_by (λ channel. channel.reads) channels
+
+-- at most so many, and each has as many samples as the first
+pub record AreAlike (lists : List (List Sample)) : Type 0 where
+  pub few : length lists ≤ max_channels
+  pub same : All (λ samples. length samples ≡ count_of lists) lists
+
+abbrev pub AreChannels : Held → Type 0
+AreChannels channels = AreAlike (items_in channels)
+
+-- ---- slots
+
+abbrev pub slot_at : List Held → ℕ → Held
+slot_at slots slot = slice_index_or slots slot []
+
+-- a channel, with nothing in it where there is none
+abbrev pub channel_at : List Held → Ref → Counted
+channel_at slots at = slice_index_or (slot_at slots at.slot) at.channel nothing
+
+abbrev pub store_of : Held → Store
+store_of [] = Closed
+store_of (channel ∷ channels) = Open (series_in (channel ∷ channels))
+
+abbrev pub stores_of : List Held → List Store
+stores_of slots = map store_of slots
+
+pub record AreSlots (slots : List Held) : Type 0 where
+  pub count : length slots ≡ slot_count
+  pub each : All AreChannels slots
+
+-- ---- changes
+
+abbrev pub lists_in : List (Vec Sample Global) → List (List Sample)
+lists_in added = map (λ samples. samples.items) added
+
+-- a channel without its room
+abbrev pub without_room : Counted → Counted
+without_room channel = record channel { spare = 0 }
+
+-- nothing but room was changed
+abbrev pub RoomWasMade : Held → Held → Type 0
+RoomWasMade old new = map without_room new ≡ map without_room old
+
+-- there is room for these samples
+pub record HasRoomFor (channel : Counted) (samples : List Sample) : Type 0 where
+  pub room : length samples ≤ channel.spare
+  pub fits : length channel.items + length samples ≤ max_samples
+
+-- there are samples for each channel, and room for them
+abbrev pub HaveRoom : Held → List (List Sample) → Type 0
+HaveRoom channels added = AllZip HasRoomFor channels added
+
+-- each of these lists has as many samples
+pub record AreEven (added : List (List Sample)) : Type 0 where
+  pub count : ℕ
+  pub each : All (λ samples. length samples ≡ count) added
+
+-- samples of a slot's channels were read, and nothing else was changed
+pub record WasRead (old new : List Held) (slot most : ℕ) : Type 0 where
+  pub stores_are : stores_of new ≡ stores_of old
+  pub rise : reads_in (slot_at old slot) ≤ reads_in (slot_at new slot)
+  pub most_reads : reads_in (slot_at new slot) ≤ reads_in (slot_at old slot) + most
+  pub others : (other : ℕ) → other ≢ slot → slot_at new other ≡ slot_at old other
