@@ -14,7 +14,8 @@ later_pieces : List ℕ → List (List ℕ)
 later_pieces [] = []
 later_pieces (b ∷ bs) = pieces bs
 
-pieces-field : (text : List ℕ) (n : ℕ) → n ≤ length text → ((k : ℕ) → k < n → is_blank (slice_index text k) ≡ false) → (n < length text → is_blank (slice_index text n) ≡ true)
+pieces-field : (text : List ℕ) (n : ℕ) → n ≤ length text → ((k : ℕ) → k < n → is_blank (slice_index text k) ≡ false)
+    → (n < length text → is_blank (slice_index text n) ≡ true)
     → pieces text ≡ take n text ∷ later_pieces (drop n text)
 unfolding later_pieces
 pieces-field [] zero h before end = refl
@@ -30,7 +31,8 @@ nonempty_take text zero p h = absurd (omega arith)
 nonempty_take [] (suc n) p h = absurd (omega arith)
 nonempty_take (b ∷ bs) (suc n) p h = refl
 
-kept_field : (field : List ℕ) (others : List (List ℕ)) → is_empty field ≡ false → filter (λ piece. not (is_empty piece)) (field ∷ others) ≡ field ∷ filter (λ piece. not (is_empty piece)) others
+kept_field : (field : List ℕ) (others : List (List ℕ)) → is_empty field ≡ false
+    → filter (λ piece. not (is_empty piece)) (field ∷ others) ≡ field ∷ filter (λ piece. not (is_empty piece)) others
 kept_field field others h = rw h refl
 
 begins : (text : List ℕ) (n : ℕ) → is_blank (slice_index text n) ≡ true → is_blank (slice_index (drop n text) 0) ≡ true
@@ -40,10 +42,14 @@ begins text n h =
     subst (λ b. is_blank b ≡ true) (sym e) h
 
 -- the fields of a text that begins with one
-pub fields-field : (text : List ℕ) (n : ℕ) → 0 < n → n ≤ length text → ((k : ℕ) → k < n → is_blank (slice_index text k) ≡ false) → (n < length text → is_blank (slice_index text n) ≡ true)
+pub fields-field : (text : List ℕ) (n : ℕ) → 0 < n → n ≤ length text
+    → ((k : ℕ) → k < n → is_blank (slice_index text k) ≡ false)
+    → (n < length text → is_blank (slice_index text n) ≡ true)
     → fields_in text ≡ take n text ∷ fields_in (drop n text)
 unfolding later_pieces
 fields-field text n p h before end =
     let whole = pieces-field text n h before end in
-    let rest = pieces-field (drop n text) 0 (omega arith) (λ k lt. absurd (omega (arith, lt))) (λ lt. begins text n (end (omega (arith, lt, length-drop n text)))) in
+    let rest =
+    pieces-field (drop n text) 0 (omega arith) (λ k lt. absurd (omega (arith, lt)))
+    (λ lt. begins text n (end (omega (arith, lt, length-drop n text)))) in
     rw (whole, rest) (kept_field (take n text) (later_pieces (drop n text)) (nonempty_take text n p h))

@@ -13,13 +13,19 @@ use Rattle.mp_bytes.proofs.FieldLemmas.{fields-blank, fields-field}
 NoBlank : List ℕ → Type 0
 NoBlank piece = All (λ b. is_blank b ≡ false) piece
 
-onto_first_without : (b : ℕ) (found : List (List ℕ)) → is_blank b ≡ false → All NoBlank found → All NoBlank (onto_first b found)
+onto_first_without : (b : ℕ) (found : List (List ℕ)) → is_blank b ≡ false → All NoBlank found
+    → All NoBlank (onto_first b found)
 unfolding NoBlank
-onto_first_without b [] shown all = All-cons NoBlank (b ∷ []) [] (All-cons (λ c. is_blank c ≡ false) b [] shown (All-nil (λ c. is_blank c ≡ false))) (All-nil NoBlank)
+onto_first_without b [] shown all =
+    All-cons NoBlank (b ∷ []) [] (All-cons (λ c. is_blank c ≡ false) b [] shown (All-nil (λ c. is_blank c ≡ false)))
+    (All-nil NoBlank)
 onto_first_without b (piece ∷ found) shown all =
-    All-cons NoBlank (b ∷ piece) found (All-cons (λ c. is_blank c ≡ false) b piece shown (All-head NoBlank piece found all)) (All-tail NoBlank piece found all)
+    All-cons NoBlank (b ∷ piece) found
+    (All-cons (λ c. is_blank c ≡ false) b piece shown (All-head NoBlank piece found all))
+    (All-tail NoBlank piece found all)
 
-pieces_by : (b : ℕ) (bs : List ℕ) (blank : Bool) → is_blank b ≡ blank → All NoBlank (pieces bs) → All NoBlank (pieces (b ∷ bs))
+pieces_by : (b : ℕ) (bs : List ℕ) (blank : Bool) → is_blank b ≡ blank → All NoBlank (pieces bs)
+    → All NoBlank (pieces (b ∷ bs))
 unfolding NoBlank
 pieces_by b bs true is all = rw is (All-cons NoBlank [] (pieces bs) (All-nil (λ c. is_blank c ≡ false)) all)
 pieces_by b bs false is all = rw is (onto_first_without b (pieces bs) is all)
@@ -40,7 +46,8 @@ filter_by piece found false is shown all =
 filtered : (found : List (List ℕ)) → All NoBlank found → All IsField (filter (λ p. not (is_empty p)) found)
 filtered [] all = All-nil IsField
 filtered (piece ∷ found) all =
-    filter_by piece found (is_empty piece) refl (All-head NoBlank piece found all) (filtered found (All-tail NoBlank piece found all))
+    filter_by piece found (is_empty piece) refl (All-head NoBlank piece found all)
+    (filtered found (All-tail NoBlank piece found all))
 
 pub fields_without : (text : List ℕ) → All IsField (fields_in text)
 fields_without text = filtered (pieces text) (pieces_without text)
@@ -51,15 +58,18 @@ some_length : (field : List ℕ) → is_empty field ≡ false → 0 < length fie
 some_length [] h = absurd (cc h)
 some_length (b ∷ bs) h = omega arith
 
-shown_at : (field behind : List ℕ) → NoBlank field → (k : ℕ) → k < length field → is_blank (slice_index (field ++ behind) k) ≡ false
+shown_at : (field behind : List ℕ) → NoBlank field → (k : ℕ) → k < length field
+    → is_blank (slice_index (field ++ behind) k) ≡ false
 unfolding NoBlank
 shown_at field behind all k lt = rw (get_or-append field behind 0 k lt) (all k 0 lt)
 
-shown_in : (field behind : List ℕ) → IsField field → (k : ℕ) → k < length field → is_blank (slice_index (field ++ behind) k) ≡ false
+shown_in : (field behind : List ℕ) → IsField field → (k : ℕ) → k < length field
+    → is_blank (slice_index (field ++ behind) k) ≡ false
 unfolding NoBlank
 shown_in field behind is k lt = shown_at field behind is.no_blank k lt
 
-begins_behind : (field behind : List ℕ) → is_blank (slice_index behind 0) ≡ true → is_blank (slice_index (field ++ behind) (length field)) ≡ true
+begins_behind : (field behind : List ℕ) → is_blank (slice_index behind 0) ≡ true
+    → is_blank (slice_index (field ++ behind) (length field)) ≡ true
 begins_behind field behind blank =
     let start : length field - length field ≡ 0 = omega arith in
     rw (get_or-append_right field behind (length field) 0 (omega arith), start) blank
@@ -68,7 +78,8 @@ begins_behind field behind blank =
 first_field : (field behind : List ℕ) → IsField field → (0 < length behind → is_blank (slice_index behind 0) ≡ true)
     → fields_in (field ++ behind) ≡ field ∷ fields_in behind
 first_field field behind is blank =
-    fields-field (field ++ behind) (length field) (some_length field is.some) (omega (arith, length-append field behind))
+    fields-field (field ++ behind) (length field) (some_length field is.some)
+    (omega (arith, length-append field behind))
     (shown_in field behind is)
     (λ more. begins_behind field behind (blank (omega (arith, length-append field behind, more))))
     ∙ rw (take-append_seam field behind, drop-append_seam field behind) refl
@@ -76,7 +87,10 @@ first_field field behind is blank =
 pub joined_again : (found : List (List ℕ)) → All IsField found → fields_in (joined found) ≡ found
 joined_again [] all = refl
 joined_again (field ∷ []) all =
-    subst (λ text. fields_in text ≡ field ∷ []) (append-nil field) (first_field field [] (All-head IsField field [] all) (λ some. absurd (omega (arith, some))))
+    subst (λ text. fields_in text ≡ field ∷ []) (append-nil field)
+    (first_field field [] (All-head IsField field [] all) (λ some. absurd (omega (arith, some))))
 joined_again (field ∷ next ∷ others) all =
     first_field field (space ∷ joined (next ∷ others)) (All-head IsField field (next ∷ others) all) (λ _. refl)
-    ∙ ap (λ found. field ∷ found) (fields-blank space (joined (next ∷ others)) refl ∙ joined_again (next ∷ others) (All-tail IsField field (next ∷ others) all))
+    ∙ ap (λ found. field ∷ found)
+    (fields-blank space (joined (next ∷ others)) refl
+    ∙ joined_again (next ∷ others) (All-tail IsField field (next ∷ others) all))

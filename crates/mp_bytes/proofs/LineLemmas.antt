@@ -33,7 +33,8 @@ more_byte b bs rest (line ∷ ended) other test is whole lines_are without rest_
   whole = rw (test, is) (ap (λ t. b ∷ t) whole);
   lines_are = rw (test, is, lines_are) refl;
   ended_without = rw (test, is) (All-cons HasNoLf (b ∷ line) ended
-      (All-cons (λ c. c ≢ line_feed) b line other (All-head HasNoLf line ended without)) (All-tail HasNoLf line ended without));
+      (All-cons (λ c. c ≢ line_feed) b line other (All-head HasNoLf line ended without))
+      (All-tail HasNoLf line ended without));
   rest_without = rest_without;
 }
 
@@ -51,7 +52,8 @@ by_byte : (b : ℕ) (bs : List ℕ) (test : Bool) → (b == line_feed) ≡ test 
 unfolding last_line
 by_byte b bs true is of = more_end b bs (grind (arith, nat_tests, is)) is of
 by_byte b bs false is of =
-    more_byte b bs of.rest (ended_lines bs) (grind (arith, nat_tests, is)) is refl of.whole of.lines_are of.ended_without of.rest_without
+    more_byte b bs of.rest (ended_lines bs) (grind (arith, nat_tests, is)) is refl of.whole of.lines_are
+    of.ended_without of.rest_without
 
 pub are_lines : (bytes : List ℕ) → AreLinesOf bytes
 are_lines [] = record {

@@ -26,5 +26,6 @@ value_of-take digits i =
 pub none_above : (digits most : ℕ) (text : List ℕ) (i value : ℕ) → i < length text → value ≡ value_of (take i text)
     → most < 2 ^ 128 → 2 ^ 128 ≤ 10 * value + (slice_index text i - 48) → number_of digits most text ≡ None
 none_above digits most text i value lt is small over =
-    let past : most < value_of text = omega (arith, value_more text i value lt is, value_of-take text (i + 1), small, over) in
+    let past : most < value_of text =
+    omega (arith, value_more text i value lt is, value_of-take text (i + 1), small, over) in
     grind (arith, nat_tests, past)

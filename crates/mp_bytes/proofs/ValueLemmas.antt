@@ -36,7 +36,8 @@ split_none (b ∷ text) h = none_at b text (is_comma b) refl h (split_none text)
 none_by : (text : List ℕ) (some : Bool) → nat_lt (position_or_len is_comma text) (length text) ≡ some
     → None ≡ (if some then Some (position_or_len is_comma text) else None) → values_in text ≡ text ∷ []
 none_by text true test h = absurd (cc h)
-none_by text false test h = split_none text (grind (arith, nat_tests, prefix_len-le-length (λ b. not (is_comma b)) text))
+none_by text false test h =
+    split_none text (grind (arith, nat_tests, prefix_len-le-length (λ b. not (is_comma b)) text))
 
 -- no comma, and the text is the one value
 pub value_last : (text : List ℕ) → None ≡ position is_comma text → values_in text ≡ text ∷ []

@@ -27,7 +27,8 @@ some_onto : (n : ℕ) (others : Option (List ℕ)) → is_some (onto_some (Some 
 some_onto n None = refl
 some_onto n (Some ns) = refl
 
-pub gone_over_more : (all : List (List ℕ)) (text : List ℕ) (left : List (List ℕ)) (count n : ℕ) → column text ≡ Some n → count < 8
+pub gone_over_more : (all : List (List ℕ)) (text : List ℕ) (left : List (List ℕ)) (count n : ℕ) → column text ≡ Some n
+    → count < 8
     → AreGoneOver all (text ∷ left) count → AreGoneOver all left (count + 1)
 gone_over_more all text left count n good few gone = record {
   same = gone.same ∙ (ap (λ (o : Option ℕ). is_some (onto_some o (read left))) good ∙ some_onto n (read left));
@@ -39,13 +40,15 @@ none_by : (few : Bool) (found : Option (List ℕ)) → is_some found ≡ false �
 none_by true found h = sym h
 none_by false found h = refl
 
-pub bad_column : (field text : List ℕ) (left : List (List ℕ)) (count : ℕ) → column text ≡ None → AreGoneOver (values_in field) (text ∷ left) count
+pub bad_column : (field text : List ℕ) (left : List (List ℕ)) (count : ℕ) → column text ≡ None
+    → AreGoneOver (values_in field) (text ∷ left) count
     → false ≡ is_some (columns field)
 bad_column field text left count bad gone =
     none_by (nat_le (length (values_in field)) max_channels) (read (values_in field))
     (gone.same ∙ ap (λ (o : Option ℕ). is_some (onto_some o (read left))) bad)
 
-pub too_many : (field text : List ℕ) (left : List (List ℕ)) (count : ℕ) → count ≡ 8 → AreGoneOver (values_in field) (text ∷ left) count
+pub too_many : (field text : List ℕ) (left : List (List ℕ)) (count : ℕ) → count ≡ 8
+    → AreGoneOver (values_in field) (text ∷ left) count
     → false ≡ is_some (columns field)
 too_many field text left count full gone =
     let many : nat_le (length (values_in field)) max_channels ≡ false = grind (arith, nat_tests, gone.counted) in
@@ -53,7 +56,8 @@ too_many field text left count full gone =
 
 pub all_columns : (field : List ℕ) (count : ℕ) → AreGoneOver (values_in field) [] count → true ≡ is_some (columns field)
 all_columns field count gone =
-    let few : nat_le (length (values_in field)) max_channels ≡ true = grind (arith, nat_tests, gone.counted, gone.few) in
+    let few : nat_le (length (values_in field)) max_channels ≡ true =
+    grind (arith, nat_tests, gone.counted, gone.few) in
     rw few (sym gone.same)
 
 -- ---- the columns
@@ -66,7 +70,8 @@ pub front_none : (found : Option (List ℕ)) → found ≡ in_front [] found
 front_none None = refl
 front_none (Some ns) = refl
 
-front_onto : (first : List ℕ) (n : ℕ) (others : Option (List ℕ)) → in_front first (onto_some (Some n) others) ≡ in_front (first ++ n ∷ []) others
+front_onto : (first : List ℕ) (n : ℕ) (others : Option (List ℕ))
+    → in_front first (onto_some (Some n) others) ≡ in_front (first ++ n ∷ []) others
 front_onto first n None = refl
 front_onto first n (Some ns) = ap Some (sym (append_assoc first (n ∷ []) ns))
 
@@ -75,7 +80,8 @@ pub front_more : (found : Option (List ℕ)) (first text : List ℕ) (left : Lis
 front_more found first text left n good h =
     h ∙ (ap (λ (o : Option ℕ). in_front first (onto_some o (read left))) good ∙ front_onto first n (read left))
 
-head_by : (first : List ℕ) (o : Option ℕ) (others : Option (List ℕ)) → is_some (in_front first (onto_some o others)) ≡ true → is_some o ≡ true
+head_by : (first : List ℕ) (o : Option ℕ) (others : Option (List ℕ))
+    → is_some (in_front first (onto_some o others)) ≡ true → is_some o ≡ true
 head_by first None others h = cc
 head_by first (Some n) others h = refl
 
@@ -99,12 +105,15 @@ some_of (Some n) h = (n, refl)
 
 -- ---- how many there are
 
-few_by : (few : Bool) (count : ℕ) (found : Option (List ℕ)) → nat_le count 8 ≡ few → is_some (by_count few found) ≡ true → count ≤ 8
+few_by : (few : Bool) (count : ℕ) (found : Option (List ℕ)) → nat_le count 8 ≡ few → is_some (by_count few found) ≡ true
+    → count ≤ 8
 few_by true count found h some = grind (arith, nat_tests, h)
 few_by false count found h some = absurd (cc some)
 
 few_values : (field : List ℕ) → is_some (columns field) ≡ true → length (values_in field) ≤ 8
-few_values field some = few_by (nat_le (length (values_in field)) max_channels) (length (values_in field)) (read (values_in field)) refl some
+few_values field some =
+    few_by (nat_le (length (values_in field)) max_channels) (length (values_in field))
+    (read (values_in field)) refl some
 
 length_onto : (o : Option ℕ) (others : Option (List ℕ)) (k : ℕ) → is_some (onto_some o others) ≡ true
     → (is_some others ≡ true → length (unwrap_or others []) ≡ k) → length (unwrap_or (onto_some o others) []) ≡ k + 1
@@ -112,14 +121,16 @@ length_onto None others k h is = absurd (cc h)
 length_onto (Some n) None k h is = absurd (cc h)
 length_onto (Some n) (Some ns) k h is = omega (arith, is refl)
 
-read_length : (values : List (List ℕ)) → is_some (read values) ≡ true → length (unwrap_or (read values) []) ≡ length values
+read_length : (values : List (List ℕ)) → is_some (read values) ≡ true
+    → length (unwrap_or (read values) []) ≡ length values
 read_length [] h = refl
 read_length (text ∷ values) h =
     let more : length (unwrap_or (read (text ∷ values)) []) ≡ length values + 1 =
     length_onto (column text) (read values) (length values) h (read_length values) in
     omega (arith, more)
 
-column_total : (field : List ℕ) → is_some (columns field) ≡ true → length (unwrap_or (columns field) []) ≡ length (values_in field)
+column_total : (field : List ℕ) → is_some (columns field) ≡ true
+    → length (unwrap_or (columns field) []) ≡ length (values_in field)
 column_total field some =
     let whole = columns_whole field some in
     ap (λ (found : Option (List ℕ)). length (unwrap_or found [])) whole
@@ -132,7 +143,8 @@ pub record AreCounted (all left : List (List ℕ)) (count : ℕ) : Type 0 where
 pub counted_none : (all : List (List ℕ)) → AreCounted all all 0
 counted_none all = record { counted = omega arith }
 
-pub counted_more : (all : List (List ℕ)) (text : List ℕ) (left : List (List ℕ)) (count : ℕ) → AreCounted all (text ∷ left) count
+pub counted_more : (all : List (List ℕ)) (text : List ℕ) (left : List (List ℕ)) (count : ℕ)
+    → AreCounted all (text ∷ left) count
     → AreCounted all left (count + 1)
 counted_more all text left count h = record { counted = omega (arith, h.counted) }
 

@@ -29,7 +29,8 @@ record AreJoined (one : Result Row ℕ) (others : Result (List Row) ℕ) (rows :
   rest_are : others ≡ Ok rest
   whole : rows ≡ first ∷ rest
 
-joined_by : (one : Result Row ℕ) (others : Result (List Row) ℕ) (rows : List Row) → onto one others ≡ Ok rows → AreJoined one others rows
+joined_by : (one : Result Row ℕ) (others : Result (List Row) ℕ) (rows : List Row) → onto one others ≡ Ok rows
+    → AreJoined one others rows
 joined_by (Err bad) others rows h = absurd (cc h)
 joined_by (Ok row) (Err bad) rows h = absurd (cc h)
 joined_by (Ok row) (Ok more) rows h =
@@ -37,16 +38,21 @@ joined_by (Ok row) (Ok more) rows h =
     record { first = row; rest = more; first_is = refl; rest_are = refl; whole = sym same }
 
 -- where all are good their numbers don't matter
-any_number : (scale n a b : ℕ) (items : List (List ℕ)) (rows : List Row) → items_of scale n a items ≡ Ok rows → items_of scale n b items ≡ Ok rows
+any_number : (scale n a b : ℕ) (items : List (List ℕ)) (rows : List Row) → items_of scale n a items ≡ Ok rows
+    → items_of scale n b items ≡ Ok rows
 any_number scale n a b [] rows h = h
 any_number scale n a b (item ∷ items) rows h =
     let joined = joined_by (item_of scale n a item) (items_of scale n (a + 1) items) rows h in
-    rw (item_good scale n a b item joined.first joined.first_is, any_number scale n (a + 1) (b + 1) items joined.rest joined.rest_are)
+    rw (
+      item_good scale n a b item joined.first joined.first_is,
+      any_number scale n (a + 1) (b + 1) items joined.rest joined.rest_are,
+    )
     (ap Ok (sym joined.whole))
 
 -- and more may come behind
 items_of-append : (scale n at : ℕ) (items more : List (List ℕ)) (rows others : List Row)
-    → items_of scale n at items ≡ Ok rows → items_of scale n 1 more ≡ Ok others → items_of scale n at (items ++ more) ≡ Ok (rows ++ others)
+    → items_of scale n at items ≡ Ok rows → items_of scale n 1 more ≡ Ok others
+    → items_of scale n at (items ++ more) ≡ Ok (rows ++ others)
 items_of-append scale n at [] more rows others one two =
     let none : [] ≡ rows = cc in
     any_number scale n 1 at more others two ∙ ap (λ (s : List Row). Ok (s ++ others)) none
@@ -55,7 +61,8 @@ items_of-append scale n at (item ∷ items) more rows others one two =
     rw (joined.first_is, items_of-append scale n (at + 1) items more joined.rest others joined.rest_are two)
     (ap (λ (s : List Row). Ok (s ++ others)) (sym joined.whole))
 
-length-items : (scale n at : ℕ) (items : List (List ℕ)) (rows : List Row) → items_of scale n at items ≡ Ok rows → length rows ≡ length items
+length-items : (scale n at : ℕ) (items : List (List ℕ)) (rows : List Row) → items_of scale n at items ≡ Ok rows
+    → length rows ≡ length items
 length-items scale n at [] rows h = let none : [] ≡ rows = cc in ap length (sym none)
 length-items scale n at (item ∷ items) rows h =
     let joined = joined_by (item_of scale n at item) (items_of scale n (at + 1) items) rows h in
@@ -82,7 +89,9 @@ record Passed (state : State) (slot : ℕ) (items : List (List ℕ)) : Type 0 wh
 passed_by : (state : State) (slot : ℕ) (items : List (List ℕ)) (closed over : Bool) (read : Result (List Row) ℕ)
     → read_items state.scale (length (channels_at state.stores slot)) items ≡ read
     → nat_lt max_samples (samples_in (channels_at state.stores slot) + length items) ≡ over
-    → first_of (when closed Slot ∷ when (not (is_none (bad_in read))) (Sample (unwrap_or (bad_in read) 0)) ∷ when over Full ∷ []) ≡ None
+    → first_of (when closed Slot ∷ when (not (is_none (bad_in read))) (Sample (unwrap_or (bad_in read) 0))
+    ∷ when over Full ∷ [])
+    ≡ None
     → Passed state slot items
 passed_by state slot items true over read is test h = absurd (cc h)
 passed_by state slot items false over (Err bad) is test h = absurd (cc h)
@@ -90,12 +99,15 @@ passed_by state slot items false true (Ok rows) is test h = absurd (cc h)
 passed_by state slot items false false (Ok rows) is test h =
     record { rows = rows; rows_are = is; room = grind (arith, nat_tests) }
 
-passed : (state : State) (slot : ℕ) (items : List (List ℕ)) → first_of (append_conditions state.scale state.stores slot items) ≡ None → Passed state slot items
+passed : (state : State) (slot : ℕ) (items : List (List ℕ))
+    → first_of (append_conditions state.scale state.stores slot items) ≡ None → Passed state slot items
 passed state slot items h =
-    passed_by state slot items (is_closed (store_at state.stores slot)) (nat_lt max_samples (samples_in (channels_at state.stores slot) + length items))
+    passed_by state slot items (is_closed (store_at state.stores slot))
+    (nat_lt max_samples (samples_in (channels_at state.stores slot) + length items))
     (read_items state.scale (length (channels_at state.stores slot)) items) refl refl h
 
-unrefused : (o : Option Cause) (change : Change) (items : List (List ℕ)) (slot : ℕ) → cause_in (verdict_by (Append slot items) o change) ≡ None → o ≡ None
+unrefused : (o : Option Cause) (change : Change) (items : List (List ℕ)) (slot : ℕ)
+    → cause_in (verdict_by (Append slot items) o change) ≡ None → o ≡ None
 unrefused None change items slot h = refl
 unrefused (Some why) change items slot h = absurd (cc h)
 
@@ -103,10 +115,14 @@ unrefused (Some why) change items slot h = absurd (cc h)
 changed_channels : (stores : List Store) (slot : ℕ) (added : List Series) → 0 < length (channels_at stores slot)
     → channels_at (changed stores (AddSamples slot added)) slot ≡ extended (channels_at stores slot) added
 changed_channels stores slot added some =
-    ap channels_in (store_at-set stores slot (Open (extended (channels_at stores slot) added)) (open_with_channels (store_at stores slot) some))
+    ap channels_in (store_at-set stores slot (Open (extended (channels_at stores slot) added))
+    (open_with_channels (store_at stores slot) some))
 
-appended_by : (state : State) (slot : ℕ) (items : List (List ℕ)) (o : Option Cause) (p : Passed state slot items) → HasChannel state slot → o ≡ None
-    → Appended state (after_by state (verdict_by (Append slot items) o (append_change state.scale state.stores slot items))) slot p.rows
+appended_by : (state : State) (slot : ℕ) (items : List (List ℕ)) (o : Option Cause) (p : Passed state slot items)
+    → HasChannel state slot → o ≡ None
+    → Appended state
+    (after_by state (verdict_by (Append slot items) o (append_change state.scale state.stores slot items)))
+    slot p.rows
 appended_by state slot items (Some why) p some is = absurd (cc is)
 appended_by state slot items None p some is =
     let n = length (channels_at state.stores slot) in
@@ -114,15 +130,18 @@ appended_by state slot items None p some is =
     let long = length-items state.scale n 1 items p.rows p.rows_are in
     record {
       room = omega (arith, p.room, long);
-      channels = changed_channels state.stores slot added some
-          ∙ (ap (λ (r : Result (List Row) ℕ). extended (channels_at state.stores slot) (columns_of n (rows_in r))) p.rows_are
+      channels =
+          changed_channels state.stores slot added some
+          ∙ (ap (λ (r : Result (List Row) ℕ). extended (channels_at state.stores slot) (columns_of n (rows_in r)))
+          p.rows_are
           ∙ sym (with_rows-is (channels_at state.stores slot) p.rows));
       scale_is = refl;
     }
 
 one_of : (state : State) (files : Files) (slot : ℕ) (items : List (List ℕ)) → HasChannel state slot
     → cause_in (verdict_of state files (Asks (Append slot items))) ≡ None
-    → (p : Passed state slot items) × Appended state (after_by state (verdict_of state files (Asks (Append slot items)))) slot p.rows
+    → (p : Passed state slot items)
+    × Appended state (after_by state (verdict_of state files (Asks (Append slot items)))) slot p.rows
 one_of state files slot items some none =
     let o = first_of (append_conditions state.scale state.stores slot items) in
     let accepted = unrefused o (append_change state.scale state.stores slot items) items slot none in
@@ -147,7 +166,8 @@ not_some (Some why) h = absurd (cc h)
 all_items : List (List (List ℕ)) → List (List ℕ)
 all_items groups = flat_map (λ items. items) groups
 
-still_has : (state later : State) (slot : ℕ) (rows : List Row) → HasChannel state slot → Appended state later slot rows → HasChannel later slot
+still_has : (state later : State) (slot : ℕ) (rows : List Row) → HasChannel state slot → Appended state later slot rows
+    → HasChannel later slot
 still_has state later slot rows some a =
     let same : length (channels_at later.stores slot) ≡ length (channels_at state.stores slot) =
     ap length a.channels ∙ length-with_rows (channels_at state.stores slot) rows in
@@ -164,9 +184,11 @@ both : (state middle later : State) (slot : ℕ) (items more : List (List ℕ)) 
 both state middle later slot items more some p one two =
     let channels = channels_at state.stores slot in
     let n = length channels in
-    let same : length (channels_at middle.stores slot) ≡ n = ap length one.channels ∙ length-with_rows channels p.rows in
+    let same : length (channels_at middle.stores slot) ≡ n =
+    ap length one.channels ∙ length-with_rows channels p.rows in
     let others : read_items state.scale n more ≡ Ok two.rows =
-    ap (λ (s : ℕ). read_items s n more) (sym one.scale_is) ∙ (ap (λ (c : ℕ). read_items middle.scale c more) (sym same) ∙ two.rows_are) in
+    ap (λ (s : ℕ). read_items s n more) (sym one.scale_is)
+    ∙ (ap (λ (c : ℕ). read_items middle.scale c more) (sym same) ∙ two.rows_are) in
     let held : samples_in (channels_at middle.stores slot) ≡ samples_in channels + length p.rows =
     ap samples_in one.channels ∙ samples_in-with_rows channels p.rows some in
     record {
@@ -174,13 +196,16 @@ both state middle later slot items more some p one two =
       rows_are = items_of-append state.scale n 1 items more p.rows two.rows p.rows_are others;
       appended = record {
         room = omega (arith, two.appended.room, held, length-append p.rows two.rows);
-        channels = two.appended.channels
-            ∙ (ap (λ (cs : List Series). with_rows cs two.rows) one.channels ∙ with_rows-append channels p.rows two.rows);
+        channels =
+            two.appended.channels
+            ∙ (ap (λ (cs : List Series). with_rows cs two.rows) one.channels
+            ∙ with_rows-append channels p.rows two.rows);
         scale_is = two.appended.scale_is ∙ one.scale_is;
       };
     }
 
-several : (state : State) (files : Files) (slot : ℕ) (first : List ℕ) (lines : List (List ℕ)) (groups : List (List (List ℕ))) → HasChannel state slot
+several : (state : State) (files : Files) (slot : ℕ) (first : List ℕ) (lines : List (List ℕ))
+    (groups : List (List (List ℕ))) → HasChannel state slot
     → AppendEach slot (first ∷ lines) groups → some_refused state files (first ∷ lines) ≡ false
     → AllAppended state (state_after state files (first ∷ lines)) slot (all_items groups)
 unfolding all_items
@@ -190,7 +215,8 @@ several state files slot first [] (items ∷ []) some each good =
     let one = one_line state files first slot items some each.0 (not_some (cause state first files) parts.0) in
     record {
       rows = one.0.rows;
-      rows_are = ap (read_items state.scale (length (channels_at state.stores slot))) (append-nil items) ∙ one.0.rows_are;
+      rows_are =
+          ap (read_items state.scale (length (channels_at state.stores slot))) (append-nil items) ∙ one.0.rows_are;
       appended = one.1;
     }
 several state files slot first [] (items ∷ next ∷ groups) some each good = absurd each.1
@@ -198,7 +224,8 @@ several state files slot first (line ∷ lines) (items ∷ groups) some each goo
     let later = after state first files in
     let parts = or_parts (is_some (cause state first files)) (some_refused later files (line ∷ lines)) good in
     let one = one_line state files first slot items some each.0 (not_some (cause state first files) parts.0) in
-    let rest = several later files slot line lines groups (still_has state later slot one.0.rows some one.1) each.1 parts.1 in
+    let rest =
+    several later files slot line lines groups (still_has state later slot one.0.rows some one.1) each.1 parts.1 in
     both state later (state_after later files (line ∷ lines)) slot items (all_items groups) some one.0 one.1 rest
 
 -- ---- one append of all items
@@ -208,7 +235,8 @@ none_holds : (state : State) (slot : ℕ) (items : List (List ℕ)) (rows : List
     → samples_in (channels_at state.stores slot) + length items ≤ max_samples
     → first_of (append_conditions state.scale state.stores slot items) ≡ None
 none_holds state slot items rows some spelled room =
-    let few : nat_lt max_samples (samples_in (channels_at state.stores slot) + length items) ≡ false = grind (arith, nat_tests) in
+    let few : nat_lt max_samples (samples_in (channels_at state.stores slot) + length items) ≡ false =
+    grind (arith, nat_tests) in
     rw (open_with_channels (store_at state.stores slot) some, spelled, few) refl
 
 whole_of : (state : State) (files : Files) (slot : ℕ) (items : List (List ℕ)) (rows : List Row) → HasChannel state slot
@@ -217,12 +245,15 @@ whole_of : (state : State) (files : Files) (slot : ℕ) (items : List (List ℕ)
     → cause_in (verdict_of state files (Asks (Append slot items))) ≡ None
 whole_of state files slot items rows some spelled room = rw (none_holds state slot items rows some spelled room) refl
 
-whole_line : (state : State) (files : Files) (whole : List ℕ) (slot : ℕ) (items : List (List ℕ)) (rows : List Row) → HasChannel state slot
-    → asked_of whole ≡ Asks (Append slot items) → read_items state.scale (length (channels_at state.stores slot)) items ≡ Ok rows
+whole_line : (state : State) (files : Files) (whole : List ℕ) (slot : ℕ) (items : List (List ℕ)) (rows : List Row)
+    → HasChannel state slot
+    → asked_of whole ≡ Asks (Append slot items)
+    → read_items state.scale (length (channels_at state.stores slot)) items ≡ Ok rows
     → samples_in (channels_at state.stores slot) + length items ≤ max_samples → cause state whole files ≡ None
 unfolding cause verdict
 whole_line state files whole slot items rows some asks spelled room =
-    ap (λ (a : Asked). cause_in (verdict_of state files a)) asks ∙ whole_of state files slot items rows some spelled room
+    ap (λ (a : Asked). cause_in (verdict_of state files a)) asks
+    ∙ whole_of state files slot items rows some spelled room
 
 same_rows : (a b : List Row) (r : Result (List Row) ℕ) → r ≡ Ok a → r ≡ Ok b → a ≡ b
 same_rows a b r one two = cc
@@ -234,7 +265,9 @@ appends state files slot first lines groups whole some each asks good =
     let items = all_items groups in
     let n = length (channels_at state.stores slot) in
     let long = length-items state.scale n 1 items all.rows all.rows_are in
-    let none = whole_line state files whole slot items all.rows some asks all.rows_are (omega (arith, long, all.appended.room)) in
+    let none =
+    whole_line state files whole slot items all.rows some asks all.rows_are
+    (omega (arith, long, all.appended.room)) in
     let one = one_line state files whole slot items some asks none in
     let same = same_rows all.rows one.0.rows (read_items state.scale n items) all.rows_are one.0.rows_are in (
       none,

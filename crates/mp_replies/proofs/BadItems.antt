@@ -14,12 +14,14 @@ row_faulty : (number bad : ℕ) (r : Result Row SampleFault) → row_with number
 row_faulty number bad (Ok row) h = absurd (cc h)
 row_faulty number bad (Err fault) h = let same : number ≡ bad = cc in sym same
 
-item_faulty_by : (number bad : ℕ) (fits : Bool) (r : Result Row SampleFault) → (if fits then row_with number r else Err number) ≡ Err bad → bad ≡ number
+item_faulty_by : (number bad : ℕ) (fits : Bool) (r : Result Row SampleFault)
+    → (if fits then row_with number r else Err number) ≡ Err bad → bad ≡ number
 item_faulty_by number bad true r h = row_faulty number bad r h
 item_faulty_by number bad false r h = let same : number ≡ bad = cc in sym same
 
 -- a bad item is named by its own number
-item_faulty : (scale channels number bad : ℕ) (item : List ℕ) → item_of scale channels number item ≡ Err bad → bad ≡ number
+item_faulty : (scale channels number bad : ℕ) (item : List ℕ) → item_of scale channels number item ≡ Err bad
+    → bad ≡ number
 item_faulty scale channels number bad item h =
     item_faulty_by number bad (length (values_in item) == channels) (samples_of scale (values_in item)) h
 
@@ -27,13 +29,15 @@ row_good : (a b : ℕ) (r : Result Row SampleFault) (row : Row) → row_with a r
 row_good a b (Ok row) other h = h
 row_good a b (Err fault) other h = absurd (cc h)
 
-item_good_by : (a b : ℕ) (fits : Bool) (r : Result Row SampleFault) (row : Row) → (if fits then row_with a r else Err a) ≡ Ok row
+item_good_by : (a b : ℕ) (fits : Bool) (r : Result Row SampleFault) (row : Row)
+    → (if fits then row_with a r else Err a) ≡ Ok row
     → (if fits then row_with b r else Err b) ≡ Ok row
 item_good_by a b true r row h = row_good a b r row h
 item_good_by a b false r row h = absurd (cc h)
 
 -- the number of a good item doesn't matter
-pub item_good : (scale channels a b : ℕ) (item : List ℕ) (row : Row) → item_of scale channels a item ≡ Ok row → item_of scale channels b item ≡ Ok row
+pub item_good : (scale channels a b : ℕ) (item : List ℕ) (row : Row) → item_of scale channels a item ≡ Ok row
+    → item_of scale channels b item ≡ Ok row
 item_good scale channels a b item row h =
     item_good_by a b (length (values_in item) == channels) (samples_of scale (values_in item)) row h
 
@@ -45,7 +49,8 @@ record IsFirstBadFrom (scale channels start : ℕ) (items : List (List ℕ)) (ba
   is_bad : item_of scale channels bad (slice_index_or items (bad - start) []) ≡ Err bad
   good_before : (k : ℕ) → start + k < bad → IsOk (item_of scale channels (start + k) (slice_index_or items k []))
 
-here : (scale channels start : ℕ) (item : List ℕ) (items : List (List ℕ)) → item_of scale channels start item ≡ Err start
+here : (scale channels start : ℕ) (item : List ℕ) (items : List (List ℕ))
+    → item_of scale channels start item ≡ Err start
     → IsFirstBadFrom scale channels start (item ∷ items) start
 here scale channels start item items bad =
     let at : start - start ≡ 0 = omega arith in
@@ -56,7 +61,8 @@ here scale channels start item items bad =
       good_before = λ k lt. absurd (omega (arith, lt));
     }
 
-later_bad : (scale channels start : ℕ) (item : List ℕ) (row : Row) (items : List (List ℕ)) (bad : ℕ) → item_of scale channels start item ≡ Ok row
+later_bad : (scale channels start : ℕ) (item : List ℕ) (row : Row) (items : List (List ℕ)) (bad : ℕ)
+    → item_of scale channels start item ≡ Ok row
     → IsFirstBadFrom scale channels (start + 1) items bad → IsFirstBadFrom scale channels start (item ∷ items) bad
 later_bad scale channels start item row items bad good first =
     let at : bad - start ≡ suc (bad - (start + 1)) = omega (arith, first.some) in
@@ -64,13 +70,17 @@ later_bad scale channels start item row items bad good first =
       some = omega (arith, first.some);
       within = omega (arith, first.within);
       is_bad = rw at first.is_bad;
-      good_before = λ k. elim k as (λ (j : ℕ). start + j < bad → IsOk (item_of scale channels (start + j) (slice_index_or (item ∷ items) j []))) [
-        | zero ↦ λ lt. let e : start + zero ≡ start = omega arith in rw (e, good) refl
-        | suc j ↦ λ lt. let e : start + suc j ≡ start + 1 + j = omega arith in rw e (first.good_before j (omega (arith, lt)))
-      ];
+      good_before = λ k.
+          elim k as (λ (j : ℕ).
+          start + j < bad → IsOk (item_of scale channels (start + j) (slice_index_or (item ∷ items) j []))) [
+            | zero ↦ λ lt. let e : start + zero ≡ start = omega arith in rw (e, good) refl
+            | suc j ↦
+                λ lt. let e : start + suc j ≡ start + 1 + j = omega arith in rw e (first.good_before j (omega (arith, lt)))
+          ];
     }
 
-first_by : (scale channels start : ℕ) (item : List ℕ) (items : List (List ℕ)) (bad : ℕ) (one : Result Row ℕ) (others : Result (List Row) ℕ)
+first_by : (scale channels start : ℕ) (item : List ℕ) (items : List (List ℕ)) (bad : ℕ) (one : Result Row ℕ)
+    (others : Result (List Row) ℕ)
     → item_of scale channels start item ≡ one → items_of scale channels (start + 1) items ≡ others
     → (items_of scale channels (start + 1) items ≡ Err bad → IsFirstBadFrom scale channels (start + 1) items bad)
     → onto one others ≡ Err bad → IsFirstBadFrom scale channels start (item ∷ items) bad
@@ -86,12 +96,13 @@ first_bad : (scale channels start : ℕ) (items : List (List ℕ)) (bad : ℕ) �
     → IsFirstBadFrom scale channels start items bad
 first_bad scale channels start [] bad h = cc
 first_bad scale channels start (item ∷ items) bad h =
-    first_by scale channels start item items bad (item_of scale channels start item) (items_of scale channels (start + 1) items) refl refl
-    (first_bad scale channels (start + 1) items bad) h
+    first_by scale channels start item items bad (item_of scale channels start item)
+    (items_of scale channels (start + 1) items) refl refl (first_bad scale channels (start + 1) items bad) h
 
 -- ---- items that are all good
 
-spelled_by : (scale channels start : ℕ) (item : List ℕ) (items : List (List ℕ)) (rows : List Row) (one : Result Row ℕ) (others : Result (List Row) ℕ)
+spelled_by : (scale channels start : ℕ) (item : List ℕ) (items : List (List ℕ)) (rows : List Row) (one : Result Row ℕ)
+    (others : Result (List Row) ℕ)
     → item_of scale channels start item ≡ one → items_of scale channels (start + 1) items ≡ others
     → ((rest : List Row) → items_of scale channels (start + 1) items ≡ Ok rest → AreSpelled scale channels items rest)
     → onto one others ≡ Ok rows → AreSpelled scale channels (item ∷ items) rows
@@ -108,14 +119,15 @@ spelled_by scale channels start item items rows (Ok row) (Ok more) is rest later
           ∙ ap (λ (rs : List (Result Row ℕ)). item_of scale channels 0 item ∷ rs) spelled.rows_are);
     }
 
-pub spelled : (scale channels start : ℕ) (items : List (List ℕ)) (rows : List Row) → items_of scale channels start items ≡ Ok rows
+pub spelled : (scale channels start : ℕ) (items : List (List ℕ)) (rows : List Row)
+    → items_of scale channels start items ≡ Ok rows
     → AreSpelled scale channels items rows
 spelled scale channels start [] rows h =
     let none : [] ≡ rows = cc in
     record { all_good = All-nil (λ i. IsOk (item_of scale channels 0 i)); rows_are = ap (map Ok) (sym none) }
 spelled scale channels start (item ∷ items) rows h =
-    spelled_by scale channels start item items rows (item_of scale channels start item) (items_of scale channels (start + 1) items) refl refl
-    (spelled scale channels (start + 1) items) h
+    spelled_by scale channels start item items rows (item_of scale channels start item)
+    (items_of scale channels (start + 1) items) refl refl (spelled scale channels (start + 1) items) h
 
 pub bad_items : BadItemsAreTheFirst
 bad_items = record {

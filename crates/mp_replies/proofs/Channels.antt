@@ -17,19 +17,22 @@ column-append : (rows more : List Row) (k : ℕ) → column_at (rows ++ more) k 
 column-append rows more k = map-append (λ (row : Row). slice_index_or row k None) rows more
 
 extended-columns : (channels : List Series) (rows more : List Row) (ks : List ℕ)
-    → extended (extended channels (map (column_at rows) ks)) (map (column_at more) ks) ≡ extended channels (map (column_at (rows ++ more)) ks)
+    → extended (extended channels (map (column_at rows) ks)) (map (column_at more) ks)
+    ≡ extended channels (map (column_at (rows ++ more)) ks)
 extended-columns [] rows more ks = refl
 extended-columns (channel ∷ channels) rows more [] = refl
 extended-columns (channel ∷ channels) rows more (k ∷ ks) =
     ap (λ (s : Series). s ∷ extended (extended channels (map (column_at rows) ks)) (map (column_at more) ks))
-    (append_assoc channel (column_at rows k) (column_at more k) ∙ ap (λ (s : Series). channel ++ s) (sym (column-append rows more k)))
+    (append_assoc channel (column_at rows k) (column_at more k)
+    ∙ ap (λ (s : Series). channel ++ s) (sym (column-append rows more k)))
     ∙ ap (λ (ss : List Series). (channel ++ column_at (rows ++ more) k) ∷ ss) (extended-columns channels rows more ks)
 
 -- the rows behind the samples of the channels
 pub with_rows : List Series → List Row → List Series
 with_rows channels rows = extended channels (columns_of (length channels) rows)
 
-pub with_rows-is : (channels : List Series) (rows : List Row) → with_rows channels rows ≡ extended channels (columns_of (length channels) rows)
+pub with_rows-is : (channels : List Series) (rows : List Row)
+    → with_rows channels rows ≡ extended channels (columns_of (length channels) rows)
 unfolding with_rows
 with_rows-is channels rows = refl
 
@@ -38,17 +41,21 @@ unfolding with_rows
 length-with_rows channels rows = length-extended channels (columns_of (length channels) rows)
 
 -- some rows and then others
-pub with_rows-append : (channels : List Series) (rows more : List Row) → with_rows (with_rows channels rows) more ≡ with_rows channels (rows ++ more)
+pub with_rows-append : (channels : List Series) (rows more : List Row)
+    → with_rows (with_rows channels rows) more ≡ with_rows channels (rows ++ more)
 unfolding with_rows
 with_rows-append channels rows more =
-    ap (λ (n : ℕ). extended (extended channels (columns_of (length channels) rows)) (columns_of n more)) (length-extended channels (columns_of (length channels) rows))
+    ap (λ (n : ℕ). extended (extended channels (columns_of (length channels) rows)) (columns_of n more))
+    (length-extended channels (columns_of (length channels) rows))
     ∙ extended-columns channels rows more (range_with_len 0 (length channels))
 
-pub samples_in-with_rows : (channels : List Series) (rows : List Row) → 0 < length channels → samples_in (with_rows channels rows) ≡ samples_in channels + length rows
+pub samples_in-with_rows : (channels : List Series) (rows : List Row) → 0 < length channels
+    → samples_in (with_rows channels rows) ≡ samples_in channels + length rows
 unfolding with_rows
 samples_in-with_rows [] rows some = absurd (omega (arith, some))
 samples_in-with_rows (channel ∷ channels) rows some =
-    length-append channel (column_at rows 0) ∙ ap (λ (n : ℕ). length channel + n) (length-map rows (λ (row : Row). slice_index_or row 0 None))
+    length-append channel (column_at rows 0)
+    ∙ ap (λ (n : ℕ). length channel + n) (length-map rows (λ (values : Row). slice_index_or values 0 None))
 
 -- ---- slots
 

@@ -32,12 +32,15 @@ judged : (command : Command) (o : Option Cause) (change : Change) → verdict_by
 judged command None change h = cc
 judged command (Some cause) change h = cc
 
-passes_nothing : (state : State) (files : Files) (asked : Asked) → verdict_of state files asked ≡ Passes → asked ≡ Nothing
+passes_nothing : (state : State) (files : Files) (asked : Asked) → verdict_of state files asked ≡ Passes
+    → asked ≡ Nothing
 passes_nothing state files Nothing h = refl
 passes_nothing state files (Faulty cause) h = cc
-passes_nothing state files (Asks command) h = absurd (judged command (first_of (conditions state files command)) (change_by state files command) h)
+passes_nothing state files (Asks command) h =
+    absurd (judged command (first_of (conditions state files command)) (change_by state files command) h)
 
-nothing_is_silent : (later state : State) (files : Files) (asked : Asked) → asked ≡ Nothing → answer_by later (verdict_of state files asked) ≡ Silent
+nothing_is_silent : (later state : State) (files : Files) (asked : Asked) → asked ≡ Nothing
+    → answer_by later (verdict_of state files asked) ≡ Silent
 nothing_is_silent later state files asked h = rw h refl
 
 -- ---- what asks for nothing, by the fields of a line
@@ -78,7 +81,8 @@ first_piece : (b : ℕ) (all : List (List ℕ)) → are_quiet (inked (onto_first
 first_piece b [] = refl
 first_piece b (piece ∷ rest) = refl
 
-quiet_from : (blank : Bool) (b : ℕ) (bs : List ℕ) → are_quiet (fields_in bs) ≡ (list_all is_blank bs || opens_comment bs)
+quiet_from : (blank : Bool) (b : ℕ) (bs : List ℕ)
+    → are_quiet (fields_in bs) ≡ (list_all is_blank bs || opens_comment bs)
     → are_quiet (inked (if blank then [] ∷ pieces bs else onto_first b (pieces bs)))
     ≡ ((blank && list_all is_blank bs) || (if blank then opens_comment bs else b == number_sign))
 quiet_from true b bs later = later
@@ -89,7 +93,8 @@ quiet_text [] = refl
 quiet_text (b ∷ bs) = quiet_from (is_blank b) b bs (quiet_text bs)
 
 line_asks_by : (line : List ℕ) (long : Bool)
-    → is_nothing (if long then Faulty Long else asked_in (fields line)) ≡ (not long && (is_blank_line line || is_comment line))
+    → is_nothing (if long then Faulty Long else asked_in (fields line))
+    ≡ (not long && (is_blank_line line || is_comment line))
 line_asks_by line true = refl
 line_asks_by line false = fields_ask (fields line) ∙ quiet_text (without_cr line)
 
@@ -98,10 +103,12 @@ line_asks : (line : List ℕ)
 unfolding asked_of
 line_asks line = line_asks_by line (nat_lt max_line (length line))
 
-within : (size : ℕ) (read quiet : Bool) → read ≡ (not (nat_lt max_line size) && quiet) → read ≡ true → (size ≤ max_line) × IsTrue quiet
+within : (size : ℕ) (read quiet : Bool) → read ≡ (not (nat_lt max_line size) && quiet) → read ≡ true
+    → (size ≤ max_line) × IsTrue quiet
 within size read quiet e h = grind (arith, nat_tests)
 
-asks_within : (size : ℕ) (read quiet : Bool) → read ≡ (not (nat_lt max_line size) && quiet) → (size ≤ max_line) × IsTrue quiet → read ≡ true
+asks_within : (size : ℕ) (read quiet : Bool) → read ≡ (not (nat_lt max_line size) && quiet)
+    → (size ≤ max_line) × IsTrue quiet → read ≡ true
 asks_within size read quiet e h = grind (arith, nat_tests)
 
 pub quiet_lines : QuietLinesAreSilent
@@ -110,6 +117,9 @@ quiet_lines state line files =
     let asked = asked_of line in
     let later = after state line files in (
       λ silent. within (length line) _ _ (line_asks line)
-          (ap is_nothing (passes_nothing state files asked (silent_passes later (verdict_of state files asked) silent))),
-      λ quiet. nothing_is_silent later state files asked (is_nothing_means asked (asks_within (length line) _ _ (line_asks line) quiet)),
+          (ap is_nothing
+          (passes_nothing state files asked (silent_passes later (verdict_of state files asked) silent))),
+      λ quiet.
+          nothing_is_silent later state files asked
+          (is_nothing_means asked (asks_within (length line) _ _ (line_asks line) quiet)),
     )

@@ -32,14 +32,16 @@ refused state line files why h = (
 )
 
 -- no accepted line is answered as refused
-accepted_answer : (last : Bool) (report : Report) (why : Cause) → (if last then Ended report else Accepted report) ≡ Refused why → None ≡ Some why
+accepted_answer : (last : Bool) (report : Report) (why : Cause)
+    → (if last then Ended report else Accepted report) ≡ Refused why → None ≡ Some why
 accepted_answer true report why h = cc
 accepted_answer false report why h = cc
 
 answer_refused : (later : State) (v : Verdict) (why : Cause) → answer_by later v ≡ Refused why → cause_in v ≡ Some why
 answer_refused later Passes why h = cc
 answer_refused later (IsRefused other) why h = let same : other ≡ why = cc in ap Some same
-answer_refused later (IsAccepted command change) why h = accepted_answer (is_last command) (report_by later command) why h
+answer_refused later (IsAccepted command change) why h =
+    accepted_answer (is_last command) (report_by later command) why h
 
 pub refused_by_cause : AnswersRefuseByCause
 unfolding after answer cause
@@ -63,11 +65,13 @@ ends_of later state files (Asks (Profile at)) h = absurd (cc h)
 ends_of later state files (Asks (Entry at start)) h = absurd (cc h)
 ends_of later state files (Asks End) h = (report_by later End, refl)
 
-goes_on : (later : State) (command : Command) (o : Option Cause) (change : Change) (report : Report) → is_last command ≡ false
+goes_on : (later : State) (command : Command) (o : Option Cause) (change : Change) (report : Report)
+    → is_last command ≡ false
     → answer_by later (verdict_by command o change) ≡ Ended report → ⊥
 goes_on later command (Some why) change report last h = cc
 goes_on later command None change report last h =
-    let is : Accepted (report_by later command) ≡ Ended report = ap (λ b. if b then Ended (report_by later command) else Accepted (report_by later command)) (sym last) ∙ h in
+    let is : Accepted (report_by later command) ≡ Ended report =
+    ap (λ b. if b then Ended (report_by later command) else Accepted (report_by later command)) (sym last) ∙ h in
     cc
 
 answered_end : (later state : State) (files : Files) (asked : Asked) (report : Report)
@@ -75,19 +79,27 @@ answered_end : (later state : State) (files : Files) (asked : Asked) (report : R
 answered_end later state files Nothing report h = absurd (cc h)
 answered_end later state files (Faulty why) report h = absurd (cc h)
 answered_end later state files (Asks (Session version)) report h =
-    absurd (goes_on later (Session version) (first_of (conditions state files (Session version))) (change_by state files (Session version)) report refl h)
+    absurd (goes_on later (Session version) (first_of (conditions state files (Session version)))
+    (change_by state files (Session version)) report refl h)
 answered_end later state files (Asks (OpenSlot slot channels)) report h =
-    absurd (goes_on later (OpenSlot slot channels) (first_of (conditions state files (OpenSlot slot channels))) (change_by state files (OpenSlot slot channels)) report refl h)
+    absurd (goes_on later (OpenSlot slot channels) (first_of (conditions state files (OpenSlot slot channels)))
+    (change_by state files (OpenSlot slot channels)) report refl h)
 answered_end later state files (Asks (Load slot file columns header)) report h =
-    absurd (goes_on later (Load slot file columns header) (first_of (conditions state files (Load slot file columns header))) (change_by state files (Load slot file columns header)) report refl h)
+    absurd (goes_on later (Load slot file columns header)
+    (first_of (conditions state files (Load slot file columns header)))
+    (change_by state files (Load slot file columns header)) report refl h)
 answered_end later state files (Asks (Append slot items)) report h =
-    absurd (goes_on later (Append slot items) (first_of (conditions state files (Append slot items))) (change_by state files (Append slot items)) report refl h)
+    absurd (goes_on later (Append slot items) (first_of (conditions state files (Append slot items)))
+    (change_by state files (Append slot items)) report refl h)
 answered_end later state files (Asks (Window at start)) report h =
-    absurd (goes_on later (Window at start) (first_of (conditions state files (Window at start))) (change_by state files (Window at start)) report refl h)
+    absurd (goes_on later (Window at start) (first_of (conditions state files (Window at start)))
+    (change_by state files (Window at start)) report refl h)
 answered_end later state files (Asks (Profile at)) report h =
-    absurd (goes_on later (Profile at) (first_of (conditions state files (Profile at))) (change_by state files (Profile at)) report refl h)
+    absurd (goes_on later (Profile at) (first_of (conditions state files (Profile at)))
+    (change_by state files (Profile at)) report refl h)
 answered_end later state files (Asks (Entry at start)) report h =
-    absurd (goes_on later (Entry at start) (first_of (conditions state files (Entry at start))) (change_by state files (Entry at start)) report refl h)
+    absurd (goes_on later (Entry at start) (first_of (conditions state files (Entry at start)))
+    (change_by state files (Entry at start)) report refl h)
 answered_end later state files (Asks End) report h = refl
 
 pub ends_answered : EndsAreAnswered
@@ -106,18 +118,23 @@ first_by : (holds : Bool) (word why : Cause) (some others : List Condition)
 first_by true word why some others later h = h
 first_by false word why some others later h = later h
 
-first_refused : (some others : List Condition) (why : Cause) → first_of some ≡ Some why → first_of (some ++ others) ≡ Some why
+first_refused : (some others : List Condition) (why : Cause) → first_of some ≡ Some why
+    → first_of (some ++ others) ≡ Some why
 first_refused [] others why h = cc
 first_refused (c ∷ some) others why h = first_by c.holds c.word why some others (first_refused some others why) h
 
-load_refused : (state : State) (files others : Files) (slot : ℕ) (file : List ℕ) (columns : List ℕ) (header : Bool) (o : Option Cause)
+load_refused : (state : State) (files others : Files) (slot : ℕ) (file : List ℕ) (columns : List ℕ) (header : Bool)
+    (o : Option Cause)
     → first_of (load_conditions state.stores slot columns) ≡ o → is_none o ≡ false
-    → verdict_of state files (Asks (Load slot file columns header)) ≡ verdict_of state others (Asks (Load slot file columns header))
+    → verdict_of state files (Asks (Load slot file columns header))
+    ≡ verdict_of state others (Asks (Load slot file columns header))
 load_refused state files others slot file columns header None is h = absurd (cc h)
 load_refused state files others slot file columns header (Some why) is h =
     rw (
-      first_refused (load_conditions state.stores slot columns) (file_conditions state.scale columns header (file_in files file)) why is,
-      first_refused (load_conditions state.stores slot columns) (file_conditions state.scale columns header (file_in others file)) why is,
+      first_refused (load_conditions state.stores slot columns)
+          (file_conditions state.scale columns header (file_in files file)) why is,
+      first_refused (load_conditions state.stores slot columns)
+          (file_conditions state.scale columns header (file_in others file)) why is,
     ) refl
 
 same_verdict : (state : State) (files others : Files) (asked : Asked) → fetches_by state asked ≡ false
@@ -127,7 +144,8 @@ same_verdict state files others (Faulty why) h = refl
 same_verdict state files others (Asks (Session version)) h = refl
 same_verdict state files others (Asks (OpenSlot slot channels)) h = refl
 same_verdict state files others (Asks (Load slot file columns header)) h =
-    load_refused state files others slot file columns header (first_of (load_conditions state.stores slot columns)) refl h
+    load_refused state files others slot file columns header
+    (first_of (load_conditions state.stores slot columns)) refl h
 same_verdict state files others (Asks (Append slot items)) h = refl
 same_verdict state files others (Asks (Window at start)) h = refl
 same_verdict state files others (Asks (Profile at)) h = refl

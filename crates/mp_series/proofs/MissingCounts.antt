@@ -53,7 +53,11 @@ before_stays xs ys (suc count) le =
 pub with_last : (xs : List Sample) (y : Sample)
     → missing_before (xs ++ y ∷ []) (length xs + 1) ≡ missing_before xs (length xs) + gap_in y
 with_last xs y =
-    rw (one_more (xs ++ y ∷ []) (length xs), before_stays xs (y ∷ []) (length xs) (omega arith), get_or-append_seam xs y [] Missing) refl
+    rw (
+      one_more (xs ++ y ∷ []) (length xs),
+      before_stays xs (y ∷ []) (length xs) (omega arith),
+      get_or-append_seam xs y [] Missing,
+    ) refl
 
 -- ---- a window is free where its end has the count of its start
 

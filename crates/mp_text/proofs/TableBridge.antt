@@ -29,12 +29,14 @@ by_fault (Some fault) x = Err (seen fault)
 
 -- ---- one field
 
-judged_by : (number column : ℕ) (r : Result (Option ℤ) SampleFault) → judged number column r ≡ by_fault (reading_fault number column r) (sample_in r)
+judged_by : (number column : ℕ) (r : Result (Option ℤ) SampleFault)
+    → judged number column r ≡ by_fault (reading_fault number column r) (sample_in r)
 unfolding seen by_fault
 judged_by number column (Ok sample) = refl
 judged_by number column (Err fault) = refl
 
-cell_by : (scale number column : ℕ) (field : Option (List ℕ)) → cell_of scale number column field ≡ by_fault (cell_fault scale number column field) (cell scale field)
+cell_by : (scale number column : ℕ) (field : Option (List ℕ))
+    → cell_of scale number column field ≡ by_fault (cell_fault scale number column field) (cell scale field)
 unfolding seen by_fault
 cell_by scale number column None = refl
 cell_by scale number column (Some text) = judged_by number column (reading scale text)
@@ -52,28 +54,36 @@ onto_by (Some fault) x others xs = refl
 cells : ℕ → List ℕ → Fields → Row
 cells scale columns fields = map (λ column. cell scale (field_at fields column)) columns
 
-row_by : (scale number : ℕ) (fields : Fields) (columns : List ℕ) → row_of scale number fields columns ≡ by_fault (record_fault scale number fields columns) (cells scale columns fields)
+row_by : (scale number : ℕ) (fields : Fields) (columns : List ℕ)
+    → row_of scale number fields columns
+    ≡ by_fault (record_fault scale number fields columns) (cells scale columns fields)
 unfolding by_fault cells
 row_by scale number fields [] = refl
 row_by scale number fields (column ∷ columns) =
     rw (cell_by scale number column (field_at fields column), row_by scale number fields columns)
-    (onto_by (cell_fault scale number column (field_at fields column)) (cell scale (field_at fields column)) (record_fault scale number fields columns) (cells scale columns fields))
+    (onto_by (cell_fault scale number column (field_at fields column)) (cell scale (field_at fields column))
+    (record_fault scale number fields columns) (cells scale columns fields))
 
 -- ---- records in turn
 
 past_by : (scale : ℕ) (columns : List ℕ) (number : ℕ) (fields : Fields) (rest : List Fields) (past : Bool)
-    → rows_of scale columns (number + 1) rest ≡ by_fault (table_fault scale columns (number + 1) rest) (map (cells scale columns) rest)
-    → (if past then Err TooManyRows else onto (row_of scale number fields columns) (rows_of scale columns (number + 1) rest))
-    ≡ by_fault (if past then Some table.Rows else first_of (record_fault scale number fields columns) (table_fault scale columns (number + 1) rest))
+    → rows_of scale columns (number + 1) rest
+    ≡ by_fault (table_fault scale columns (number + 1) rest) (map (cells scale columns) rest)
+    → (if past then Err TooManyRows
+    else onto (row_of scale number fields columns) (rows_of scale columns (number + 1) rest))
+    ≡ by_fault (if past then Some table.Rows
+    else first_of (record_fault scale number fields columns) (table_fault scale columns (number + 1) rest))
     (cells scale columns fields ∷ map (cells scale columns) rest)
 unfolding seen by_fault
 past_by scale columns number fields rest true later = refl
 past_by scale columns number fields rest false later =
     rw (row_by scale number fields columns, later)
-    (onto_by (record_fault scale number fields columns) (cells scale columns fields) (table_fault scale columns (number + 1) rest) (map (cells scale columns) rest))
+    (onto_by (record_fault scale number fields columns) (cells scale columns fields)
+    (table_fault scale columns (number + 1) rest) (map (cells scale columns) rest))
 
 rows_by : (scale : ℕ) (columns : List ℕ) (number : ℕ) (records : List Fields)
-    → rows_of scale columns number records ≡ by_fault (table_fault scale columns number records) (map (cells scale columns) records)
+    → rows_of scale columns number records
+    ≡ by_fault (table_fault scale columns number records) (map (cells scale columns) records)
 unfolding by_fault
 rows_by scale columns number [] = refl
 rows_by scale columns number (fields ∷ rest) =
@@ -95,47 +105,64 @@ at_seam scale front column columns (fields ∷ records) =
     ∙ ap (λ (xs : Series). f column ∷ xs) (at_seam scale front column columns records)
 
 from_seam : (scale : ℕ) (front columns : List ℕ) (records : List Fields)
-    → map (column_at (map (cells scale (front ++ columns)) records)) (range_with_len (length front) (length columns)) ≡ map (column_of scale records) columns
+    → map (column_at (map (cells scale (front ++ columns)) records)) (range_with_len (length front) (length columns))
+    ≡ map (column_of scale records) columns
 from_seam scale front [] records = refl
 from_seam scale front (column ∷ columns) records =
-    let more : (front ++ column ∷ []) ++ columns ≡ front ++ column ∷ columns = append_assoc front (column ∷ []) columns in
+    let more : (front ++ column ∷ []) ++ columns ≡ front ++ column ∷ columns =
+    append_assoc front (column ∷ []) columns in
     let next : length (front ++ column ∷ []) ≡ length front + 1 = length_more front column in
     let rest = from_seam scale (front ++ column ∷ []) columns records in
-    ap (λ (x : Series). x ∷ map (column_at (map (cells scale (front ++ column ∷ columns)) records)) (range_with_len (length front + 1) (length columns)))
+    ap (λ (x : Series).
+    x ∷ map (column_at (map (cells scale (front ++ column ∷ columns)) records))
+    (range_with_len (length front + 1) (length columns)))
     (at_seam scale front column columns records)
     ∙ ap (λ (xs : List Series). column_of scale records column ∷ xs)
-    (ap (λ (cs : List ℕ). map (column_at (map (cells scale cs) records)) (range_with_len (length front + 1) (length columns))) (sym more)
-    ∙ (ap (λ (n : ℕ). map (column_at (map (cells scale ((front ++ column ∷ []) ++ columns)) records)) (range_with_len n (length columns))) (sym next) ∙ rest))
+    (ap (λ (cs : List ℕ).
+    map (column_at (map (cells scale cs) records)) (range_with_len (length front + 1) (length columns)))
+    (sym more)
+    ∙ (ap (λ (n : ℕ).
+    map (column_at (map (cells scale ((front ++ column ∷ []) ++ columns)) records))
+    (range_with_len n (length columns)))
+    (sym next)
+    ∙ rest))
   where
     length_more : (xs : List ℕ) (x : ℕ) → length (xs ++ x ∷ []) ≡ length xs + 1
     length_more [] x = refl
     length_more (y ∷ xs) x = let e = length_more xs x in omega arith
 
-columns_by : (scale : ℕ) (columns : List ℕ) (records : List Fields) → columns_of (length columns) (map (cells scale columns) records) ≡ map (column_of scale records) columns
+columns_by : (scale : ℕ) (columns : List ℕ) (records : List Fields)
+    → columns_of (length columns) (map (cells scale columns) records) ≡ map (column_of scale records) columns
 columns_by scale columns records = from_seam scale [] columns records
 
 -- ---- the whole table
 
 made_by : (scale : ℕ) (columns : List ℕ) (records : List Fields) (fault : Option TableFault)
-    → in_columns (length columns) (by_fault fault (map (cells scale columns) records)) ≡ by_fault fault (map (column_of scale records) columns)
+    → in_columns (length columns) (by_fault fault (map (cells scale columns) records))
+    ≡ by_fault fault (map (column_of scale records) columns)
 unfolding by_fault
 made_by scale columns records None = ap Ok (columns_by scale columns records)
 made_by scale columns records (Some fault) = refl
 
-whole_by : (scale : ℕ) (columns : List ℕ) (records : List Fields) → table_of scale columns records ≡ by_fault (table_fault scale columns 1 records) (map (column_of scale records) columns)
+whole_by : (scale : ℕ) (columns : List ℕ) (records : List Fields)
+    → table_of scale columns records
+    ≡ by_fault (table_fault scale columns 1 records) (map (column_of scale records) columns)
 whole_by scale columns records =
     rw (rows_by scale columns 1 records) (made_by scale columns records (table_fault scale columns 1 records))
 
-gathered_by : (fault : Option TableFault) (columns : List Series) (found : List Series) → unless_faulty fault columns ≡ Ok found → by_fault fault columns ≡ Ok found
+gathered_by : (fault : Option TableFault) (columns : List Series) (found : List Series)
+    → unless_faulty fault columns ≡ Ok found → by_fault fault columns ≡ Ok found
 unfolding by_fault
 gathered_by None columns found h = let same : columns ≡ found = cc in ap Ok same
 gathered_by (Some fault) columns found h = absurd (cc h)
 
 -- what was gathered is the table
-table_gathered : (scale : ℕ) (columns : List ℕ) (records : List Fields) (found : List Series) → gathered_of scale columns records ≡ Ok found
+table_gathered : (scale : ℕ) (columns : List ℕ) (records : List Fields) (found : List Series)
+    → gathered_of scale columns records ≡ Ok found
     → table_of scale columns records ≡ Ok found
 table_gathered scale columns records found h =
-    whole_by scale columns records ∙ gathered_by (table_fault scale columns 1 records) (map (column_of scale records) columns) found h
+    whole_by scale columns records
+    ∙ gathered_by (table_fault scale columns 1 records) (map (column_of scale records) columns) found h
 
 seen_as : (met : TableFault) (why : Fault) → told met ≡ Some why → seen met ≡ why
 unfolding seen
@@ -144,22 +171,28 @@ seen_as (table.NoField number column) why is = cc
 seen_as table.Rows why is = cc
 seen_as table.Memory why is = absurd (cc is)
 
-fault_by : (fault : Option TableFault) (columns : List Series) (met : TableFault) (why : Fault) → unless_faulty fault columns ≡ Err met → told met ≡ Some why
+fault_by : (fault : Option TableFault) (columns : List Series) (met : TableFault) (why : Fault)
+    → unless_faulty fault columns ≡ Err met → told met ≡ Some why
     → by_fault fault columns ≡ Err why
 unfolding by_fault
 fault_by None columns met why h is = absurd (cc h)
-fault_by (Some fault) columns met why h is = let same : fault ≡ met = cc in ap (λ f. Err (seen f)) same ∙ ap Err (seen_as met why is)
+fault_by (Some fault) columns met why h is =
+    let same : fault ≡ met = cc in ap (λ f. Err (seen f)) same ∙ ap Err (seen_as met why is)
 
 -- the fault that was met is that of the table
-table_faulty : (scale : ℕ) (columns : List ℕ) (records : List Fields) (met : TableFault) (why : Fault) → gathered_of scale columns records ≡ Err met
+table_faulty : (scale : ℕ) (columns : List ℕ) (records : List Fields) (met : TableFault) (why : Fault)
+    → gathered_of scale columns records ≡ Err met
     → told met ≡ Some why → table_of scale columns records ≡ Err why
 table_faulty scale columns records met why h is =
-    whole_by scale columns records ∙ fault_by (table_fault scale columns 1 records) (map (column_of scale records) columns) met why h is
+    whole_by scale columns records
+    ∙ fault_by (table_fault scale columns 1 records) (map (column_of scale records) columns) met why h is
 
 -- ---- by the outcome of a call that gathers
 
-pub tables_by : (scale : ℕ) (columns : List ℕ) (rows records : List Fields) (r : Result (List (List Sample)) TableFault) → rows ≡ records
-    → IfOk r (λ bundle. gathered_of scale columns rows ≡ Ok (map series_of bundle)) → IfOk r (λ bundle. table_of scale columns records ≡ Ok (map series_of bundle))
+pub tables_by : (scale : ℕ) (columns : List ℕ) (rows records : List Fields) (r : Result (List (List Sample)) TableFault)
+    → rows ≡ records
+    → IfOk r (λ bundle. gathered_of scale columns rows ≡ Ok (map series_of bundle))
+    → IfOk r (λ bundle. table_of scale columns records ≡ Ok (map series_of bundle))
 tables_by scale columns rows records (Ok bundle) same h =
     table_gathered scale columns records (map series_of bundle) (ap (gathered_of scale columns) (sym same) ∙ h)
 tables_by scale columns rows records (Err fault) same h = tt
@@ -168,9 +201,11 @@ tables_by scale columns rows records (Err fault) same h = tt
 not_memory : (met : TableFault) (why : Fault) → told met ≡ Some why → met ≡ table.Memory → ⊥
 not_memory met why is memory = let none : told met ≡ None = ap told memory in cc
 
-pub faults_by : (scale : ℕ) (columns : List ℕ) (rows records : List Fields) (r : Result (List (List Sample)) TableFault) → rows ≡ records
+pub faults_by : (scale : ℕ) (columns : List ℕ) (rows records : List Fields) (r : Result (List (List Sample)) TableFault)
+    → rows ≡ records
     → IfErr r (λ met. met ≢ table.Memory → gathered_of scale columns rows ≡ Err met)
     → IfErr r (λ met. (why : Fault) → told met ≡ Some why → table_of scale columns records ≡ Err why)
 faults_by scale columns rows records (Ok bundle) same h = tt
 faults_by scale columns rows records (Err met) same h = λ why is.
-    table_faulty scale columns records met why (ap (gathered_of scale columns) (sym same) ∙ h (not_memory met why is)) is
+    table_faulty scale columns records met why
+    (ap (gathered_of scale columns) (sym same) ∙ h (not_memory met why is)) is

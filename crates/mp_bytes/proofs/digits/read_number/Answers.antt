@@ -7,7 +7,8 @@ returns-in_err-shifted c =
     let over = rw c.in_err-shifted.was at c.checked_mul.ensures in
     let i = c.loop-digit.invariant in
     c.from_residual.ensures
-    ∙ sym (none_above c.args.digits c.args.most c.args.text.now c.loop-digit.digit-index c.loop-digit.value c.loop-digit-test.true i.value (omega (arith, c.ranges.most)) (omega (arith, over)))
+    ∙ sym (none_above c.args.digits c.args.most c.args.text.now c.loop-digit.digit-index c.loop-digit.value
+    c.loop-digit-test.true i.value (omega (arith, c.ranges.most)) (omega (arith, over)))
 
 pub returns-in_err-value : goal.returns-in_err-value
 returns-in_err-value c =
@@ -15,4 +16,5 @@ returns-in_err-value c =
     let product = rw c.in_ok-shifted.was at c.checked_mul.ensures in
     let i = c.loop-digit.invariant in
     c.from_residual-in_err-value.ensures
-    ∙ sym (none_above c.args.digits c.args.most c.args.text.now c.loop-digit.digit-index c.loop-digit.value c.loop-digit-test.true i.value (omega (arith, c.ranges.most)) (omega (arith, over, product, c.from.ensures)))
+    ∙ sym (none_above c.args.digits c.args.most c.args.text.now c.loop-digit.digit-index c.loop-digit.value
+    c.loop-digit-test.true i.value (omega (arith, c.ranges.most)) (omega (arith, over, product, c.from.ensures)))

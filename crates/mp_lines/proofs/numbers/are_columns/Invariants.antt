@@ -4,4 +4,5 @@ use Rattle.mp_lines.proofs.ColumnLemmas.{AreGoneOver}
 use Rattle.mp_lines.proofs.numbers.are_columns.Given as goal
 
 abbrev pub invariant-loop-text : goal.invariant-loop-text
-invariant-loop-text l = AreGoneOver (values_in l.field) (values_left (option_map (λ text. text.now) l.text-iterator.left)) l.count
+invariant-loop-text l =
+    AreGoneOver (values_in l.field) (values_left (option_map (λ text. text.now) l.text-iterator.left)) l.count

@@ -9,5 +9,7 @@ invariant-loop-k l = record {
   len : vec_len l.series ≡ length l.columns;
   fine : record_fault l.scale l.number (fields_of l.row) (take l.k l.columns) ≡ None;
   series : (rows : List Fields) → series_in l.initial.series ≡ map (column_of l.scale rows) l.columns
-      → series_in l.series ≡ map (column_of l.scale (rows ++ fields_of l.row ∷ [])) (take l.k l.columns) ++ map (column_of l.scale rows) (drop l.k l.columns);
+      → series_in l.series
+      ≡ map (column_of l.scale (rows ++ fields_of l.row ∷ [])) (take l.k l.columns)
+      ++ map (column_of l.scale rows) (drop l.k l.columns);
 }

@@ -8,5 +8,6 @@ abbrev pub invariant-loop-number : goal.invariant-loop-number
 invariant-loop-number l = record {
   between : IsBetweenRecords l.reader;
   len : vec_len l.series ≡ length l.columns;
-  gathered : Gathered l.scale l.columns (records_left l.initial.reader) (records_left l.reader) l.number (series_in l.series);
+  gathered : Gathered l.scale l.columns (records_left l.initial.reader) (records_left l.reader) l.number
+      (series_in l.series);
 }

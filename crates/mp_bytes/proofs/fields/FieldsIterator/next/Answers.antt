@@ -10,7 +10,8 @@ returns-else-is_empty-clause-steps c =
     let front : c.split_at.result.0.now ≡ take c.field_len.result text = c.split_at.ensures.front in
     let back : c.split_at.result.1.now ≡ drop c.field_len.result text = c.split_at.ensures.back in
     sym c.without_blanks-text.ensures.fields
-    ∙ (fields-field text c.field_len.result some c.field_len.ensures.within c.field_len.ensures.before c.field_len.ensures.end
+    ∙ (fields-field text c.field_len.result some c.field_len.ensures.within c.field_len.ensures.before
+    c.field_len.ensures.end
     ∙ rw (front, back) refl)
 
 pub returns-else-is_empty-clause-goes : goal.returns-else-is_empty-clause-goes

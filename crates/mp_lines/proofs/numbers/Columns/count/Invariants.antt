@@ -4,4 +4,5 @@ use Rattle.mp_lines.proofs.ColumnLemmas.{AreCounted}
 use Rattle.mp_lines.proofs.numbers.Columns.count.Given as goal
 
 abbrev pub invariant-loop : goal.invariant-loop
-invariant-loop l = AreCounted (values_in l.self.field.now) (values_left (option_map (λ text. text.now) l.iterator'.left)) l.count
+invariant-loop l =
+    AreCounted (values_in l.self.field.now) (values_left (option_map (λ text. text.now) l.iterator'.left)) l.count

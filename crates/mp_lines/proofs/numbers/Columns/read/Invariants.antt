@@ -6,4 +6,5 @@ use Rattle.mp_lines.proofs.numbers.Columns.read.Given as goal
 
 abbrev pub invariant-loop-text : goal.invariant-loop-text
 invariant-loop-text l =
-    read (values_in l.self.field.now) ≡ in_front l.read.items (read (values_left (option_map (λ text. text.now) l.text-iterator.left)))
+    read (values_in l.self.field.now)
+    ≡ in_front l.read.items (read (values_left (option_map (λ text. text.now) l.text-iterator.left)))
