@@ -30,12 +30,14 @@ abbrev bytes_onto_ended : List (List ℕ) → List ℕ → List (List ℕ)
 bytes_onto_ended (line ∷ rest) bytes = (bytes ++ line) ∷ rest
 bytes_onto_ended [] bytes = []
 
-onto_first-bytes : (b : ℕ) (rest : List (List ℕ)) (bytes : List ℕ) → onto_first b (bytes_onto_first rest bytes) ≡ bytes_onto_first rest (b ∷ bytes)
+onto_first-bytes : (b : ℕ) (rest : List (List ℕ)) (bytes : List ℕ)
+    → onto_first b (bytes_onto_first rest bytes) ≡ bytes_onto_first rest (b ∷ bytes)
 onto_first-bytes b (line ∷ rest) bytes = refl
 onto_first-bytes b [] [] = refl
 onto_first-bytes b [] (c ∷ cs) = refl
 
-onto_ended-bytes : (b : ℕ) (rest : List (List ℕ)) (bytes : List ℕ) → onto_ended b (bytes_onto_ended rest bytes) ≡ bytes_onto_ended rest (b ∷ bytes)
+onto_ended-bytes : (b : ℕ) (rest : List (List ℕ)) (bytes : List ℕ)
+    → onto_ended b (bytes_onto_ended rest bytes) ≡ bytes_onto_ended rest (b ∷ bytes)
 onto_ended-bytes b (line ∷ rest) bytes = refl
 onto_ended-bytes b [] bytes = refl
 
@@ -53,11 +55,13 @@ lines-append (b ∷ bs) rest no_lf =
     let other : eqb b 10 ≡ false = ne_eqb b 10 (All-head (λ c. c ≢ 10) b bs no_lf) in
     rw (other, lines-append bs rest (All-tail (λ c. c ≢ 10) b bs no_lf)) (onto_first-bytes b (lines rest) bs)
 
-ended_lines-append : (bytes rest : List ℕ) → HasNoLf bytes → ended_lines (bytes ++ rest) ≡ bytes_onto_ended (ended_lines rest) bytes
+ended_lines-append : (bytes rest : List ℕ) → HasNoLf bytes
+    → ended_lines (bytes ++ rest) ≡ bytes_onto_ended (ended_lines rest) bytes
 ended_lines-append [] rest no_lf = bytes_onto_ended-nil (ended_lines rest)
 ended_lines-append (b ∷ bs) rest no_lf =
     let other : eqb b 10 ≡ false = ne_eqb b 10 (All-head (λ c. c ≢ 10) b bs no_lf) in
-    rw (other, ended_lines-append bs rest (All-tail (λ c. c ≢ 10) b bs no_lf)) (onto_ended-bytes b (ended_lines rest) bs)
+    rw (other, ended_lines-append bs rest (All-tail (λ c. c ≢ 10) b bs no_lf))
+    (onto_ended-bytes b (ended_lines rest) bs)
 
 -- ---- what is cut once may be cut before
 
@@ -66,25 +70,33 @@ take-take-append zero xs ys = refl
 take-take-append (suc n) [] ys = refl
 take-take-append (suc n) (x ∷ xs) ys = ap (λ l. x ∷ l) (take-take-append n xs ys)
 
-map-take-first : (n : ℕ) (rest : List (List ℕ)) (bytes : List ℕ) → map (take (suc n)) (bytes_onto_first rest (take (suc n) bytes)) ≡ map (take (suc n)) (bytes_onto_first rest bytes)
+map-take-first : (n : ℕ) (rest : List (List ℕ)) (bytes : List ℕ)
+    → map (take (suc n)) (bytes_onto_first rest (take (suc n) bytes)) ≡ map (take (suc n)) (bytes_onto_first rest bytes)
 map-take-first n (line ∷ rest) bytes = ap (λ l. l ∷ map (take (suc n)) rest) (take-take-append (suc n) bytes line)
 map-take-first n [] [] = refl
 map-take-first n [] (b ∷ bs) = ap (λ l. (b ∷ l) ∷ []) (take-take n n bs (le_refl n))
 
-map-take-ended : (n : ℕ) (rest : List (List ℕ)) (bytes : List ℕ) → map (take n) (bytes_onto_ended rest (take n bytes)) ≡ map (take n) (bytes_onto_ended rest bytes)
+map-take-ended : (n : ℕ) (rest : List (List ℕ)) (bytes : List ℕ)
+    → map (take n) (bytes_onto_ended rest (take n bytes)) ≡ map (take n) (bytes_onto_ended rest bytes)
 map-take-ended n (line ∷ rest) bytes = ap (λ l. l ∷ map (take n) rest) (take-take-append n bytes line)
 map-take-ended n [] bytes = refl
 
 HasNoLf-cut : (bytes : List ℕ) → HasNoLf bytes → HasNoLf (cut bytes)
 HasNoLf-cut bytes no_lf = All-take (λ b. b ≢ 10) 1048577 bytes no_lf
 
-cut_ahead : (bytes rest : List ℕ) → HasNoLf bytes → map cut (lines (cut bytes ++ rest)) ≡ map cut (lines (bytes ++ rest))
+cut_ahead : (bytes rest : List ℕ) → HasNoLf bytes
+    → map cut (lines (cut bytes ++ rest)) ≡ map cut (lines (bytes ++ rest))
 cut_ahead bytes rest no_lf =
-    ap (map cut) (lines-append (cut bytes) rest (HasNoLf-cut bytes no_lf)) ∙ map-take-first 1048576 (lines rest) bytes ∙ sym (ap (map cut) (lines-append bytes rest no_lf))
+    ap (map cut) (lines-append (cut bytes) rest (HasNoLf-cut bytes no_lf))
+    ∙ map-take-first 1048576 (lines rest) bytes
+    ∙ sym (ap (map cut) (lines-append bytes rest no_lf))
 
-cut_ahead_ended : (bytes rest : List ℕ) → HasNoLf bytes → map cut (ended_lines (cut bytes ++ rest)) ≡ map cut (ended_lines (bytes ++ rest))
+cut_ahead_ended : (bytes rest : List ℕ) → HasNoLf bytes
+    → map cut (ended_lines (cut bytes ++ rest)) ≡ map cut (ended_lines (bytes ++ rest))
 cut_ahead_ended bytes rest no_lf =
-    ap (map cut) (ended_lines-append (cut bytes) rest (HasNoLf-cut bytes no_lf)) ∙ map-take-ended 1048577 (ended_lines rest) bytes ∙ sym (ap (map cut) (ended_lines-append bytes rest no_lf))
+    ap (map cut) (ended_lines-append (cut bytes) rest (HasNoLf-cut bytes no_lf))
+    ∙ map-take-ended 1048577 (ended_lines rest) bytes
+    ∙ sym (ap (map cut) (ended_lines-append bytes rest no_lf))
 
 -- ---- the first LF of a piece
 
@@ -123,7 +135,8 @@ HasNoLf-before_first piece = λ k d l.
     rw same (eqb-false (get_or piece k d) 10 (fails_before_first is_lf piece k d below))
 
 -- a piece with an LF is what stands before it, the LF, and what is left
-split_at_lf : (piece : List ℕ) → has_lf piece ≡ true → piece ≡ before_first is_lf piece ++ (10 ∷ drop (used_of piece) piece)
+split_at_lf : (piece : List ℕ) → has_lf piece ≡ true
+    → piece ≡ before_first is_lf piece ++ (10 ∷ drop (used_of piece) piece)
 split_at_lf piece some =
     let inside = position_or_len-lf piece some in
     let at = position_or_len is_lf piece in
@@ -133,13 +146,17 @@ split_at_lf piece some =
     ∙ ap (λ n. before_first is_lf piece ++ (10 ∷ drop n piece)) (sym (used_of-lf piece some))
 
 -- what a search for the first LF finds
-pub unwrap_or-first_lf : (piece : List ℕ) (found : Option ℕ) → IsFirstByte (is_byte 10) piece found → unwrap_or found (length piece) ≡ position_or_len is_lf piece
+pub unwrap_or-first_lf : (piece : List ℕ) (found : Option ℕ) → IsFirstByte (is_byte 10) piece found
+    → unwrap_or found (length piece) ≡ position_or_len is_lf piece
 unwrap_or-first_lf piece None none =
-    sym (position_or_len_is is_lf piece (length piece) 0 (le_refl (length piece)) (λ k l. false_from_ne_true _ (none k (omega arith) l)) (λ l. absurd (omega arith)))
+    sym (position_or_len_is is_lf piece (length piece) 0 (le_refl (length piece))
+    (λ k l. false_from_ne_true _ (none k (omega arith) l)) (λ l. absurd (omega arith)))
 unwrap_or-first_lf piece (Some at) first =
-    sym (position_or_len_is is_lf piece at 0 (omega (arith, first.0.high)) (λ k l. false_from_ne_true _ (first.0.before k (omega arith) l)) (λ l. first.1))
+    sym (position_or_len_is is_lf piece at 0 (omega (arith, first.0.high))
+    (λ k l. false_from_ne_true _ (first.0.before k (omega arith) l)) (λ l. first.1))
 
-pub is_some-first_lf : (piece : List ℕ) (found : Option ℕ) → IsFirstByte (is_byte 10) piece found → is_some found ≡ has_lf piece
+pub is_some-first_lf : (piece : List ℕ) (found : Option ℕ) → IsFirstByte (is_byte 10) piece found
+    → is_some found ≡ has_lf piece
 is_some-first_lf piece None none =
     let all : length piece ≡ position_or_len is_lf piece = unwrap_or-first_lf piece None none in
     sym (false_from_ne_true (has_lf piece) (λ some. omega (arith, position_or_len-lf piece some)))
@@ -150,12 +167,16 @@ is_some-first_lf piece (Some at) first =
 
 -- ---- the bytes that are kept
 
-pub kept_fits : (n : ℕ) (kept bytes : List ℕ) → length kept ≤ n → kept ++ take (min (length bytes) (n - length kept)) bytes ≡ take n (kept ++ bytes)
+pub kept_fits : (n : ℕ) (kept bytes : List ℕ) → length kept ≤ n
+    → kept ++ take (min (length bytes) (n - length kept)) bytes ≡ take n (kept ++ bytes)
 kept_fits n kept bytes short =
     let room = n - length kept in
     let same : min (length bytes) room ≡ min room (length bytes) = omega arith in
     let all : length kept + room ≡ n = omega arith in
-    ap (λ k. kept ++ take k bytes) same ∙ ap (λ more. kept ++ more) (take_min room bytes) ∙ sym (take-append-add kept bytes room) ∙ ap (λ k. take k (kept ++ bytes)) all
+    ap (λ k. kept ++ take k bytes) same
+    ∙ ap (λ more. kept ++ more) (take_min room bytes)
+    ∙ sym (take-append-add kept bytes room)
+    ∙ ap (λ k. take k (kept ++ bytes)) all
 
 -- ---- the steps
 
@@ -163,7 +184,8 @@ pub IsCutLine-nothing : IsCutLine nothing.kept
 IsCutLine-nothing = record { no_lf = All-nil (λ b. b ≢ 10); short = omega arith }
 
 HasNoLf-line : (kept piece : List ℕ) → IsCutLine kept → HasNoLf (kept ++ before_first is_lf piece)
-HasNoLf-line kept piece part = All-append (λ b. b ≢ 10) kept (before_first is_lf piece) part.no_lf (HasNoLf-before_first piece)
+HasNoLf-line kept piece part =
+    All-append (λ b. b ≢ 10) kept (before_first is_lf piece) part.no_lf (HasNoLf-before_first piece)
 
 -- what is held stays cut and has no LF, however much is fed
 pub IsCutLine-fed : (kept piece : List ℕ) → IsCutLine kept → IsCutLine (cut (kept ++ before_first is_lf piece))
@@ -175,20 +197,24 @@ before_first-no_lf : (piece : List ℕ) → has_lf piece ≡ false → before_fi
 before_first-no_lf piece none = take_all _ piece (omega (arith, position_or_len-no_lf piece none))
 
 -- a piece without an LF leaves the lines to come as they were
-pub lines_left-fed : (holding : Holding) (piece rest : List ℕ) → IsCutLine holding.kept → has_lf piece ≡ false → lines_left (fed holding piece) rest ≡ lines_left holding (piece ++ rest)
+pub lines_left-fed : (holding : Holding) (piece rest : List ℕ) → IsCutLine holding.kept → has_lf piece ≡ false
+    → lines_left (fed holding piece) rest ≡ lines_left holding (piece ++ rest)
 lines_left-fed holding piece rest part none =
     cut_ahead (holding.kept ++ before_first is_lf piece) rest (HasNoLf-line holding.kept piece part)
     ∙ ap (λ bytes. map cut (lines (holding.kept ++ bytes ++ rest))) (before_first-no_lf piece none)
     ∙ ap (λ bytes. map cut (lines bytes)) (append_assoc holding.kept piece rest)
 
-pub ended_lines_left-fed : (holding : Holding) (piece rest : List ℕ) → IsCutLine holding.kept → has_lf piece ≡ false → ended_lines_left (fed holding piece) rest ≡ ended_lines_left holding (piece ++ rest)
+pub ended_lines_left-fed : (holding : Holding) (piece rest : List ℕ) → IsCutLine holding.kept → has_lf piece ≡ false
+    → ended_lines_left (fed holding piece) rest ≡ ended_lines_left holding (piece ++ rest)
 ended_lines_left-fed holding piece rest part none =
     cut_ahead_ended (holding.kept ++ before_first is_lf piece) rest (HasNoLf-line holding.kept piece part)
     ∙ ap (λ bytes. map cut (ended_lines (holding.kept ++ bytes ++ rest))) (before_first-no_lf piece none)
     ∙ ap (λ bytes. map cut (ended_lines bytes)) (append_assoc holding.kept piece rest)
 
 -- a piece with an LF ends the first of the lines to come
-lines_at_lf : (holding : Holding) (piece rest : List ℕ) → has_lf piece ≡ true → holding.kept ++ (piece ++ rest) ≡ (holding.kept ++ before_first is_lf piece) ++ (10 ∷ (drop (used_of piece) piece ++ rest))
+lines_at_lf : (holding : Holding) (piece rest : List ℕ) → has_lf piece ≡ true
+    → holding.kept ++ (piece ++ rest)
+    ≡ (holding.kept ++ before_first is_lf piece) ++ (10 ∷ (drop (used_of piece) piece ++ rest))
 lines_at_lf holding piece rest some =
     let before = before_first is_lf piece in
     let left = drop (used_of piece) piece in
@@ -197,7 +223,8 @@ lines_at_lf holding piece rest some =
     ∙ sym (append_assoc holding.kept before (10 ∷ (left ++ rest)))
 
 pub lines_left-fed_lf : (holding : Holding) (piece rest : List ℕ) → IsCutLine holding.kept → has_lf piece ≡ true
-    → lines_left holding (piece ++ rest) ≡ (fed holding piece).kept ∷ lines_left nothing (drop (used_of piece) piece ++ rest)
+    → lines_left holding (piece ++ rest)
+    ≡ (fed holding piece).kept ∷ lines_left nothing (drop (used_of piece) piece ++ rest)
 lines_left-fed_lf holding piece rest part some =
     let line = holding.kept ++ before_first is_lf piece in
     let left = drop (used_of piece) piece ++ rest in
@@ -206,7 +233,8 @@ lines_left-fed_lf holding piece rest part some =
     ∙ ap (λ bytes. cut bytes ∷ map cut (lines left)) (append-nil line)
 
 pub ended_lines_left-fed_lf : (holding : Holding) (piece rest : List ℕ) → IsCutLine holding.kept → has_lf piece ≡ true
-    → ended_lines_left holding (piece ++ rest) ≡ (fed holding piece).kept ∷ ended_lines_left nothing (drop (used_of piece) piece ++ rest)
+    → ended_lines_left holding (piece ++ rest)
+    ≡ (fed holding piece).kept ∷ ended_lines_left nothing (drop (used_of piece) piece ++ rest)
 ended_lines_left-fed_lf holding piece rest part some =
     let line = holding.kept ++ before_first is_lf piece in
     let left = drop (used_of piece) piece ++ rest in
@@ -215,13 +243,15 @@ ended_lines_left-fed_lf holding piece rest part some =
     ∙ ap (λ bytes. cut bytes ∷ map cut (ended_lines left)) (append-nil line)
 
 -- at the end what is held without an LF is the last line, where it isn't empty
-at_end : (kept : List ℕ) → IsCutLine kept → map cut (lines (kept ++ [])) ≡ (if not (is_empty kept) then kept ∷ [] else [])
+at_end : (kept : List ℕ) → IsCutLine kept
+    → map cut (lines (kept ++ [])) ≡ (if not (is_empty kept) then kept ∷ [] else [])
 at_end [] part = refl
 at_end (b ∷ bs) part =
     let kept = b ∷ bs in
     ap (map cut) (lines-append kept [] part.no_lf) ∙ ap (λ line. line ∷ []) (take_all 1048577 kept part.short)
 
-pub lines_left-end : (holding : Holding) → IsCutLine holding.kept → lines_left holding [] ≡ (if (ended holding).whole then holding.kept ∷ [] else [])
+pub lines_left-end : (holding : Holding) → IsCutLine holding.kept
+    → lines_left holding [] ≡ (if (ended holding).whole then holding.kept ∷ [] else [])
 lines_left-end holding part = at_end holding.kept part
 
 -- no LF ends what is held

@@ -32,8 +32,12 @@ pub gave_part : {old new : Reading} (left : Option (List ℕ)) → IsCutLine old
 gave_part {old} {new} left part none held unread left_is past_is = record {
   got = [];
   overs = 0;
-  lines_are = λ rest. rw (held, unread, drop-used_of-no_lf old.unread none) (sym (lines_left-fed old.holding old.unread rest part none));
-  ended_are = λ rest. rw (held, unread, drop-used_of-no_lf old.unread none) (sym (ended_lines_left-fed old.holding old.unread rest part none));
+  lines_are = λ rest.
+      rw (held, unread, drop-used_of-no_lf old.unread none)
+      (sym (lines_left-fed old.holding old.unread rest part none));
+  ended_are = λ rest.
+      rw (held, unread, drop-used_of-no_lf old.unread none)
+      (sym (ended_lines_left-fed old.holding old.unread rest part none));
   count = omega (arith, left_is);
   overs_are = omega (arith, ap bit past_is);
   full = λ over. absurd (omega (arith, over));
@@ -64,9 +68,12 @@ pub at_rest : (reading : Reading) → IsCutLine reading.holding.kept → reading
 at_rest reading part none = record { unread = none; none_ended = ended_lines_left-end reading.holding part }
 
 same_holding : (a b : Holding) → a.kept ≡ b.kept → a.whole ≡ b.whole → a ≡ b
-same_holding a b k w = ap (λ kept. record { kept = kept; whole = a.whole }) k ∙ ap (λ whole. record { kept = b.kept; whole = whole }) w
+same_holding a b k w =
+    ap (λ kept. record { kept = kept; whole = a.whole }) k ∙ ap (λ whole. record { kept = b.kept; whole = whole }) w
 
-same_reading : (reading : Reading) (holding : Holding) (unread : List ℕ) (left : ℕ) (past : Bool) → holding ≡ reading.holding → unread ≡ reading.unread → left ≡ reading.left → past ≡ reading.past → record { holding = holding; unread = unread; left = left; past = past } ≡ reading
+same_reading : (reading : Reading) (holding : Holding) (unread : List ℕ) (left : ℕ) (past : Bool)
+    → holding ≡ reading.holding → unread ≡ reading.unread → left ≡ reading.left → past ≡ reading.past
+    → record { holding = holding; unread = unread; left = left; past = past } ≡ reading
 same_reading reading holding unread left past h u l p = rw (h, u, l, p) refl
 
 -- it is the last line
@@ -76,7 +83,11 @@ pub next_is_last : (first old new : Reading) (left later : Option (List ℕ))
     → old.past ≡ false → IsDry left later → Gave [] first old left later → IsNext first new left later (Line true)
 next_is_last first old new left later held unread left_is past_is whole part unended none within dry gave =
     let kept : new.holding.kept ≡ old.holding.kept = ap (λ (h : Holding). h.kept) held in
-    let same : before_end new ≡ old = same_reading old (record { kept = new.holding.kept; whole = false }) new.unread new.left new.past (same_holding (record { kept = new.holding.kept; whole = false }) old.holding kept (sym unended)) unread left_is past_is in record {
+    let same : before_end new ≡ old =
+    same_reading old (record { kept = new.holding.kept; whole = false }) new.unread new.left new.past
+    (same_holding (record { kept = new.holding.kept; whole = false }) old.holding kept (sym unended)) unread
+    left_is past_is in
+    record {
       held = whole;
       gave = subst (λ (r : Reading). Gave [] first r left later) (sym same) gave;
       rest = subst IsAtRest (sym same) (at_rest old part none);
@@ -95,7 +106,8 @@ pub next_is_end : (first old new : Reading) (left later : Option (List ℕ))
 next_is_end first old new left later held unread left_is past_is whole part unended none within dry gave =
     let kept : new.holding.kept ≡ old.holding.kept = ap (λ (h : Holding). h.kept) held in
     let still : new.holding ≡ old.holding = same_holding new.holding old.holding kept (whole ∙ sym unended) in
-    let same : new ≡ old = same_reading old new.holding new.unread new.left new.past still unread left_is past_is in record {
+    let same : new ≡ old = same_reading old new.holding new.unread new.left new.past still unread left_is past_is in
+    record {
       gave = subst (λ (r : Reading). Gave [] first r left later) (sym same) gave;
       rest = subst IsAtRest (sym same) (at_rest old part none);
       none_left = subst (λ (r : Reading). lines_left r.holding [] ≡ []) (sym same)

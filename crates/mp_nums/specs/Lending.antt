@@ -11,4 +11,6 @@ refilled old items = take (length old) (items ++ drop (length items) old)
 module _ (T : RattleType) where
   -- list ends with the items that are last behind r, and with the room that it had
   abbrev pub LendsItems : MutBor (Listed T.Denot) → MutBor (List T.Denot) → Fml
-  LendsItems list r = Lends (the_row T) (Array T 0) list r (λ items. record { items = refilled list.now.items items; spare = list.now.spare })
+  LendsItems list r =
+      Lends (the_row T) (Array T 0) list r
+      (λ items. record { items = refilled list.now.items items; spare = list.now.spare })

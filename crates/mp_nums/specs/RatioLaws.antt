@@ -11,19 +11,29 @@ use Rattle.mp_nums.specs.declared.ratios.Ratio.{Ratio}
 use Rattle.mp_nums.specs.Ratio.{ratio_eq, ratio_cmp}
 
 less_is : (x y : ℕ) → nat_cmp x y ≡ Less → x < y
-less_is x y h = by_ranked (x < y) (x ≡ y) (y < x) (nat_cmp x y) (ranked x y (nat_cmp x y) refl) (λ _ lt. lt) (λ e _. absurd (cc (sym e ∙ h))) (λ e _. absurd (cc (sym e ∙ h)))
+less_is x y h =
+    by_ranked (x < y) (x ≡ y) (y < x) (nat_cmp x y) (ranked x y (nat_cmp x y) refl) (λ _ lt. lt)
+    (λ e _. absurd (cc (sym e ∙ h))) (λ e _. absurd (cc (sym e ∙ h)))
 
 equal_is : (x y : ℕ) → nat_cmp x y ≡ Equal → x ≡ y
-equal_is x y h = by_ranked (x < y) (x ≡ y) (y < x) (nat_cmp x y) (ranked x y (nat_cmp x y) refl) (λ e _. absurd (cc (sym e ∙ h))) (λ _ same. same) (λ e _. absurd (cc (sym e ∙ h)))
+equal_is x y h =
+    by_ranked (x < y) (x ≡ y) (y < x) (nat_cmp x y) (ranked x y (nat_cmp x y) refl) (λ e _. absurd (cc (sym e ∙ h)))
+    (λ _ same. same) (λ e _. absurd (cc (sym e ∙ h)))
 
 is_less : (x y : ℕ) → x < y → nat_cmp x y ≡ Less
-is_less x y h = by_ranked (x < y) (x ≡ y) (y < x) (nat_cmp x y) (ranked x y (nat_cmp x y) refl) (λ e _. e) (λ _ same. absurd (omega arith)) (λ _ more. absurd (omega arith))
+is_less x y h =
+    by_ranked (x < y) (x ≡ y) (y < x) (nat_cmp x y) (ranked x y (nat_cmp x y) refl) (λ e _. e)
+    (λ _ same. absurd (omega arith)) (λ _ more. absurd (omega arith))
 
 is_equal : (x y : ℕ) → x ≡ y → nat_cmp x y ≡ Equal
-is_equal x y h = by_ranked (x < y) (x ≡ y) (y < x) (nat_cmp x y) (ranked x y (nat_cmp x y) refl) (λ _ less. absurd (omega arith)) (λ e _. e) (λ _ more. absurd (omega arith))
+is_equal x y h =
+    by_ranked (x < y) (x ≡ y) (y < x) (nat_cmp x y) (ranked x y (nat_cmp x y) refl) (λ _ less. absurd (omega arith))
+    (λ e _. e) (λ _ more. absurd (omega arith))
 
 is_greater : (x y : ℕ) → y < x → nat_cmp x y ≡ Greater
-is_greater x y h = by_ranked (x < y) (x ≡ y) (y < x) (nat_cmp x y) (ranked x y (nat_cmp x y) refl) (λ _ less. absurd (omega arith)) (λ _ same. absurd (omega arith)) (λ e _. e)
+is_greater x y h =
+    by_ranked (x < y) (x ≡ y) (y < x) (nat_cmp x y) (ranked x y (nat_cmp x y) refl) (λ _ less. absurd (omega arith))
+    (λ _ same. absurd (omega arith)) (λ e _. e)
 
 -- a positive factor changes no comparison
 scaled : (k x y : ℕ) → 0 < k → nat_cmp (x * k) (y * k) ≡ nat_cmp x y

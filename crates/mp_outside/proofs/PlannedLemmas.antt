@@ -5,11 +5,13 @@ use Rattle.std.specs.Result.{is_err, OnOk, OnErr}
 use Rattle.mp_outside.specs.Counts.{Rose}
 use Rattle.mp_outside.specs.Planned.{PlanState, is_next_to_fail, after_call}
 
-by_faults : (fails : Bool) (faults : ℕ) → min faults (2 ^ 64 - 1) ≤ min (if fails then min (faults + 1) (2 ^ 64 - 1) else faults) (2 ^ 64 - 1)
+by_faults : (fails : Bool) (faults : ℕ)
+    → min faults (2 ^ 64 - 1) ≤ min (if fails then min (faults + 1) (2 ^ 64 - 1) else faults) (2 ^ 64 - 1)
 by_faults true faults = omega arith
 by_faults false faults = omega arith
 
-by_cause : (fails : Bool) (faults : ℕ) → fails ≡ true → Rose (min faults (2 ^ 64 - 1)) (min (if fails then min (faults + 1) (2 ^ 64 - 1) else faults) (2 ^ 64 - 1))
+by_cause : (fails : Bool) (faults : ℕ) → fails ≡ true
+    → Rose (min faults (2 ^ 64 - 1)) (min (if fails then min (faults + 1) (2 ^ 64 - 1) else faults) (2 ^ 64 - 1))
 by_cause true faults e = omega arith
 by_cause false faults e = cc
 
@@ -19,11 +21,13 @@ by_calm true faults e = cc
 by_calm false faults e = refl
 
 -- they never fall
-pub faults-after_call : (before after : PlanState) → after ≡ after_call before → min before.faults (2 ^ 64 - 1) ≤ min after.faults (2 ^ 64 - 1)
+pub faults-after_call : (before after : PlanState) → after ≡ after_call before
+    → min before.faults (2 ^ 64 - 1) ≤ min after.faults (2 ^ 64 - 1)
 faults-after_call before after e = rw e (by_faults (is_next_to_fail before) before.faults)
 
 -- they rise where the call was to fail
-pub Rose-after_call : (before after : PlanState) → after ≡ after_call before → is_next_to_fail before ≡ true → Rose (min before.faults (2 ^ 64 - 1)) (min after.faults (2 ^ 64 - 1))
+pub Rose-after_call : (before after : PlanState) → after ≡ after_call before → is_next_to_fail before ≡ true
+    → Rose (min before.faults (2 ^ 64 - 1)) (min after.faults (2 ^ 64 - 1))
 Rose-after_call before after e fails = rw e (by_cause (is_next_to_fail before) before.faults fails)
 
 -- they stay where it wasn't to fail
@@ -34,6 +38,8 @@ calm-after_call (Ok x) before after e fails =
 calm-after_call (Err d) before after e fails = tt
 
 -- and so where it failed
-pub cause-after_call : {T E : Type 0} (r : Result T E) (before after : PlanState) → after ≡ after_call before → is_err r ≡ is_next_to_fail before → OnErr r (Rose (min before.faults (2 ^ 64 - 1)) (min after.faults (2 ^ 64 - 1)))
+pub cause-after_call : {T E : Type 0} (r : Result T E) (before after : PlanState) → after ≡ after_call before
+    → is_err r ≡ is_next_to_fail before
+    → OnErr r (Rose (min before.faults (2 ^ 64 - 1)) (min after.faults (2 ^ 64 - 1)))
 cause-after_call (Ok x) before after e fails = tt
 cause-after_call (Err d) before after e fails = Rose-after_call before after e (sym fails)

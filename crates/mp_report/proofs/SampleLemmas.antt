@@ -8,7 +8,8 @@ use Rattle.mp_defs.specs.Series.{reading_of, series_of}
 use Rattle.mp_text.specs.SampleText.{sample_text}
 use Rattle.mp_replies.specs.WindowCommand.{samples_text}
 
-pub samples_more : (scale : ℕ) (samples : List Sample) (k : ℕ) (sample : Sample) → k < length samples → sample ≡ get_or samples k sample
+pub samples_more : (scale : ℕ) (samples : List Sample) (k : ℕ) (sample : Sample) → k < length samples
+    → sample ≡ get_or samples k sample
     → samples_text scale (series_of (take (k + 1) samples))
     ≡ samples_text scale (series_of (take k samples)) ++ (codes " " ++ sample_text scale (reading_of sample))
 samples_more scale samples k sample within is =
@@ -17,4 +18,5 @@ samples_more scale samples k sample within is =
     ap (λ (ss : List Sample). samples_text scale (series_of ss)) one
     ∙ (ap (samples_text scale) (map-append reading_of (take k samples) (sample ∷ []))
     ∙ (flat_map-append (λ s. codes " " ++ sample_text scale s) (series_of (take k samples)) (reading_of sample ∷ [])
-    ∙ ap (λ (t : List ℕ). samples_text scale (series_of (take k samples)) ++ t) (append-nil (codes " " ++ sample_text scale (reading_of sample)))))
+    ∙ ap (λ (t : List ℕ). samples_text scale (series_of (take k samples)) ++ t)
+    (append-nil (codes " " ++ sample_text scale (reading_of sample)))))

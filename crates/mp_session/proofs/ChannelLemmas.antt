@@ -21,7 +21,8 @@ empty_items : (channels : slots.Held) → AreEmpty channels → All (λ samples.
 empty_items [] h = All-nil (λ (samples : List Sample). length samples ≡ 0)
 empty_items (channel ∷ channels) h =
     All-cons (λ (samples : List Sample). length samples ≡ 0) channel.items (items_in channels)
-    (ap length (All-head IsEmpty channel channels h).items_are) (empty_items channels (All-tail IsEmpty channel channels h))
+    (ap length (All-head IsEmpty channel channels h).items_are)
+    (empty_items channels (All-tail IsEmpty channel channels h))
 
 empty_count : (channels : slots.Held) → AreEmpty channels → count_of (items_in channels) ≡ 0
 empty_count [] h = refl
@@ -37,13 +38,16 @@ empty_reads (channel ∷ channels) h =
 items_long : (channels : slots.Held) → length (items_in channels) ≡ length channels
 items_long channels = length-map channels (λ channel. channel.items)
 
-pub can_put_empty : (slot : ℕ) (channels : slots.Held) → slot < 8 → 1 ≤ length channels → length channels ≤ 8 → AreEmpty channels → CanPut slot channels
+pub can_put_empty : (slot : ℕ) (channels : slots.Held) → slot < 8 → 1 ≤ length channels → length channels ≤ 8
+    → AreEmpty channels → CanPut slot channels
 can_put_empty slot channels within some few empty = record {
   within = within;
   some = some;
   alike = record {
     few = omega (arith, few, items_long channels);
-    same = subst (λ (n : ℕ). All (λ samples. length samples ≡ n) (items_in channels)) (sym (empty_count channels empty)) (empty_items channels empty);
+    same =
+        subst (λ (n : ℕ). All (λ samples. length samples ≡ n) (items_in channels)) (sym (empty_count channels empty))
+        (empty_items channels empty);
   };
   unread = empty_reads channels empty;
 }

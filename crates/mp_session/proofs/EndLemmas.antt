@@ -9,7 +9,8 @@ pub ends_by : (line : List ℕ) (asked : Asked) → asked ≡ asked_of line → 
 unfolding ends
 ends_by line asked is = ap is_end (sym is)
 
-pub fetches_as : (state : State) (line : List ℕ) (asked : Asked) → asked ≡ asked_of line → fetches state line ≡ fetches_by state asked
+pub fetches_as : (state : State) (line : List ℕ) (asked : Asked) → asked ≡ asked_of line
+    → fetches state line ≡ fetches_by state asked
 unfolding fetches
 fetches_as state line asked is = ap (fetches_by state) (sym is)
 

@@ -38,48 +38,65 @@ use Rattle.mp_session.proofs.StepLemmas.{prepared_accepted, prepared_refused}
 
 -- ---- conditions behind others
 
-none_by : (holds : Bool) (word : Cause) (others more : List Condition) → (if holds then Some word else first_of others) ≡ None
+none_by : (holds : Bool) (word : Cause) (others more : List Condition)
+    → (if holds then Some word else first_of others) ≡ None
     → (first_of others ≡ None → first_of (others ++ more) ≡ first_of more)
     → (if holds then Some word else first_of (others ++ more)) ≡ first_of more
 none_by true word others more h rest = absurd (cc h)
 none_by false word others more h rest = rest h
 
-first_behind : (conditions more : List Condition) → first_of conditions ≡ None → first_of (conditions ++ more) ≡ first_of more
+first_behind : (conditions more : List Condition) → first_of conditions ≡ None
+    → first_of (conditions ++ more) ≡ first_of more
 first_behind [] more h = refl
-first_behind (condition ∷ others) more h = none_by condition.holds condition.word others more h (first_behind others more)
+first_behind (condition ∷ others) more h =
+    none_by condition.holds condition.word others more h (first_behind others more)
 
-some_by : (holds : Bool) (word cause : Cause) (others more : List Condition) → (if holds then Some word else first_of others) ≡ Some cause
+some_by : (holds : Bool) (word cause : Cause) (others more : List Condition)
+    → (if holds then Some word else first_of others) ≡ Some cause
     → (first_of others ≡ Some cause → first_of (others ++ more) ≡ Some cause)
     → (if holds then Some word else first_of (others ++ more)) ≡ Some cause
 some_by true word cause others more h rest = h
 some_by false word cause others more h rest = rest h
 
-first_before : (conditions more : List Condition) (cause : Cause) → first_of conditions ≡ Some cause → first_of (conditions ++ more) ≡ Some cause
+first_before : (conditions more : List Condition) (cause : Cause) → first_of conditions ≡ Some cause
+    → first_of (conditions ++ more) ≡ Some cause
 first_before [] more cause h = absurd (cc h)
-first_before (condition ∷ others) more cause h = some_by condition.holds condition.word cause others more h (first_before others more cause)
+first_before (condition ∷ others) more cause h =
+    some_by condition.holds condition.word cause others more h (first_before others more cause)
 
 -- ---- refusals
 
-pub load_refused : (state : State) (files : Files) (slot : ℕ) (file cols : List ℕ) (header : Bool) (cause : Cause) (prepared : Prepared)
-    → first_of (load_conditions state.stores slot cols) ≡ Some cause → prepared.answer ≡ Refused cause → prepared.change ≡ Keep
+pub load_refused : (state : State) (files : Files) (slot : ℕ) (file cols : List ℕ) (header : Bool) (cause : Cause)
+    (prepared : Prepared)
+    → first_of (load_conditions state.stores slot cols) ≡ Some cause → prepared.answer ≡ Refused cause
+    → prepared.change ≡ Keep
     → IsPrepared state files (Asks (asked.Load slot file cols header)) prepared
 load_refused state files slot file cols header cause prepared h answer kept =
     prepared_refused state files (asked.Load slot file cols header) cause prepared
-    (first_before (load_conditions state.stores slot cols) (file_conditions state.scale cols header (file_in files file)) cause h) answer kept
+    (first_before (load_conditions state.stores slot cols)
+    (file_conditions state.scale cols header (file_in files file)) cause h)
+    answer kept
 
-pub file_refused : (state : State) (files : Files) (slot : ℕ) (file cols : List ℕ) (header : Bool) (cause : Cause) (prepared : Prepared)
-    → first_of (load_conditions state.stores slot cols) ≡ None → first_of (file_conditions state.scale cols header (file_in files file)) ≡ Some cause
-    → prepared.answer ≡ Refused cause → prepared.change ≡ Keep → IsPrepared state files (Asks (asked.Load slot file cols header)) prepared
+pub file_refused : (state : State) (files : Files) (slot : ℕ) (file cols : List ℕ) (header : Bool) (cause : Cause)
+    (prepared : Prepared)
+    → first_of (load_conditions state.stores slot cols) ≡ None
+    → first_of (file_conditions state.scale cols header (file_in files file)) ≡ Some cause
+    → prepared.answer ≡ Refused cause → prepared.change ≡ Keep
+    → IsPrepared state files (Asks (asked.Load slot file cols header)) prepared
 file_refused state files slot file cols header cause prepared h is answer kept =
     prepared_refused state files (asked.Load slot file cols header) cause prepared
-    (first_behind (load_conditions state.stores slot cols) (file_conditions state.scale cols header (file_in files file)) h ∙ is) answer kept
+    (first_behind (load_conditions state.stores slot cols)
+    (file_conditions state.scale cols header (file_in files file)) h
+    ∙ is)
+    answer kept
 
 pub absent_file : (scale : ℕ) (cols : List ℕ) (header : Bool) (found : Option (List ℕ)) → found ≡ None
     → first_of (file_conditions scale cols header found) ≡ Some cause.File
 absent_file scale cols header None h = refl
 absent_file scale cols header (Some bytes) h = absurd (cc h)
 
-pub large_file : (scale : ℕ) (cols : List ℕ) (header : Bool) (found : Option (List ℕ)) → IsSomeAnd found (λ bytes. max_file < length bytes)
+pub large_file : (scale : ℕ) (cols : List ℕ) (header : Bool) (found : Option (List ℕ))
+    → IsSomeAnd found (λ bytes. max_file < length bytes)
     → first_of (file_conditions scale cols header found) ≡ Some cause.FileSize
 large_file scale cols header None h = absurd h
 large_file scale cols header (Some bytes) h =
@@ -87,7 +104,8 @@ large_file scale cols header (Some bytes) h =
     rw large refl
 
 pub faulty_file : (scale : ℕ) (cols : List ℕ) (header : Bool) (bytes : List ℕ) (why : Fault) → length bytes ≤ max_file
-    → table_in scale cols header bytes ≡ Err why → first_of (file_conditions scale cols header (Some bytes)) ≡ Some (cause_by why)
+    → table_in scale cols header bytes ≡ Err why
+    → first_of (file_conditions scale cols header (Some bytes)) ≡ Some (cause_by why)
 faulty_file scale cols header bytes (BadField number column fault) small is =
     let fits : nat_lt max_file (length bytes) ≡ false = grind (arith, nat_tests) in
     rw (fits, is) refl
@@ -98,23 +116,28 @@ faulty_file scale cols header bytes TooManyRows small is =
     let fits : nat_lt max_file (length bytes) ≡ false = grind (arith, nat_tests) in
     rw (fits, is) refl
 
-told_by : (said : Option Fault) (cause : Cause) → Some cause ≡ option_map cause_by said → (why : Fault) × (said ≡ Some why) × (cause ≡ cause_by why)
+told_by : (said : Option Fault) (cause : Cause) → Some cause ≡ option_map cause_by said
+    → (why : Fault) × (said ≡ Some why) × (cause ≡ cause_by why)
 told_by None cause h = absurd (cc h)
 told_by (Some why) cause h = (why, refl, cc)
 
 -- a table that is refused
-pub table_refused : (state : State) (files : Files) (slot : ℕ) (file cols : List ℕ) (header : Bool) (bytes : List ℕ) (fault : TableFault) (cause : Cause) (prepared : Prepared)
-    → first_of (load_conditions state.stores slot cols) ≡ None → file_in files file ≡ Some bytes → length bytes ≤ max_file
+pub table_refused : (state : State) (files : Files) (slot : ℕ) (file cols : List ℕ) (header : Bool) (bytes : List ℕ)
+    (fault : TableFault) (cause : Cause) (prepared : Prepared)
+    → first_of (load_conditions state.stores slot cols) ≡ None → file_in files file ≡ Some bytes
+    → length bytes ≤ max_file
     → ((why : Fault) → told fault ≡ Some why → table_of state.scale cols (data_records header bytes) ≡ Err why)
     → Some cause ≡ option_map cause_by (told fault)
-    → prepared.answer ≡ Refused cause → prepared.change ≡ Keep → IsPrepared state files (Asks (asked.Load slot file cols header)) prepared
+    → prepared.answer ≡ Refused cause → prepared.change ≡ Keep
+    → IsPrepared state files (Asks (asked.Load slot file cols header)) prepared
 table_refused state files slot file cols header bytes fault cause prepared none found small faulty named answer kept =
     let why = told_by (told fault) cause named in
     file_refused state files slot file cols header cause prepared none
     (ap (λ o. first_of (file_conditions state.scale cols header o)) found
     ∙ (faulty_file state.scale cols header bytes why.0 small (faulty why.0 why.1) ∙ ap Some (sym why.2))) answer kept
 
-pub good_file : (scale : ℕ) (cols : List ℕ) (header : Bool) (bytes : List ℕ) (series : List Series) → length bytes ≤ max_file
+pub good_file : (scale : ℕ) (cols : List ℕ) (header : Bool) (bytes : List ℕ) (series : List Series)
+    → length bytes ≤ max_file
     → table_in scale cols header bytes ≡ Ok series → first_of (file_conditions scale cols header (Some bytes)) ≡ None
 good_file scale cols header bytes series small is =
     let fits : nat_lt max_file (length bytes) ≡ false = grind (arith, nat_tests) in
@@ -122,7 +145,8 @@ good_file scale cols header bytes series small is =
 
 -- ---- the shape of a table
 
-onto_long : {A : Type 0} (x : A) (others : Option (List A)) (ys : List A) (count : ℕ) → onto_some (Some x) others ≡ Some ys
+onto_long : {A : Type 0} (x : A) (others : Option (List A)) (ys : List A) (count : ℕ)
+    → onto_some (Some x) others ≡ Some ys
     → ((more : List A) → others ≡ Some more → length more ≡ count) → length ys ≡ count + 1
 onto_long x None ys count h rest = absurd (cc h)
 onto_long x (Some more) ys count h rest =
@@ -157,10 +181,13 @@ few_columns field cols h =
     let by = columns_by field cols (nat_le (length (values_in field)) max_channels) refl h in
     omega (arith, by.0, by.1)
 
-rows_few_by : (scale number : ℕ) (cols : List ℕ) (fields : Fields) (recs : List Fields) (rows : List Row) (over : Bool) → number == max_samples + 1 ≡ over
+rows_few_by : (scale number : ℕ) (cols : List ℕ) (fields : Fields) (recs : List Fields) (rows : List Row) (over : Bool)
+    → number == max_samples + 1 ≡ over
     → number ≤ max_samples + 1
-    → (if over then Err TooManyRows else onto (row_of scale number fields cols) (rows_of scale cols (number + 1) recs)) ≡ Ok rows
-    → ((rest : List Row) → number + 1 ≤ max_samples + 1 → rows_of scale cols (number + 1) recs ≡ Ok rest → number + 1 + length rest ≤ max_samples + 1)
+    → (if over then Err TooManyRows else onto (row_of scale number fields cols) (rows_of scale cols (number + 1) recs))
+    ≡ Ok rows
+    → ((rest : List Row) → number + 1 ≤ max_samples + 1 → rows_of scale cols (number + 1) recs ≡ Ok rest
+    → number + 1 + length rest ≤ max_samples + 1)
     → number + length rows ≤ max_samples + 1
 rows_few_by scale number cols fields recs rows true is low h more = absurd (cc h)
 rows_few_by scale number cols fields recs rows false is low h more =
@@ -183,68 +210,93 @@ pub record IsTable (cols : List ℕ) (series : List Series) : Type 0 where
   pub few : length rows ≤ max_samples
   pub series_are : series ≡ columns_of (length cols) rows
 
-table_by : (scale : ℕ) (cols : List ℕ) (recs : List Fields) (series : List Series) (read : Result (List Row) Fault) → rows_of scale cols 1 recs ≡ read
+table_by : (scale : ℕ) (cols : List ℕ) (recs : List Fields) (series : List Series) (read : Result (List Row) Fault)
+    → rows_of scale cols 1 recs ≡ read
     → table_of scale cols recs ≡ Ok series → IsTable cols series
 table_by scale cols recs series (Ok rows) is h =
     let whole : Ok (columns_of (length cols) rows) ≡ Ok series = rw is at h in
     record { rows = rows; few = omega (arith, rows_few scale 1 cols recs rows (omega arith) is); series_are = cc }
 table_by scale cols recs series (Err fault) is h = let none : Err fault ≡ Ok series = rw is at h in absurd (cc none)
 
-pub table_is : (scale : ℕ) (cols : List ℕ) (recs : List Fields) (series : List Series) → table_of scale cols recs ≡ Ok series → IsTable cols series
+pub table_is : (scale : ℕ) (cols : List ℕ) (recs : List Fields) (series : List Series)
+    → table_of scale cols recs ≡ Ok series → IsTable cols series
 table_is scale cols recs series h = table_by scale cols recs series (rows_of scale cols 1 recs) refl h
 
-pub even_table : (cols : List ℕ) (bundle : List (List Sample)) (t : IsTable cols (map series_of bundle)) → All (λ samples. length samples ≡ length t.rows) bundle
+pub even_table : (cols : List ℕ) (bundle : List (List Sample)) (t : IsTable cols (map series_of bundle))
+    → All (λ samples. length samples ≡ length t.rows) bundle
 even_table cols bundle t =
-    same_lengths bundle (columns_of (length cols) t.rows) (length t.rows) t.series_are (even_columns t.rows (range_with_len 0 (length cols)))
+    same_lengths bundle (columns_of (length cols) t.rows) (length t.rows) t.series_are
+    (even_columns t.rows (range_with_len 0 (length cols)))
 
-pub table_long : (cols : List ℕ) (bundle : List (List Sample)) → IsTable cols (map series_of bundle) → length bundle ≡ length cols
+pub table_long : (cols : List ℕ) (bundle : List (List Sample)) → IsTable cols (map series_of bundle)
+    → length bundle ≡ length cols
 table_long cols bundle t =
-    sym (length-map bundle series_of) ∙ (ap length t.series_are ∙ length-map-range_with_len (λ k. map (λ (row : Row). slice_index_or row k None) t.rows) 0 (length cols))
+    sym (length-map bundle series_of)
+    ∙ (ap length t.series_are
+    ∙ length-map-range_with_len (λ k. map (λ (row : Row). slice_index_or row k None) t.rows) 0 (length cols))
 
-count_first : (bundle : List (List Sample)) (count : ℕ) → 1 ≤ length bundle → All (λ samples. length samples ≡ count) bundle → count_of bundle ≡ count
+count_first : (bundle : List (List Sample)) (count : ℕ) → 1 ≤ length bundle
+    → All (λ samples. length samples ≡ count) bundle → count_of bundle ≡ count
 count_first [] count some all = absurd (omega (arith, some))
 count_first (samples ∷ bundle) count some all = All-head (λ (s : List Sample). length s ≡ count) samples bundle all
 
 -- ---- what is put
 
-pub can_put_table : (slot : ℕ) (cols : List ℕ) (bundle : List (List Sample)) (channels : slots.Held) → slot < 8 → 1 ≤ length cols → length cols ≤ 8
+pub can_put_table : (slot : ℕ) (cols : List ℕ) (bundle : List (List Sample)) (channels : slots.Held) → slot < 8
+    → 1 ≤ length cols → length cols ≤ 8
     → IsTable cols (map series_of bundle) → items_in channels ≡ bundle → reads_in channels ≡ 0 → CanPut slot channels
 can_put_table slot cols bundle channels within some few t items unread =
     let long = table_long cols bundle t in
-    let count : length channels ≡ length bundle = sym (length-map channels (λ channel. channel.items)) ∙ ap length items in
+    let count : length channels ≡ length bundle =
+    sym (length-map channels (λ channel. channel.items)) ∙ ap length items in
     let even = even_table cols bundle t in
     record {
       within = within;
       some = omega (arith, some, long, count);
       alike = rw items (record {
         few = omega (arith, few, long);
-        same = subst (λ (n : ℕ). All (λ samples. length samples ≡ n) bundle) (sym (count_first bundle (length t.rows) (omega (arith, some, long)) even)) even;
+        same =
+            subst (λ (n : ℕ). All (λ samples. length samples ≡ n) bundle)
+            (sym (count_first bundle (length t.rows) (omega (arith, some, long)) even)) even;
       });
       unread = unread;
     }
 
-samples_first : (bundle : List (List Sample)) (first : List Sample) → slice_get bundle 0 ≡ Some first → samples_in (map series_of bundle) ≡ length first
+samples_first : (bundle : List (List Sample)) (first : List Sample) → slice_get bundle 0 ≡ Some first
+    → samples_in (map series_of bundle) ≡ length first
 samples_first [] first h = absurd (cc h)
-samples_first (samples ∷ bundle) first h = let same : samples ≡ first = cc in length-map samples reading_of ∙ ap length same
+samples_first (samples ∷ bundle) first h =
+    let same : samples ≡ first = cc in length-map samples reading_of ∙ ap length same
 
-pub loaded : (state : State) (files : Files) (slot : ℕ) (file cols : List ℕ) (header : Bool) (bytes : List ℕ) (bundle : List (List Sample)) (first : List Sample) (samples : ℕ) (prepared : Prepared)
-    → slot < length state.stores → first_of (load_conditions state.stores slot cols) ≡ None → file_in files file ≡ Some bytes → length bytes ≤ max_file
-    → table_in state.scale cols header bytes ≡ Ok (map series_of bundle) → slice_get bundle 0 ≡ Some first → samples ≡ length first
-    → prepared.answer ≡ Accepted (reports.Load samples) → changed_by prepared.change ≡ change.PutChannels slot (map series_of bundle)
+pub loaded : (state : State) (files : Files) (slot : ℕ) (file cols : List ℕ) (header : Bool) (bytes : List ℕ)
+    (bundle : List (List Sample)) (first : List Sample) (samples : ℕ) (prepared : Prepared)
+    → slot < length state.stores → first_of (load_conditions state.stores slot cols) ≡ None
+    → file_in files file ≡ Some bytes → length bytes ≤ max_file
+    → table_in state.scale cols header bytes ≡ Ok (map series_of bundle) → slice_get bundle 0 ≡ Some first
+    → samples ≡ length first
+    → prepared.answer ≡ Accepted (reports.Load samples)
+    → changed_by prepared.change ≡ change.PutChannels slot (map series_of bundle)
     → IsPrepared state files (Asks (asked.Load slot file cols header)) prepared
-loaded state files slot file cols header bytes bundle first samples prepared within none found small table first_is count answer put =
+loaded state files slot file cols header bytes bundle first samples prepared within none found small table first_is
+    count answer put =
     let channels : channels_of state.scale cols header (file_in files file) ≡ map series_of bundle =
     ap (channels_of state.scale cols header) found ∙ ap series_in table in
     let behind : samples_in (channels_of state.scale cols header (file_in files file)) ≡ samples =
     ap samples_in channels ∙ (samples_first bundle first first_is ∙ sym count) in
     prepared_accepted state files (asked.Load slot file cols header) (reports.Load samples) prepared
-    (first_behind (load_conditions state.stores slot cols) (file_conditions state.scale cols header (file_in files file)) none
-    ∙ (ap (λ found. first_of (file_conditions state.scale cols header found)) found ∙ good_file state.scale cols header bytes (map series_of bundle) small table))
+    (first_behind (load_conditions state.stores slot cols)
+    (file_conditions state.scale cols header (file_in files file)) none
+    ∙ (ap (λ found. first_of (file_conditions state.scale cols header found)) found
+    ∙ good_file state.scale cols header bytes (map series_of bundle) small table))
     refl answer
-    (ap replies.LoadReport (sym (ap samples_in (channels_put state.stores slot (channels_of state.scale cols header (file_in files file)) within) ∙ behind)))
+    (ap replies.LoadReport
+    (sym (ap samples_in
+    (channels_put state.stores slot (channels_of state.scale cols header (file_in files file)) within)
+    ∙ behind)))
     (put ∙ ap (change.PutChannels slot) (sym channels))
 
-pub got : (lists : List (List Sample)) (k : ℕ) (samples : List Sample) → slice_get lists k ≡ Some samples → slice_index_or lists k [] ≡ samples
+pub got : (lists : List (List Sample)) (k : ℕ) (samples : List Sample) → slice_get lists k ≡ Some samples
+    → slice_index_or lists k [] ≡ samples
 got [] k samples h = absurd (cc h)
 got (first ∷ lists) zero samples h = cc
 got (first ∷ lists) (suc k) samples h = got lists k samples h

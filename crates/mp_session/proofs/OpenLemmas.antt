@@ -15,7 +15,8 @@ use Rattle.mp_session.specs.declared.prepared.Prepared.{Prepared}
 use Rattle.mp_session.specs.Preparing.{IsPrepared, changed_by}
 use Rattle.mp_session.proofs.StepLemmas.{prepared_accepted}
 
-pub channels_put : (stores : List Store) (slot : ℕ) (channels : List Series) → slot < length stores → channels_at (slice_set stores slot (Open channels)) slot ≡ channels
+pub channels_put : (stores : List Store) (slot : ℕ) (channels : List Series) → slot < length stores
+    → channels_at (slice_set stores slot (Open channels)) slot ≡ channels
 channels_put [] slot channels h = absurd (omega (arith, h))
 channels_put (store ∷ stores) zero channels h = refl
 channels_put (store ∷ stores) (suc slot) channels h = channels_put stores slot channels (omega (arith, h))
@@ -25,14 +26,16 @@ no_samples zero = refl
 no_samples (suc count) = refl
 
 -- nor has a slot that such channels are put into
-none_put : (stores : List Store) (slot count : ℕ) → samples_in (channels_at (slice_set stores slot (Open (replicate count []))) slot) ≡ 0
+none_put : (stores : List Store) (slot count : ℕ)
+    → samples_in (channels_at (slice_set stores slot (Open (replicate count []))) slot) ≡ 0
 none_put [] slot count = refl
 none_put (store ∷ stores) zero count = no_samples count
 none_put (store ∷ stores) (suc slot) count = none_put stores slot count
 
 pub opened : (state : State) (files : Files) (slot count : ℕ) (prepared : Prepared)
     → first_of (open_conditions slot count) ≡ None → prepared.answer ≡ Accepted (reports.Open 0)
-    → changed_by prepared.change ≡ change.PutChannels slot (replicate count []) → IsPrepared state files (Asks (asked.OpenSlot slot count)) prepared
+    → changed_by prepared.change ≡ change.PutChannels slot (replicate count [])
+    → IsPrepared state files (Asks (asked.OpenSlot slot count)) prepared
 opened state files slot count prepared none answer put =
     prepared_accepted state files (asked.OpenSlot slot count) (reports.Open 0) prepared none refl answer
     (ap replies.OpenReport (sym (none_put state.stores slot count))) put

@@ -26,21 +26,25 @@ state_after-append state files (line ∷ ran) more = state_after-append (after s
 pub replies-append : (state : State) (files : Files) (ran more : List (List ℕ))
     → replies state files (ran ++ more) ≡ replies state files ran ++ replies (state_after state files ran) files more
 replies-append state files [] more = refl
-replies-append state files (line ∷ ran) more = ap (λ rs. reply state line files ∷ rs) (replies-append (after state line files) files ran more)
+replies-append state files (line ∷ ran) more =
+    ap (λ rs. reply state line files ∷ rs) (replies-append (after state line files) files ran more)
 
 pub some_refused-append : (state : State) (files : Files) (ran more : List (List ℕ))
-    → some_refused state files (ran ++ more) ≡ (some_refused state files ran || some_refused (state_after state files ran) files more)
+    → some_refused state files (ran ++ more)
+    ≡ (some_refused state files ran || some_refused (state_after state files ran) files more)
 some_refused-append state files [] more = refl
 some_refused-append state files (line ∷ ran) more =
     ap (λ b. is_some (cause state line files) || b) (some_refused-append (after state line files) files ran more)
-    ∙ sym (or_assoc (is_some (cause state line files)) (some_refused (after state line files) files ran) (some_refused (state_after (after state line files) files ran) files more))
+    ∙ sym (or_assoc (is_some (cause state line files)) (some_refused (after state line files) files ran)
+    (some_refused (state_after (after state line files) files ran) files more))
 
 pub some_ends-append : (ran more : List (List ℕ)) → some_ends (ran ++ more) ≡ (some_ends ran || some_ends more)
 some_ends-append [] more = refl
 some_ends-append (line ∷ ran) more =
     ap (λ b. ends line || b) (some_ends-append ran more) ∙ sym (or_assoc (ends line) (some_ends ran) (some_ends more))
 
-pub until_end-append : (ran more : List (List ℕ)) → some_ends ran ≡ false → until_end (ran ++ more) ≡ ran ++ until_end more
+pub until_end-append : (ran more : List (List ℕ)) → some_ends ran ≡ false
+    → until_end (ran ++ more) ≡ ran ++ until_end more
 until_end-append [] more goes_on = refl
 until_end-append (line ∷ ran) more goes_on =
     let parts = or_parts (ends line) (some_ends ran) goes_on in
@@ -55,11 +59,13 @@ until_end-one line = ⊎_elim
 -- ---- files
 
 pub some_fetch-append : (state : State) (files : Files) (ran more : List (List ℕ))
-    → some_fetch state files (ran ++ more) ≡ (some_fetch state files ran || some_fetch (state_after state files ran) files more)
+    → some_fetch state files (ran ++ more)
+    ≡ (some_fetch state files ran || some_fetch (state_after state files ran) files more)
 some_fetch-append state files [] more = refl
 some_fetch-append state files (line ∷ ran) more =
     ap (λ b. fetches state line || b) (some_fetch-append (after state line files) files ran more)
-    ∙ sym (or_assoc (fetches state line) (some_fetch (after state line files) files ran) (some_fetch (state_after (after state line files) files ran) files more))
+    ∙ sym (or_assoc (fetches state line) (some_fetch (after state line files) files ran)
+    (some_fetch (state_after (after state line files) files ran) files more))
 
 -- what is told for all lines is told for the first of them
 pub told_first : {told : Option Files} (state : State) (files : Files) (ran more : List (List ℕ))
@@ -69,7 +75,8 @@ told_first state files ran more t = λ asks. t (some_fetch-append state files ra
 -- and for those behind them
 pub told_then : {told : Option Files} (state : State) (files : Files) (ran more : List (List ℕ))
     → ToldForAll told state files (ran ++ more) → ToldForAll told (state_after state files ran) files more
-told_then state files ran more t = λ asks. t (some_fetch-append state files ran more ∙ rw asks (or-true (some_fetch state files ran)))
+told_then state files ran more t = λ asks.
+    t (some_fetch-append state files ran more ∙ rw asks (or-true (some_fetch state files ran)))
 
 pub told_line : {told : Option Files} (state : State) (files : Files) (line : List ℕ)
     → ToldForAll told state files (line ∷ []) → ToldFor told state (asked_of line) files
@@ -87,7 +94,8 @@ have_run_none told session = record {
 }
 
 -- the session stopped at a line, and is as before
-pub have_run_stopped : (told : Option Files) (old new : Held) → ((state : State) → StandsFor old state → StandsFor new state)
+pub have_run_stopped : (told : Option Files) (old new : Held)
+    → ((state : State) → StandsFor old state → StandsFor new state)
     → new.lines ≡ old.lines → HaveRun told [] [] old new false
 have_run_stopped told old new stop count = record {
   texts_are = λ state files h t. refl;
@@ -96,14 +104,18 @@ have_run_stopped told old new stop count = record {
   count = omega (arith, count);
 }
 
-pub have_run_on : {told : Option Files} {lines more texts others : List (List ℕ)} {old mid new : Held} {refused later : Bool}
+pub have_run_on : {told : Option Files} {lines more texts others : List (List ℕ)} {old mid new : Held}
+    {refused later : Bool}
     → HaveRun told lines texts old mid refused → HaveRun told more others mid new later
     → HaveRun told (lines ++ more) (texts ++ others) old new (refused || later)
 have_run_on {told} {lines} {more} {texts} {others} {old} {mid} {new} {refused} {later} one two = record {
   texts_are = λ state files h t.
       let first = told_first state files lines more t in
       let then = told_then state files lines more t in
-      rw (one.texts_are state files h first, two.texts_are (state_after state files lines) files (one.stands state files h first) then)
+      rw (
+        one.texts_are state files h first,
+        two.texts_are (state_after state files lines) files (one.stands state files h first) then,
+      )
       (sym (replies-append state files lines more));
   stands = λ state files h t.
       let first = told_first state files lines more t in
@@ -113,15 +125,21 @@ have_run_on {told} {lines} {more} {texts} {others} {old} {mid} {new} {refused} {
   refused_is = λ state files h t.
       let first = told_first state files lines more t in
       let then = told_then state files lines more t in
-      rw (one.refused_is state files h first, two.refused_is (state_after state files lines) files (one.stands state files h first) then)
+      rw (
+        one.refused_is state files h first,
+        two.refused_is (state_after state files lines) files (one.stands state files h first) then,
+      )
       (sym (some_refused-append state files lines more));
   count = omega (arith, one.count, two.count, length-append lines more);
 }
 
 pub have_run_one : (told : Option Files) (line text : List ℕ) (old new : Held) (refused : Bool)
-    → ((state : State) (files : Files) → StandsFor old state → ToldForAll told state files (line ∷ []) → text ≡ reply state line files)
-    → ((state : State) (files : Files) → StandsFor old state → ToldForAll told state files (line ∷ []) → StandsFor new (after state line files))
-    → ((state : State) (files : Files) → StandsFor old state → ToldForAll told state files (line ∷ []) → refused ≡ is_some (cause state line files))
+    → ((state : State) (files : Files) → StandsFor old state → ToldForAll told state files (line ∷ [])
+    → text ≡ reply state line files)
+    → ((state : State) (files : Files) → StandsFor old state → ToldForAll told state files (line ∷ [])
+    → StandsFor new (after state line files))
+    → ((state : State) (files : Files) → StandsFor old state → ToldForAll told state files (line ∷ [])
+    → refused ≡ is_some (cause state line files))
     → new.lines ≡ old.lines + 1 → HaveRun told (line ∷ []) (text ∷ []) old new refused
 have_run_one told line text old new refused text_is later is count = record {
   texts_are = λ state files h t. ap (λ (r : List ℕ). r ∷ []) (text_is state files h t);
@@ -137,7 +155,8 @@ module _ {Out : Type 0} {sink : Ghosts Out} where
   were_run_none told course = record { texts = []; run = have_run_none told course.session; wrote = none }
 
   pub were_run_on : {told : Option Files} {lines more : List (List ℕ)} {old mid new : Course Out} {refused later : Bool}
-      → WereRun sink told lines old mid refused → WereRun sink told more mid new later → WereRun sink told (lines ++ more) old new (refused || later)
+      → WereRun sink told lines old mid refused → WereRun sink told more mid new later
+      → WereRun sink told (lines ++ more) old new (refused || later)
   were_run_on one two = record {
     texts = one.texts ++ two.texts;
     run = have_run_on one.run two.run;

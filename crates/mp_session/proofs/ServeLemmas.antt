@@ -29,7 +29,8 @@ use Rattle.mp_session.specs.Serving.{AreFirst, RanAll, RanEnded, RanInto, RanSom
 use Rattle.mp_session.proofs.RunLemmas.{not_both, replies-append, some_fetch-append, told_first, told_then}
 
 -- all of the text is a front of it
-pub whole_text : (now : Option (List ℕ)) (before text : List ℕ) → now ≡ Some (before ++ text) → TellsPrefix now before text
+pub whole_text : (now : Option (List ℕ)) (before text : List ℕ) → now ≡ Some (before ++ text)
+    → TellsPrefix now before text
 whole_text now before text told =
     (length text, omega arith, told ∙ ap (λ t. Some (before ++ t)) (sym (take_all (length text) text (omega arith))))
 
@@ -39,7 +40,8 @@ pub ok_on : {T E : Type 0} {P : T → Type 0} {Q : Type 0} (r : Result T E) → 
 ok_on (Ok x) p f = f x p
 ok_on (Err e) p f = tt
 
-pub by_outcome : {R : Type 0} {A : Bool → Type 0} {B C D E F : Type 0} (r : Result Bool Halt) → IfOk r A → (IsErrOf r halts.ReadFault → B)
+pub by_outcome : {R : Type 0} {A : Bool → Type 0} {B C D E F : Type 0} (r : Result Bool Halt) → IfOk r A
+    → (IsErrOf r halts.ReadFault → B)
     → (IsErrOf r halts.InputLimit → C) → (IsErrOf r halts.Memory → D) → (IsErrOf r halts.WriteFault → E)
     → (IsErrOf r halts.ShelfFault → F)
     → ((x : Bool) → A x → R) → (B → R) → (C → R) → (D → R) → (E → R) → (F → R) → R
@@ -52,29 +54,37 @@ by_outcome (Err halts.ShelfFault) a b c d e n f g h k l m = m (n refl)
 
 -- ---- lines that are cut
 
-replies_cut : (state : State) (files : Files) (ran : List (List ℕ)) → replies state files (map cut ran) ≡ replies state files ran
+replies_cut : (state : State) (files : Files) (ran : List (List ℕ))
+    → replies state files (map cut ran) ≡ replies state files ran
 replies_cut state files [] = refl
 replies_cut state files (line ∷ ran) =
-    rw (reply_cut state files line, after_cut state files line) (ap (λ rs. reply state line files ∷ rs) (replies_cut (after state line files) files ran))
+    rw (reply_cut state files line, after_cut state files line)
+    (ap (λ rs. reply state line files ∷ rs) (replies_cut (after state line files) files ran))
 
-state_after_cut : (state : State) (files : Files) (ran : List (List ℕ)) → state_after state files (map cut ran) ≡ state_after state files ran
+state_after_cut : (state : State) (files : Files) (ran : List (List ℕ))
+    → state_after state files (map cut ran) ≡ state_after state files ran
 state_after_cut state files [] = refl
 state_after_cut state files (line ∷ ran) =
-    ap (λ s. state_after s files (map cut ran)) (after_cut state files line) ∙ state_after_cut (after state line files) files ran
+    ap (λ s. state_after s files (map cut ran)) (after_cut state files line)
+    ∙ state_after_cut (after state line files) files ran
 
-some_refused_cut : (state : State) (files : Files) (ran : List (List ℕ)) → some_refused state files (map cut ran) ≡ some_refused state files ran
+some_refused_cut : (state : State) (files : Files) (ran : List (List ℕ))
+    → some_refused state files (map cut ran) ≡ some_refused state files ran
 some_refused_cut state files [] = refl
 some_refused_cut state files (line ∷ ran) =
-    rw (cause_cut state files line, after_cut state files line) (ap (λ b. is_some (cause state line files) || b) (some_refused_cut (after state line files) files ran))
+    rw (cause_cut state files line, after_cut state files line)
+    (ap (λ b. is_some (cause state line files) || b) (some_refused_cut (after state line files) files ran))
 
 some_ends_cut : (ran : List (List ℕ)) → some_ends (map cut ran) ≡ some_ends ran
 some_ends_cut [] = refl
 some_ends_cut (line ∷ ran) = rw (ends_cut line) (ap (λ b. ends line || b) (some_ends_cut ran))
 
-some_fetch_cut : (state : State) (files : Files) (ran : List (List ℕ)) → some_fetch state files (map cut ran) ≡ some_fetch state files ran
+some_fetch_cut : (state : State) (files : Files) (ran : List (List ℕ))
+    → some_fetch state files (map cut ran) ≡ some_fetch state files ran
 some_fetch_cut state files [] = refl
 some_fetch_cut state files (line ∷ ran) =
-    rw (fetches_cut state line, after_cut state files line) (ap (λ b. fetches state line || b) (some_fetch_cut (after state line files) files ran))
+    rw (fetches_cut state line, after_cut state files line)
+    (ap (λ b. fetches state line || b) (some_fetch_cut (after state line files) files ran))
 
 until_end_cut : (ran : List (List ℕ)) → until_end (map cut ran) ≡ map cut (until_end ran)
 until_end_cut [] = refl
@@ -87,11 +97,13 @@ until_end_cut (line ∷ ran) = rw (ends_cut line) (⊎_elim
 run_of : (bytes : List ℕ) → until_end (lines_left nothing bytes) ≡ map cut (lines_run bytes)
 run_of bytes = until_end_cut (lines bytes)
 
-output_of : (state : State) (files : Files) (bytes : List ℕ) → session_output state files bytes ≡ concat (replies state files (map cut (lines_run bytes)))
+output_of : (state : State) (files : Files) (bytes : List ℕ)
+    → session_output state files bytes ≡ concat (replies state files (map cut (lines_run bytes)))
 output_of state files bytes = ap concat (sym (replies_cut state files (lines_run bytes)))
 
 -- where one of the first lines asks for a file, one of all lines does
-fetched_in : {Out : Type 0} {ran : List (List ℕ)} {old : Course Out} → AreFirst ran old → (state : State) (files : Files) (bytes : List ℕ)
+fetched_in : {Out : Type 0} {ran : List (List ℕ)} {old : Course Out} → AreFirst ran old
+    → (state : State) (files : Files) (bytes : List ℕ)
     → old.left ≡ Some bytes → some_fetch state files ran ≡ true → some_fetch state files (lines_run bytes) ≡ true
 fetched_in {ran = ran} first state files bytes e asks =
     let more = first.more bytes e in
@@ -100,23 +112,28 @@ fetched_in {ran = ran} first state files bytes e asks =
     ∙ (some_fetch-append state files ran more.0 ∙ rw asks refl))
 
 -- where the files are told for the whole run, they are for its first lines
-told_in : {Out : Type 0} {told : Option Files} {ran : List (List ℕ)} {old : Course Out} → AreFirst ran old → (state : State) (files : Files) (bytes : List ℕ)
+told_in : {Out : Type 0} {told : Option Files} {ran : List (List ℕ)} {old : Course Out} → AreFirst ran old
+    → (state : State) (files : Files) (bytes : List ℕ)
     → old.left ≡ Some bytes → ToldForRun told state files bytes → ToldForAll told state files ran
 told_in first state files bytes e t =
     λ asks. t (fetched_in first state files bytes e asks)
 
 -- ---- what was written is a front of the output
 
-front_within : (now : Option (List ℕ)) (before front others text : List ℕ) → text ≡ front ++ others → TellsPrefix now before front → TellsPrefix now before text
+front_within : (now : Option (List ℕ)) (before front others text : List ℕ) → text ≡ front ++ others
+    → TellsPrefix now before front → TellsPrefix now before text
 front_within now before front others text whole told = (
   told.0,
   omega (arith, ap length whole, length-append front others, told.1),
-  told.2 ∙ ap (λ t. Some (before ++ t)) (sym (take-append-le told.0 front others told.1) ∙ ap (take told.0) (sym whole)),
+  told.2
+      ∙ ap (λ t. Some (before ++ t)) (sym (take-append-le told.0 front others told.1) ∙ ap (take told.0) (sym whole)),
 )
 
 -- the output is what the first lines report, and others
-first_texts : {Out : Type 0} {ran texts : List (List ℕ)} {old : Course Out} → AreFirst ran old → (state : State) (files : Files) (bytes : List ℕ)
-    → old.left ≡ Some bytes → texts ≡ replies state files ran → (others : List ℕ) × (session_output state files bytes ≡ concat texts ++ others)
+first_texts : {Out : Type 0} {ran texts : List (List ℕ)} {old : Course Out} → AreFirst ran old
+    → (state : State) (files : Files) (bytes : List ℕ)
+    → old.left ≡ Some bytes → texts ≡ replies state files ran
+    → (others : List ℕ) × (session_output state files bytes ≡ concat texts ++ others)
 first_texts {ran = ran} {texts = texts} first state files bytes e texts_are =
     let more = first.more bytes e in
     let rest = replies (state_after state files ran) files more.0 in (
@@ -129,24 +146,36 @@ first_texts {ran = ran} {texts = texts} first state files bytes e texts_are =
     )
 
 module _ {Out : Type 0} {sink : Ghosts Out} {shelf : Option Files} where
-  told_front : {ran : List (List ℕ)} {old new : Course Out} {refused : Bool} (run : WereRun sink shelf ran old new refused) → AreFirst ran old
-      → (state : State) (files : Files) (bytes before : List ℕ) → StandsFor old.session state → ToldForRun shelf state files bytes → old.left ≡ Some bytes
-      → sink.written old.out ≡ Some before → length before + length (session_output state files bytes) ≤ sink.room old.out
+  told_front : {ran : List (List ℕ)} {old new : Course Out} {refused : Bool}
+      (run : WereRun sink shelf ran old new refused) → AreFirst ran old
+      → (state : State) (files : Files) (bytes before : List ℕ) → StandsFor old.session state
+      → ToldForRun shelf state files bytes → old.left ≡ Some bytes
+      → sink.written old.out ≡ Some before
+      → length before + length (session_output state files bytes) ≤ sink.room old.out
       → sink.written new.out ≡ Some (before ++ concat run.texts)
   told_front run first state files bytes before h t e w fits =
-      let others = first_texts first state files bytes e (run.run.texts_are state files h (told_in first state files bytes e t)) in
+      let others =
+      first_texts first state files bytes e
+      (run.run.texts_are state files h (told_in first state files bytes e t)) in
       wrote_told run.wrote before w (omega (arith, ap length others.1, length-append (concat run.texts) others.0, fits))
 
   pub some_front : {old new : Course Out} → RanSome sink shelf old new
-      → (state : State) (files : Files) (bytes before : List ℕ) → StandsFor old.session state → ToldForRun shelf state files bytes → old.left ≡ Some bytes
-      → sink.written old.out ≡ Some before → length before + length (session_output state files bytes) ≤ sink.room old.out
+      → (state : State) (files : Files) (bytes before : List ℕ) → StandsFor old.session state
+      → ToldForRun shelf state files bytes → old.left ≡ Some bytes
+      → sink.written old.out ≡ Some before
+      → length before + length (session_output state files bytes) ≤ sink.room old.out
       → TellsPrefix (sink.written new.out) before (session_output state files bytes)
   some_front {new = new} ran state files bytes before h t e w fits =
-      let others = first_texts ran.first state files bytes e (ran.run.run.texts_are state files h (told_in ran.first state files bytes e t)) in
-      front_within (sink.written new.out) before (concat ran.run.texts) others.0 (session_output state files bytes) others.1
-      (whole_text (sink.written new.out) before (concat ran.run.texts) (told_front ran.run ran.first state files bytes before h t e w fits))
+      let others =
+      first_texts ran.first state files bytes e
+      (ran.run.run.texts_are state files h (told_in ran.first state files bytes e t)) in
+      front_within (sink.written new.out) before (concat ran.run.texts) others.0 (session_output state files bytes)
+      others.1
+      (whole_text (sink.written new.out) before (concat ran.run.texts)
+      (told_front ran.run ran.first state files bytes before h t e w fits))
 
-  into_texts : {old new : Course Out} (ran : RanInto sink shelf old new) (state : State) (files : Files) (bytes : List ℕ)
+  into_texts : {old new : Course Out} (ran : RanInto sink shelf old new) (state : State) (files : Files)
+      (bytes : List ℕ)
       → StandsFor old.session state → ToldForRun shelf state files bytes → old.left ≡ Some bytes
       → ran.run.texts ++ ran.begun.text ∷ [] ≡ replies state files (ran.lines ++ ran.line ∷ [])
   into_texts ran state files bytes h t e =
@@ -154,34 +183,43 @@ module _ {Out : Type 0} {sink : Ghosts Out} {shelf : Option Files} where
       let first = told_first state files ran.lines (ran.line ∷ []) all in
       let then = told_then state files ran.lines (ran.line ∷ []) all in
       ap (λ ts. ts ++ (ran.begun.text ∷ [])) (ran.run.run.texts_are state files h first)
-      ∙ (ap (λ ts. replies state files ran.lines ++ ts) (ran.begun.text_is (state_after state files ran.lines) files (ran.run.run.stands state files h first) then)
+      ∙ (ap (λ ts. replies state files ran.lines ++ ts)
+      (ran.begun.text_is (state_after state files ran.lines) files
+      (ran.run.run.stands state files h first) then)
       ∙ sym (replies-append state files ran.lines (ran.line ∷ [])))
 
   pub into_front : {old new : Course Out} → RanInto sink shelf old new
-      → (state : State) (files : Files) (bytes before : List ℕ) → StandsFor old.session state → ToldForRun shelf state files bytes → old.left ≡ Some bytes
-      → sink.written old.out ≡ Some before → length before + length (session_output state files bytes) ≤ sink.room old.out
+      → (state : State) (files : Files) (bytes before : List ℕ) → StandsFor old.session state
+      → ToldForRun shelf state files bytes → old.left ≡ Some bytes
+      → sink.written old.out ≡ Some before
+      → length before + length (session_output state files bytes) ≤ sink.room old.out
       → TellsPrefix (sink.written new.out) before (session_output state files bytes)
   into_front {new = new} ran state files bytes before h t e w fits =
       let all = ran.run.texts ++ ran.begun.text ∷ [] in
       let others = first_texts ran.first state files bytes e (into_texts ran state files bytes h t e) in
       let front_is : concat all ≡ concat ran.run.texts ++ ran.begun.text =
-      concat-append ran.run.texts (ran.begun.text ∷ []) ∙ ap (λ t. concat ran.run.texts ++ t) (append-nil ran.begun.text) in
+      concat-append ran.run.texts (ran.begun.text ∷ [])
+      ∙ ap (λ t. concat ran.run.texts ++ t) (append-nil ran.begun.text) in
       let whole : session_output state files bytes ≡ (concat ran.run.texts ++ ran.begun.text) ++ others.0 =
       others.1 ∙ ap (λ t. t ++ others.0) front_is in
-      front_within (sink.written new.out) before (concat ran.run.texts ++ ran.begun.text) others.0 (session_output state files bytes) whole
+      front_within (sink.written new.out) before (concat ran.run.texts ++ ran.begun.text) others.0
+      (session_output state files bytes) whole
       (front_told ran.run.wrote ran.begun.front before w
       (omega (arith, ap length whole, length-append (concat ran.run.texts ++ ran.begun.text) others.0, fits)))
 
   -- ---- the whole output
 
-  all_first : {limit : ℕ} {old new : Course Out} {refused : Bool} (ran : RanAll sink shelf limit old new refused) → AreFirst ran.lines old
+  all_first : {limit : ℕ} {old new : Course Out} {refused : Bool} (ran : RanAll sink shelf limit old new refused)
+      → AreFirst ran.lines old
   all_first ran = record {
     more = λ bytes e. ([], ran.lines_are bytes e ∙ sym (append-nil ran.lines));
   }
 
   pub all_told : {limit : ℕ} {old new : Course Out} {refused : Bool} → RanAll sink shelf limit old new refused
-      → (state : State) (files : Files) (bytes before : List ℕ) → StandsFor old.session state → ToldForRun shelf state files bytes → old.left ≡ Some bytes
-      → sink.written old.out ≡ Some before → length before + length (session_output state files bytes) ≤ sink.room old.out
+      → (state : State) (files : Files) (bytes before : List ℕ) → StandsFor old.session state
+      → ToldForRun shelf state files bytes → old.left ≡ Some bytes
+      → sink.written old.out ≡ Some before
+      → length before + length (session_output state files bytes) ≤ sink.room old.out
       → sink.written new.out ≡ Some (before ++ session_output state files bytes)
   all_told ran state files bytes before h t e w fits =
       let all : concat ran.run.texts ≡ session_output state files bytes =
@@ -190,11 +228,14 @@ module _ {Out : Type 0} {sink : Ghosts Out} {shelf : Option Files} where
       ∙ sym (output_of state files bytes) in
       told_front ran.run (all_first ran) state files bytes before h t e w fits ∙ ap (λ t. Some (before ++ t)) all
 
-  pub all_some : {limit : ℕ} {old new : Course Out} {refused : Bool} → RanAll sink shelf limit old new refused → RanSome sink shelf old new
-  all_some {refused = refused} ran = record { lines = ran.lines; refused = refused; run = ran.run; first = all_first ran }
+  pub all_some : {limit : ℕ} {old new : Course Out} {refused : Bool} → RanAll sink shelf limit old new refused
+      → RanSome sink shelf old new
+  all_some {refused = refused} ran =
+      record { lines = ran.lines; refused = refused; run = ran.run; first = all_first ran }
 
   pub all_refused : {limit : ℕ} {old new : Course Out} {refused : Bool} → RanAll sink shelf limit old new refused
-      → (state : State) (files : Files) (bytes : List ℕ) → StandsFor old.session state → ToldForRun shelf state files bytes → old.left ≡ Some bytes
+      → (state : State) (files : Files) (bytes : List ℕ) → StandsFor old.session state
+      → ToldForRun shelf state files bytes → old.left ≡ Some bytes
       → refused ≡ some_refused state files (lines_run bytes)
   all_refused ran state files bytes h t e =
       ran.run.run.refused_is state files h (told_in (all_first ran) state files bytes e t)
@@ -202,21 +243,30 @@ module _ {Out : Type 0} {sink : Ghosts Out} {shelf : Option Files} where
       ∙ some_refused_cut state files (lines_run bytes))
 
   pub all_read : {limit : ℕ} {old new : Course Out} {refused : Bool} → RanAll sink shelf limit old new refused
-      → (bytes : List ℕ) → old.left ≡ Some bytes → some_ends (lines_run bytes) ≡ false → (new.left ≡ Some []) × (length bytes ≤ limit)
+      → (bytes : List ℕ) → old.left ≡ Some bytes → some_ends (lines_run bytes) ≡ false
+      → (new.left ≡ Some []) × (length bytes ≤ limit)
   all_read ran bytes e none =
-      ran.read bytes e (ap some_ends (sym (ran.lines_are bytes e) ∙ run_of bytes) ∙ (some_ends_cut (lines_run bytes) ∙ none))
+      ran.read bytes e
+      (ap some_ends (sym (ran.lines_are bytes e) ∙ run_of bytes) ∙ (some_ends_cut (lines_run bytes) ∙ none))
 
   -- ---- a sink that nothing was to be written to
 
-  pub some_quiet : {old new : Course Out} → RanSome sink shelf old new → (state : State) (files : Files) (bytes : List ℕ)
-      → StandsFor old.session state → ToldForRun shelf state files bytes → old.left ≡ Some bytes → session_output state files bytes ≡ [] → new.out ≡ old.out
+  pub some_quiet : {old new : Course Out} → RanSome sink shelf old new
+      → (state : State) (files : Files) (bytes : List ℕ)
+      → StandsFor old.session state → ToldForRun shelf state files bytes → old.left ≡ Some bytes
+      → session_output state files bytes ≡ [] → new.out ≡ old.out
   some_quiet ran state files bytes h t e none =
-      let others = first_texts ran.first state files bytes e (ran.run.run.texts_are state files h (told_in ran.first state files bytes e t)) in
+      let others =
+      first_texts ran.first state files bytes e
+      (ran.run.run.texts_are state files h (told_in ran.first state files bytes e t)) in
       wrote_nothing ran.run.wrote
-      (nil_from_length (concat ran.run.texts) (omega (arith, ap length others.1, length-append (concat ran.run.texts) others.0, ap length none)))
+      (nil_from_length (concat ran.run.texts)
+      (omega (arith, ap length others.1, length-append (concat ran.run.texts) others.0, ap length none)))
 
-  pub into_quiet : {old new : Course Out} → RanInto sink shelf old new → (state : State) (files : Files) (bytes : List ℕ)
-      → StandsFor old.session state → ToldForRun shelf state files bytes → old.left ≡ Some bytes → session_output state files bytes ≡ [] → new.out ≡ old.out
+  pub into_quiet : {old new : Course Out} → RanInto sink shelf old new
+      → (state : State) (files : Files) (bytes : List ℕ)
+      → StandsFor old.session state → ToldForRun shelf state files bytes → old.left ≡ Some bytes
+      → session_output state files bytes ≡ [] → new.out ≡ old.out
   into_quiet ran state files bytes h t e none =
       let all = ran.run.texts ++ ran.begun.text ∷ [] in
       let others = first_texts ran.first state files bytes e (into_texts ran state files bytes h t e) in
@@ -233,14 +283,19 @@ module _ {Out : Type 0} {sink : Ghosts Out} {shelf : Option Files} where
 
   -- ---- which front it is
 
-  texts_of : {old new : Course Out} (ran : RanSome sink shelf old new) (state : State) (files : Files) (whole : List (List ℕ))
-      → StandsFor old.session state → ToldForAll shelf state files ran.lines → map cut whole ≡ ran.lines → concat ran.run.texts ≡ reports state files whole
+  texts_of : {old new : Course Out} (ran : RanSome sink shelf old new) (state : State) (files : Files)
+      (whole : List (List ℕ))
+      → StandsFor old.session state → ToldForAll shelf state files ran.lines → map cut whole ≡ ran.lines
+      → concat ran.run.texts ≡ reports state files whole
   texts_of ran state files whole h t is =
-      ap concat (ran.run.run.texts_are state files h t ∙ (ap (replies state files) (sym is) ∙ replies_cut state files whole))
+      ap concat
+      (ran.run.run.texts_are state files h t ∙ (ap (replies state files) (sym is) ∙ replies_cut state files whole))
 
   pub some_whole : {old new : Course Out} → RanSome sink shelf old new
-      → (state : State) (files : Files) (bytes before : List ℕ) → StandsFor old.session state → ToldForRun shelf state files bytes → old.left ≡ Some bytes
-      → sink.written old.out ≡ Some before → length before + length (session_output state files bytes) ≤ sink.room old.out
+      → (state : State) (files : Files) (bytes before : List ℕ) → StandsFor old.session state
+      → ToldForRun shelf state files bytes → old.left ≡ Some bytes
+      → sink.written old.out ≡ Some before
+      → length before + length (session_output state files bytes) ≤ sink.room old.out
       → (count : ℕ) × (sink.written new.out ≡ Some (before ++ reports state files (take count (lines_run bytes))))
   some_whole ran state files bytes before h t e w fits =
       let count = length ran.lines in
@@ -250,12 +305,14 @@ module _ {Out : Type 0} {sink : Ghosts Out} {shelf : Option Files} where
       ∙ (ap (take count) (sym (run_of bytes) ∙ more.1) ∙ take-append_seam ran.lines more.0) in (
         count,
         told_front ran.run ran.first state files bytes before h t e w fits
-            ∙ ap (λ t. Some (before ++ t)) (texts_of ran state files (take count (lines_run bytes)) h (told_in ran.first state files bytes e t) is),
+            ∙ ap (λ t. Some (before ++ t))
+            (texts_of ran state files (take count (lines_run bytes)) h (told_in ran.first state files bytes e t) is),
       )
 
   -- the lines before the one that asks for a file, in whole lines of the input
   pub told_to_file : {old new : Course Out} → RanToFile sink shelf old new
-      → (state : State) (files : Files) (bytes before : List ℕ) → StandsFor old.session state → ToldForRun shelf state files bytes
+      → (state : State) (files : Files) (bytes before : List ℕ) → StandsFor old.session state
+      → ToldForRun shelf state files bytes
       → old.left ≡ Some bytes → sink.written old.out ≡ Some before
       → length before + length (session_output state files bytes) ≤ sink.room old.out
       → ToldToFile state files bytes before (sink.written new.out)
@@ -288,16 +345,22 @@ module _ {Out : Type 0} {sink : Ghosts Out} {shelf : Option Files} where
       }
 
   pub ended_told : {overs : ℕ} {old new : Course Out} (ran : RanEnded sink shelf overs old new)
-      → (state : State) (files : Files) (bytes before : List ℕ) → StandsFor old.session state → ToldForRun shelf state files bytes → old.left ≡ Some bytes
-      → sink.written old.out ≡ Some before → length before + length (session_output state files bytes) ≤ sink.room old.out
+      → (state : State) (files : Files) (bytes before : List ℕ) → StandsFor old.session state
+      → ToldForRun shelf state files bytes → old.left ≡ Some bytes
+      → sink.written old.out ≡ Some before
+      → length before + length (session_output state files bytes) ≤ sink.room old.out
       → sink.written new.out ≡ Some (before ++ reports state files (ended_lines ran.taken))
   ended_told ran state files bytes before h t e w fits =
       told_front ran.some.run ran.some.first state files bytes before h t e w fits
-      ∙ ap (λ t. Some (before ++ t)) (texts_of ran.some state files (ended_lines ran.taken) h (told_in ran.some.first state files bytes e t) ran.lines_are)
+      ∙ ap (λ t. Some (before ++ t))
+      (texts_of ran.some state files (ended_lines ran.taken) h
+      (told_in ran.some.first state files bytes e t) ran.lines_are)
 
   pub told_taken : {old new : Course Out} → RanEnded sink shelf 0 old new
-      → (state : State) (files : Files) (bytes before : List ℕ) → StandsFor old.session state → ToldForRun shelf state files bytes → old.left ≡ Some bytes
-      → sink.written old.out ≡ Some before → length before + length (session_output state files bytes) ≤ sink.room old.out
+      → (state : State) (files : Files) (bytes before : List ℕ) → StandsFor old.session state
+      → ToldForRun shelf state files bytes → old.left ≡ Some bytes
+      → sink.written old.out ≡ Some before
+      → length before + length (session_output state files bytes) ≤ sink.room old.out
       → ToldTaken state files bytes new.left before (sink.written new.out)
   told_taken ran state files bytes before h t e w fits =
       let off = ran.source bytes e in
@@ -310,35 +373,50 @@ module _ {Out : Type 0} {sink : Ghosts Out} {shelf : Option Files} where
         told = ended_told ran state files bytes before h t e w fits;
       }
 
-  pub told_within : {limit : ℕ} {old new : Course Out} → (ran : RanEnded sink shelf 1 old new) → length ran.taken ≡ limit
-      → (state : State) (files : Files) (bytes before : List ℕ) → StandsFor old.session state → ToldForRun shelf state files bytes → old.left ≡ Some bytes
-      → sink.written old.out ≡ Some before → length before + length (session_output state files bytes) ≤ sink.room old.out
+  pub told_within : {limit : ℕ} {old new : Course Out} → (ran : RanEnded sink shelf 1 old new)
+      → length ran.taken ≡ limit
+      → (state : State) (files : Files) (bytes before : List ℕ) → StandsFor old.session state
+      → ToldForRun shelf state files bytes → old.left ≡ Some bytes
+      → sink.written old.out ≡ Some before
+      → length before + length (session_output state files bytes) ≤ sink.room old.out
       → sink.written new.out ≡ Some (before ++ reports state files (ended_lines (take limit bytes)))
   told_within ran count state files bytes before h t e w fits =
       let off = ran.source bytes e in
       let front : take _ bytes ≡ ran.taken =
-      ap (λ n. take n bytes) (sym count) ∙ (ap (take (length ran.taken)) off.bytes_are ∙ take-append_seam ran.taken (off.over ++ off.rest)) in
+      ap (λ n. take n bytes) (sym count)
+      ∙ (ap (take (length ran.taken)) off.bytes_are ∙ take-append_seam ran.taken (off.over ++ off.rest)) in
       ended_told ran state files bytes before h t e w fits
       ∙ ap (λ t. Some (before ++ reports state files (ended_lines t))) (sym front)
 
   -- a byte past the limit was taken, so there was one
-  pub longer_than_limit : {limit : ℕ} {old new : Course Out} → (ran : RanEnded sink shelf 1 old new) → length ran.taken ≡ limit
+  pub longer_than_limit : {limit : ℕ} {old new : Course Out} → (ran : RanEnded sink shelf 1 old new)
+      → length ran.taken ≡ limit
       → (bytes : List ℕ) → old.left ≡ Some bytes → limit < length bytes
   longer_than_limit ran count bytes e =
       let off = ran.source bytes e in
-      omega (arith, ap length off.bytes_are, off.over_count, count, length-append ran.taken (off.over ++ off.rest), length-append off.over off.rest)
+      omega (
+        arith,
+        ap length off.bytes_are,
+        off.over_count,
+        count,
+        length-append ran.taken (off.over ++ off.rest),
+        length-append off.over off.rest,
+      )
 
   -- the run stopped where a file was asked for, so one was
-  pub stopped_at_file : {old new : Course Out} → RanToFile sink shelf old new → (state : State) (files : Files) (bytes : List ℕ)
+  pub stopped_at_file : {old new : Course Out} → RanToFile sink shelf old new
+      → (state : State) (files : Files) (bytes : List ℕ)
       → StandsFor old.session state → old.left ≡ Some bytes → some_fetch state files (lines_run bytes) ≡ false → ⊥
   stopped_at_file ran state files bytes h e none =
       let told : ToldForRun shelf state files bytes = λ asks. absurd (not_both asks none) in
       let asks = ran.asks state files h (told_in ran.some.first state files bytes e told) in
       let fetched : some_fetch state files (ran.some.lines ++ ran.line ∷ []) ≡ true =
-      some_fetch-append state files ran.some.lines (ran.line ∷ []) ∙ rw asks (or-true (some_fetch state files ran.some.lines)) in
+      some_fetch-append state files ran.some.lines (ran.line ∷ [])
+      ∙ rw asks (or-true (some_fetch state files ran.some.lines)) in
       not_both (fetched_in ran.next state files bytes e fetched) none
 
-  pub some_flushed : {old new : Course Out} → RanSome sink shelf old new → (sink.flushed new.out ≡ true) ⊎ (new.out ≡ old.out)
+  pub some_flushed : {old new : Course Out} → RanSome sink shelf old new
+      → (sink.flushed new.out ≡ true) ⊎ (new.out ≡ old.out)
   some_flushed ran = wrote_flushed ran.run.wrote
 
 -- ---- by the words
@@ -348,14 +426,16 @@ pub output_is : (words : List (List ℕ)) (setup : Setup) (files : Files) (bytes
 unfolding output
 output_is words setup files bytes e = ap (λ j. output_by j files bytes) e
 
-pub output_is_usage : (words : List (List ℕ)) (files : Files) (bytes : List ℕ) → job words ≡ None → usage ≡ output words files bytes
+pub output_is_usage : (words : List (List ℕ)) (files : Files) (bytes : List ℕ) → job words ≡ None
+    → usage ≡ output words files bytes
 unfolding output
 output_is_usage words files bytes e = ap (λ j. output_by j files bytes) (sym e)
 
 pub usage_is_some : usage ≢ []
 usage_is_some none = omega (arith, ap length none)
 
-pub same_setup : (words : List (List ℕ)) (one other : Setup) → Some one ≡ job words → job words ≡ Some other → one ≡ other
+pub same_setup : (words : List (List ℕ)) (one other : Setup) → Some one ≡ job words → job words ≡ Some other
+    → one ≡ other
 same_setup words one other e is = let both : Some one ≡ Some other = e ∙ is in cc
 
 -- ---- by the status
@@ -367,17 +447,20 @@ ran_on halts.WriteFault t = cc
 ran_on halts.InputLimit t = cc
 ran_on halts.Memory t = cc
 
-pub on_whole : (r : Result Bool Halt) (status : Status) {P : Type 0} → status ≡ status_by r → OnOk r P → IsTrue (is_whole status) → P
+pub on_whole : (r : Result Bool Halt) (status : Status) {P : Type 0} → status ≡ status_by r → OnOk r P
+    → IsTrue (is_whole status) → P
 on_whole (Ok refused) status is p whole = p
 on_whole (Err halt) status is p whole = ran_on halt (subst (λ (s : Status). IsTrue (is_whole s)) is whole)
 
-pub whole_status : (r : Result Bool Halt) (status : Status) (b : Bool) → status ≡ status_by r → IfOk r (λ refused. refused ≡ b)
+pub whole_status : (r : Result Bool Halt) (status : Status) (b : Bool) → status ≡ status_by r
+    → IfOk r (λ refused. refused ≡ b)
     → IsTrue (is_whole status) → status ≡ ran b
 whole_status (Ok refused) status b is p whole = is ∙ ap ran p
 whole_status (Err halt) status b is p whole = ran_on halt (subst (λ (s : Status). IsTrue (is_whole s)) is whole)
 
 -- why a run ended early, read off its status
-read_fault_by : (r : Result Bool Halt) → statuses.ReadFault ≡ status_by r → IsErrOf r halts.ReadFault ⊎ IsErrOf r halts.ShelfFault
+read_fault_by : (r : Result Bool Halt) → statuses.ReadFault ≡ status_by r
+    → IsErrOf r halts.ReadFault ⊎ IsErrOf r halts.ShelfFault
 read_fault_by (Ok false) is = absurd (cc is)
 read_fault_by (Ok true) is = absurd (cc is)
 read_fault_by (Err halts.ReadFault) is = inl refl
@@ -399,7 +482,8 @@ input_limit_by (Err halts.WriteFault) is = cc
 input_limit_by (Err halts.InputLimit) is = refl
 input_limit_by (Err halts.Memory) is = cc
 
-pub on_input_limit : (r : Result Bool Halt) (status : Status) → status ≡ status_by r → status ≡ statuses.InputLimit → IsErrOf r halts.InputLimit
+pub on_input_limit : (r : Result Bool Halt) (status : Status) → status ≡ status_by r → status ≡ statuses.InputLimit
+    → IsErrOf r halts.InputLimit
 on_input_limit r status is past = input_limit_by r (sym past ∙ is)
 
 memory_by : (r : Result Bool Halt) → statuses.Memory ≡ status_by r → IsErrOf r halts.Memory
@@ -411,5 +495,6 @@ memory_by (Err halts.WriteFault) is = cc
 memory_by (Err halts.InputLimit) is = cc
 memory_by (Err halts.Memory) is = refl
 
-pub on_memory : (r : Result Bool Halt) (status : Status) → status ≡ status_by r → status ≡ statuses.Memory → IsErrOf r halts.Memory
+pub on_memory : (r : Result Bool Halt) (status : Status) → status ≡ status_by r → status ≡ statuses.Memory
+    → IsErrOf r halts.Memory
 on_memory r status is want = memory_by r (sym want ∙ is)

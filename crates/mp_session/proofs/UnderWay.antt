@@ -16,7 +16,8 @@ use Rattle.mp_session.specs.Serving.{AreFirst, RanAll, RanEnded, RanInto, RanSom
 use Rattle.mp_session.proofs.RunLemmas.{not_both, some_ends-append, until_end-append, until_end-one, were_run_none, were_run_on}
 
 -- These lines were run, and none of them ended the run. They are those that the reader gave.
-pub record IsUnderWay {Out : Type 0} (sink : Ghosts Out) (told : Option Files) (limit : ℕ) (old now : Course Out) (reader : Reading) (refused : Bool) : Type 0 where
+pub record IsUnderWay {Out : Type 0} (sink : Ghosts Out) (told : Option Files) (limit : ℕ) (old now : Course Out)
+    (reader : Reading) (refused : Bool) : Type 0 where
   pub lines : List (List ℕ)
   pub run : WereRun sink told lines old now refused
   pub none_ends : some_ends lines ≡ false
@@ -33,31 +34,36 @@ module _ {Out : Type 0} {sink : Ghosts Out} {told : Option Files} where
 
   -- ---- a line that came next was run
 
-  line_ends : {limit : ℕ} {old now : Course Out} {reader : Reading} {refused : Bool} (u : IsUnderWay sink told limit old now reader refused)
+  line_ends : {limit : ℕ} {old now : Course Out} {reader : Reading} {refused : Bool}
+      (u : IsUnderWay sink told limit old now reader refused)
       (line : List ℕ) (last : Bool) → last ≡ ends line
       → some_ends (u.lines ++ line ∷ []) ≡ last
   line_ends u line last is = some_ends-append u.lines (line ∷ []) ∙ rw (u.none_ends, ← is) (or-false last)
 
-  pub under_way_on : {limit : ℕ} {old now : Course Out} {reader : Reading} {refused also : Bool} {line : List ℕ} {last : Bool}
-      {session : Held} {out : Out} (next : Reading) (later : Option (List ℕ)) → IsUnderWay sink told limit old now reader refused
-      → IsNext reader next now.left later (Line false) → line ≡ next.holding.kept
+  pub under_way_on : {limit : ℕ} {old now : Course Out} {reader : Reading} {refused also : Bool}
+      {line : List ℕ} {last : Bool}
+      {session : Held} {out : Out} (next : Reading) (later : Option (List ℕ))
+      → IsUnderWay sink told limit old now reader refused → IsNext reader next now.left later (Line false)
+      → line ≡ next.holding.kept
       → WereRun sink told (line ∷ []) (course_at now.session later now.out) (course_at session later out) also
       → last ≡ ends line → last ≡ false
       → IsUnderWay sink told limit old (course_at session later out) (after_line next) (refused || also)
-  under_way_on {now = now} {reader = reader} {line = line} {last = last} next later u comes line_is run is goes_on = record {
-    lines = u.lines ++ line ∷ [];
-    run = were_run_on u.run record { texts = run.texts; run = run.run; wrote = run.wrote };
-    none_ends = line_ends u line last is ∙ goes_on;
-    gave = gave_on u.gave (subst (λ l. Gave (l ∷ []) reader (after_line next) now.left later) (sym line_is) comes.gave);
-  }
+  under_way_on {now = now} {reader = reader} {line = line} {last = last} next later u comes line_is run is
+      goes_on = record {
+        lines = u.lines ++ line ∷ [];
+        run = were_run_on u.run record { texts = run.texts; run = run.run; wrote = run.wrote };
+        none_ends = line_ends u line last is ∙ goes_on;
+        gave = gave_on u.gave (subst (λ l. Gave (l ∷ []) reader (after_line next) now.left later) (sym line_is) comes.gave);
+      }
 
   -- it ended the run
-  pub all_to_end : {limit : ℕ} {old now : Course Out} {reader : Reading} {refused also : Bool} {line : List ℕ} {last : Bool}
-      {session : Held} {out : Out} (next : Reading) (later : Option (List ℕ)) → IsUnderWay sink told limit old now reader refused
-      → (final : Bool) → IsNext reader next now.left later (Line final) → line ≡ next.holding.kept
+  pub all_to_end : {limit : ℕ} {old now : Course Out} {reader : Reading} {refused also : Bool}
+      {line : List ℕ} {last : Bool}
+      {session : Held} {out : Out} (next : Reading) (later : Option (List ℕ))
+      → IsUnderWay sink told limit old now reader refused → (final : Bool)
+      → IsNext reader next now.left later (Line final) → line ≡ next.holding.kept
       → WereRun sink told (line ∷ []) (course_at now.session later now.out) (course_at session later out) also
-      → last ≡ ends line → last ≡ true
-      → RanAll sink told limit old (course_at session later out) (refused || also)
+      → last ≡ ends line → last ≡ true → RanAll sink told limit old (course_at session later out) (refused || also)
   all_to_end {line = line} {last = last} next later u final comes line_is run is ended = record {
     lines = u.lines ++ line ∷ [];
     run = were_run_on u.run record { texts = run.texts; run = run.run; wrote = run.wrote };
@@ -71,8 +77,9 @@ module _ {Out : Type 0} {sink : Ghosts Out} {told : Option Files} where
 
   -- it was the last line
   pub all_to_last : {limit : ℕ} {old now : Course Out} {reader : Reading} {refused also : Bool} {line : List ℕ}
-      {session : Held} {out : Out} (next : Reading) (later : Option (List ℕ)) → IsUnderWay sink told limit old now reader refused
-      → (final : Bool) → final ≡ true → IsNext reader next now.left later (Line final) → line ≡ next.holding.kept
+      {session : Held} {out : Out} (next : Reading) (later : Option (List ℕ))
+      → IsUnderWay sink told limit old now reader refused → (final : Bool) → final ≡ true
+      → IsNext reader next now.left later (Line final) → line ≡ next.holding.kept
       → WereRun sink told (line ∷ []) (course_at now.session later now.out) (course_at session later out) also
       → RanAll sink told limit old (course_at session later out) (refused || also)
   all_to_last {line = line} next later u true is_final comes line_is run =
@@ -110,7 +117,8 @@ module _ {Out : Type 0} {sink : Ghosts Out} {told : Option Files} where
   }
 
   -- a front of its report was written
-  pub into_line : {limit : ℕ} {old now : Course Out} {reader : Reading} {refused : Bool} {line : List ℕ} {session : Held} {out : Out}
+  pub into_line : {limit : ℕ} {old now : Course Out} {reader : Reading} {refused : Bool} {line : List ℕ}
+      {session : Held} {out : Out}
       (next : Reading) (later : Option (List ℕ)) → IsUnderWay sink told limit old now reader refused
       → (final : Bool) → IsNext reader next now.left later (Line final) → line ≡ next.holding.kept
       → WasBegun sink told line (course_at now.session later now.out) (course_at session later out)
@@ -135,20 +143,23 @@ module _ {Out : Type 0} {sink : Ghosts Out} {told : Option Files} where
         (until_end all.0, ap until_end all.1 ∙ until_end-append u.lines all.0 u.none_ends);
   }
 
-  pub some_lines : {limit : ℕ} {old now : Course Out} {reader : Reading} {refused also : Bool} {session : Held} {later : Option (List ℕ)} {out : Out}
+  pub some_lines : {limit : ℕ} {old now : Course Out} {reader : Reading} {refused also : Bool} {session : Held}
+      {later : Option (List ℕ)} {out : Out}
       → IsUnderWay sink told limit old now reader refused
       → WereRun sink told [] (course_at now.session later now.out) (course_at session later out) also
       → RanSome sink told old (course_at session later out)
-  some_lines {old = old} {refused = refused} {also = also} {session = session} {later = later} {out = out} u run = record {
-    lines = u.lines;
-    refused = refused || also;
-    run = subst (λ ls. WereRun sink told ls old (course_at session later out) (refused || also)) (append-nil u.lines)
-        (were_run_on u.run record { texts = run.texts; run = run.run; wrote = run.wrote });
-    first = first_lines u;
-  }
+  some_lines {old = old} {refused = refused} {also = also} {session = session} {later = later} {out = out}
+      u run = record {
+        lines = u.lines;
+        refused = refused || also;
+        run = subst (λ ls. WereRun sink told ls old (course_at session later out) (refused || also)) (append-nil u.lines)
+            (were_run_on u.run record { texts = run.texts; run = run.run; wrote = run.wrote });
+        first = first_lines u;
+      }
 
   -- it asks for a file, and none was fetched
-  pub to_file : {limit : ℕ} {old now : Course Out} {reader : Reading} {refused also : Bool} {line : List ℕ} {session : Held} {out : Out}
+  pub to_file : {limit : ℕ} {old now : Course Out} {reader : Reading} {refused also : Bool} {line : List ℕ}
+      {session : Held} {out : Out}
       (next : Reading) (later : Option (List ℕ)) → IsUnderWay sink told limit old now reader refused
       → (final : Bool) → IsNext reader next now.left later (Line final) → line ≡ next.holding.kept
       → WereRun sink told [] (course_at now.session later now.out) (course_at session later out) also
@@ -162,7 +173,8 @@ module _ {Out : Type 0} {sink : Ghosts Out} {told : Option Files} where
     asks = λ state files h t. asks (state_after state files u.lines) (u.run.run.stands state files h t);
   }
 
-  pub all_at_end : {limit : ℕ} {old now : Course Out} {reader : Reading} {refused : Bool} (next : Reading) (later : Option (List ℕ))
+  pub all_at_end : {limit : ℕ} {old now : Course Out} {reader : Reading} {refused : Bool} (next : Reading)
+      (later : Option (List ℕ))
       → IsUnderWay sink told limit old now reader refused → IsNext reader next now.left later End
       → RanAll sink told limit old (course_at now.session later now.out) refused
   all_at_end next later u comes =
@@ -181,7 +193,8 @@ module _ {Out : Type 0} {sink : Ghosts Out} {told : Option Files} where
             (all.read, all.within);
       }
 
-  pub lines_before_fault : {limit : ℕ} {old now : Course Out} {reader : Reading} {refused : Bool} (next : Reading) (later : Option (List ℕ))
+  pub lines_before_fault : {limit : ℕ} {old now : Course Out} {reader : Reading} {refused : Bool} (next : Reading)
+      (later : Option (List ℕ))
       → IsUnderWay sink told limit old now reader refused → IsFailed reader next now.left later
       → RanEnded sink told 0 old (course_at now.session later now.out)
   lines_before_fault {refused = refused} next later u failed =
@@ -197,11 +210,18 @@ module _ {Out : Type 0} {sink : Ghosts Out} {told : Option Files} where
         none_ends = u.none_ends;
         taken = gave.got;
         source = λ bytes e. let off = gave.source bytes e in
-            record { over = off.over; rest = off.rest; over_count = off.over_count ∙ none; later_is = off.later_is; bytes_are = off.bytes_are };
+            record {
+              over = off.over;
+              rest = off.rest;
+              over_count = off.over_count ∙ none;
+              later_is = off.later_is;
+              bytes_are = off.bytes_are;
+            };
         lines_are = lines_at_rest gave failed.rest ∙ append-nil u.lines;
       }
 
-  pub lines_within : {limit : ℕ} {old now : Course Out} {reader : Reading} {refused : Bool} (next : Reading) (later : Option (List ℕ))
+  pub lines_within : {limit : ℕ} {old now : Course Out} {reader : Reading} {refused : Bool} (next : Reading)
+      (later : Option (List ℕ))
       → IsUnderWay sink told limit old now reader refused → IsNext reader next now.left later PastLimit
       → (ran : RanEnded sink told 1 old (course_at now.session later now.out)) × (length ran.taken ≡ limit)
   lines_within {refused = refused} next later u comes =
@@ -217,7 +237,13 @@ module _ {Out : Type 0} {sink : Ghosts Out} {told : Option Files} where
           none_ends = u.none_ends;
           taken = gave.got;
           source = λ bytes e. let off = gave.source bytes e in
-              record { over = off.over; rest = off.rest; over_count = off.over_count ∙ over; later_is = off.later_is; bytes_are = off.bytes_are };
+              record {
+                over = off.over;
+                rest = off.rest;
+                over_count = off.over_count ∙ over;
+                later_is = off.later_is;
+                bytes_are = off.bytes_are;
+              };
           lines_are = lines_at_rest gave comes.rest ∙ append-nil u.lines;
         },
         omega (arith, gave.count, gave.full (omega (arith, over))),

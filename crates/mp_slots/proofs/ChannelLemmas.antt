@@ -13,7 +13,8 @@ use Rattle.mp_slots.specs.Slots.{Held, HasRoomFor, HaveRoom, RoomWasMade, items_
 same_but_room : (a b : Counted) → a.items ≡ b.items → a.reads ≡ b.reads → without_room a ≡ without_room b
 same_but_room a b items reads = cc
 
-pub room_kept : (old now : Held) (k : ℕ) (new d : Counted) → new.items ≡ (get_or now k d).items → new.reads ≡ (get_or now k d).reads
+pub room_kept : (old now : Held) (k : ℕ) (new d : Counted) → new.items ≡ (get_or now k d).items
+    → new.reads ≡ (get_or now k d).reads
     → RoomWasMade old now → RoomWasMade old (set now k new)
 room_kept old now k new d items reads h =
     map-set_same without_room now k new d (same_but_room new (get_or now k d) items reads) ∙ h
@@ -33,16 +34,21 @@ zip_at (channel ∷ channels) [] k room within = absurd room
 zip_at (channel ∷ channels) (list ∷ lists) zero room within = room.0
 zip_at (channel ∷ channels) (list ∷ lists) (suc k) room within = zip_at channels lists k room.1 (omega (arith, within))
 
-pub lists_long : (channels : Held) (added : List (Vec Sample Global)) → HaveRoom channels (lists_in added) → length added ≡ length channels
+pub lists_long : (channels : Held) (added : List (Vec Sample Global)) → HaveRoom channels (lists_in added)
+    → length added ≡ length channels
 lists_long channels added room =
     sym (length-map added (λ samples. samples.items))
     ∙ sym (zip_long channels (lists_in added) room)
 
-pub list_at : (added : List (Vec Sample Global)) (k : ℕ) (v : Vec Sample Global) → k < length added → v ≡ get_or added k v → get_or (lists_in added) k [] ≡ v.items
-list_at added k v within is = get_or-map (λ samples. samples.items) added k v [] within ∙ ap (λ samples. samples.items) (sym is)
+pub list_at : (added : List (Vec Sample Global)) (k : ℕ) (v : Vec Sample Global) → k < length added
+    → v ≡ get_or added k v → get_or (lists_in added) k [] ≡ v.items
+list_at added k v within is =
+    get_or-map (λ samples. samples.items) added k v [] within ∙ ap (λ samples. samples.items) (sym is)
 
-pub fits_at : (old now : Held) (added : List (Vec Sample Global)) (k : ℕ) (d : Counted) (v : Vec Sample Global) → HaveRoom old (lists_in added)
-    → k < length now → k < length old → get_or now k nothing ≡ get_or old k nothing → v ≡ get_or added k v → HasRoomFor (get_or now k d) v.items
+pub fits_at : (old now : Held) (added : List (Vec Sample Global)) (k : ℕ) (d : Counted) (v : Vec Sample Global)
+    → HaveRoom old (lists_in added)
+    → k < length now → k < length old → get_or now k nothing ≡ get_or old k nothing → v ≡ get_or added k v
+    → HasRoomFor (get_or now k d) v.items
 fits_at old now added k d v room within before rest is =
     let long = lists_long old added room in
     let list = list_at added k v (omega (arith, long, before)) is in
@@ -58,8 +64,11 @@ extended_from [] (o ∷ old) lists long longer each = absurd (omega (arith, long
 extended_from (n ∷ new) [] lists long longer each = absurd (omega (arith, long))
 extended_from (n ∷ new) (o ∷ old) [] long longer each = absurd (omega (arith, longer))
 extended_from (n ∷ new) (o ∷ old) (list ∷ lists) long longer each =
-    let rest = extended_from new old lists (omega (arith, long)) (omega (arith, longer)) (λ j lt. each (suc j) (omega (arith, lt))) in
-    ap (λ (x : List Sample). x ∷ items_in new) (each 0 (omega arith)) ∙ ap (λ (xs : List (List Sample)). (o.items ++ list) ∷ xs) rest
+    let rest =
+    extended_from new old lists (omega (arith, long)) (omega (arith, longer))
+    (λ j lt. each (suc j) (omega (arith, lt))) in
+    ap (λ (x : List Sample). x ∷ items_in new) (each 0 (omega arith))
+    ∙ ap (λ (xs : List (List Sample)). (o.items ++ list) ∷ xs) rest
 
 pub item_done : (old now : Held) (lists : List (List Sample)) (k : ℕ) (new : Counted) → k < length now
     → new.items ≡ (get_or old k nothing).items ++ get_or lists k []
@@ -68,13 +77,16 @@ pub item_done : (old now : Held) (lists : List (List Sample)) (k : ℕ) (new : C
 item_done old now lists k new within here before j lt =
     ⊎_elim
     (λ (is : j ≡ k). rw (is, get_or-set_same now k new nothing within) here)
-    (λ (less : j < k). let other : j ≢ k = λ e. omega (arith, e, less) in rw (get_or-set_other now k j new nothing other) (before j less))
+    (λ (less : j < k).
+    let other : j ≢ k = λ e. omega (arith, e, less) in
+    rw (get_or-set_other now k j new nothing other) (before j less))
     (split j k (omega (arith, lt)))
   where
     split : (j k : ℕ) → j ≤ k → (j ≡ k) ⊎ (j < k)
     split j k le = grind arith
 
-pub rest_kept : (old now : Held) (k : ℕ) (new : Counted) → ((j : ℕ) → k ≤ j → get_or now j nothing ≡ get_or old j nothing)
+pub rest_kept : (old now : Held) (k : ℕ) (new : Counted)
+    → ((j : ℕ) → k ≤ j → get_or now j nothing ≡ get_or old j nothing)
     → (j : ℕ) → k + 1 ≤ j → get_or (set now k new) j nothing ≡ get_or old j nothing
 rest_kept old now k new rest j le =
     let other : j ≢ k = λ e. omega (arith, e, le) in

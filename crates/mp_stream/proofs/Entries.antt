@@ -97,9 +97,6 @@ distance_by_sum (suc m) a xs i k are =
 
 -- ---- the least of candidates
 
-near_zero : (c : ℕ → Option Near) → near c 0 ≡ None
-near_zero c = grows_by_one_candidate.no_candidates c
-
 near_more : (c : ℕ → Option Near) (n : ℕ) → near c (n + 1) ≡ nearer_of (near c n) (c n)
 near_more c n = grows_by_one_candidate.one_more c n
 
@@ -183,13 +180,6 @@ taken_if true true old j d e = refl
 taken_if false true old j d e = with_none old
 taken_if true false old j d e = absurd (cc)
 taken_if false false old j d e = with_none old
-
-not_taken_if : (f g : Bool) (old : Option Near) (j d : ℕ) → g ≡ false
-    → nearer_of old (at_distance j (if f && g then Some d else None)) ≡ old
-not_taken_if true true old j d e = absurd (cc)
-not_taken_if false true old j d e = absurd (cc)
-not_taken_if true false old j d e = with_none old
-not_taken_if false false old j d e = with_none old
 
 right_more : (m : ℕ) (a : Series) (s : Option ℤ) (xs : List ℤ) (free : List Bool) (i : ℕ) → m ≤ length a + 1
     → i + excl m < windows_of m a → AreNumbers (with_one a s) xs

@@ -328,7 +328,8 @@ last_is m items last_free value w split last e =
     ∙ ap (is_free m (series_of items)) split.count ∙ sym last ∙ e
 
 -- a column to which no window was offered
-taken_nothing : (free : List Bool) (dist : ℕ → ℕ) (j : ℕ) (old new : List (Option Near)) → IsTaken free dist j 0 0 old new
+taken_nothing : (free : List Bool) (dist : ℕ → ℕ) (j : ℕ) (old new : List (Option Near))
+    → IsTaken free dist j 0 0 old new
     → new ≡ old
 taken_nothing free dist j old new h = ext_get_or None new old h.places (λ i lt. h.behind i (omega arith))
 
@@ -388,7 +389,8 @@ right_after m items last_free w before grown after h split grown_is offered last
     after.profile.right) none offered.right in
     rights_stay m (series_of front) (reading_of (get_or items (length items - 1) Missing)) (numbers_in items)
     before.profile.right after.profile.right split.before (last_is m items last_free false w split last none) h.right
-    (taken_nothing grown.free.items (last_row m items w) w grown.profile.right after.profile.right taken ∙ grown_is.right)
+    (taken_nothing grown.free.items (last_row m items w) w grown.profile.right after.profile.right taken
+    ∙ grown_is.right)
     ∙ ap (λ a. (matrix_profile m a).right) (sym split.series)
 
 pub true_false : (t : Bool) → t ≡ true → t ≡ false → ⊥
@@ -439,7 +441,8 @@ kept_grows m items last_free w before grown after h split grown_is offered last 
           ∙ frees_of m items last_free w before grown h split grown_is last i
           (omega (arith, lt, split.more, split.count)) ∙ ap (λ a. is_free m a i) (sym split.series);
       range = subst (λ range. AreWithin range (numbers_in items)) (sym offered.range) range;
-      limits = subst (λ t. AreLimits (limit_by t) after.profile.right after.limits.items) (sym offered.is_narrow) limits;
+      limits =
+          subst (λ t. AreLimits (limit_by t) after.profile.right after.limits.items) (sym offered.is_narrow) limits;
       rows = subst (λ n. HaveRows n after) (sym split.more) rows;
       narrow = λ is. let facts = narrow (sym offered.is_narrow ∙ is) in record {
         fits = subst (SumsFit m) (sym offered.range) facts.0;
@@ -474,7 +477,8 @@ limits_grow is_narrow right limits h =
         | inl less ↦ get_or-append limits (2 ^ 63 ∷ []) 0 i (omega (arith, less, h.places)) ∙ h.each i less
             ∙ ap (limit_by is_narrow) (sym (pushed_before right i less))
         | inr ge ↦ let same : length limits ≡ i = omega (arith, ge, lt, count, h.places) in
-            subst (λ k. get_or (limits ++ 2 ^ 63 ∷ []) k 0 ≡ limit_by is_narrow (get_or (right ++ None ∷ []) k None)) same
+            subst (λ k. get_or (limits ++ 2 ^ 63 ∷ []) k 0 ≡ limit_by is_narrow (get_or (right ++ None ∷ []) k None))
+            same
             (get_or-append_seam limits (2 ^ 63) [] 0 ∙ sym (limit_of_none is_narrow)
             ∙ ap (limit_by is_narrow) (sym (pushed_last right (length limits) (sym h.places))))
       ];

@@ -24,19 +24,22 @@ moved_behind first before enters leaves (suc i) le =
 pub stepped : (before : List ℕ) (enters leaves : List ℤ) (i : ℕ) → length enters ≡ length before
     → length leaves ≡ length before
     → next_of (get_or before i 0) (get_or enters i (pos 0)) (get_or leaves i (pos 0))
-    (get_or enters (length before - 1) (pos 0)) (get_or leaves (length before - 1) (pos 0)) ≡ moved before enters leaves i
+    (get_or enters (length before - 1) (pos 0)) (get_or leaves (length before - 1) (pos 0))
+    ≡ moved before enters leaves i
 stepped before enters leaves i e f =
-    ap (λ n. next_of (get_or before i 0) (get_or enters i (pos 0)) (get_or leaves i (pos 0)) (get_or enters (n - 1) (pos 0))
-    (get_or leaves (length before - 1) (pos 0))) (sym e)
+    ap (λ n. next_of (get_or before i 0) (get_or enters i (pos 0)) (get_or leaves i (pos 0))
+    (get_or enters (n - 1) (pos 0)) (get_or leaves (length before - 1) (pos 0))) (sym e)
     ∙ ap (λ n. next_of (get_or before i 0) (get_or enters i (pos 0)) (get_or leaves i (pos 0)) (last_of enters)
     (get_or leaves (n - 1) (pos 0))) (sym f)
 
 -- the top bit of a difference
-pub below_tells : (sum limit : ℕ) → sum < 2 ^ 64 → limit ≤ 2 ^ 63 → (sum + 2 ^ 64 - limit) % 2 ^ 64 < 2 ^ 63 → limit ≤ sum
+pub below_tells : (sum limit : ℕ) → sum < 2 ^ 64 → limit ≤ 2 ^ 63 → (sum + 2 ^ 64 - limit) % 2 ^ 64 < 2 ^ 63
+    → limit ≤ sum
 below_tells sum limit h k lt = omega (arith, lt)
 
 -- the sums of the row
-pub row_is : (xs : List ℤ) (m first : ℕ) (before : List ℕ) (enters leaves : List ℤ) → ArePassed xs m before enters leaves
+pub row_is : (xs : List ℤ) (m first : ℕ) (before : List ℕ) (enters leaves : List ℤ)
+    → ArePassed xs m before enters leaves
     → first ≡ sum_at xs m 0 (length before) → (i : ℕ) → i ≤ length before
     → moved_row first before enters leaves i ≡ sum_at xs m i (length before)
 row_is xs m first before enters leaves h e zero le = e

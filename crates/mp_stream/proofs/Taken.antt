@@ -129,14 +129,6 @@ best_as free dist dist' n same =
 
 -- ---- what is not below its limit changes nothing
 
-pub limit_within : (found : Option Near) → limit_of found ≤ 2 ^ 63
-limit_within None = omega arith
-limit_within (Some a) = omega arith
-
-pub coarse_within : (found : Option Near) → coarse_limit found ≤ 2 ^ 63
-coarse_within None = omega arith
-coarse_within (Some a) = omega arith
-
 pub same_kept : (old : Option Near) (d j : ℕ) → d < 2 ^ 63 → limit_of old ≤ d → StartsAtMost j old
     → nearer_of old (Some (near_at j d)) ≡ old
 same_kept None d j small le h = absurd (omega arith)
@@ -228,19 +220,7 @@ limits_one limit_by free dist j i old new limits limit lt h are e = record {
       | inr ge ↦ h.behind q (omega (arith, ge, other))
     ]
 
--- below 2 ^ 63, as each limit of what was found is
-pub limits_small : (limit_by : Option Near → ℕ) (column : List (Option Near)) (limits : List ℕ)
-    → ((found : Option Near) → limit_by found ≤ 2 ^ 63) → AreLimits limit_by column limits
-    → (i : ℕ) → i < length limits → get_or limits i 0 ≤ 2 ^ 63
-limits_small limit_by column limits small are i lt =
-    subst (λ n. n ≤ 2 ^ 63) (sym (are.each i (omega (arith, lt, are.places)))) (small (get_or column i None))
-
 -- the last window is offered to windows before it
 pub offered_within : (is_free : Bool) (m last : ℕ) → offered_before is_free m last ≤ last
 offered_within true m last = omega arith
 offered_within false m last = omega arith
-
-pub some_within : (best : Option Near) (n k : ℕ) → n ≤ k → IfSome best (λ found. found.index < n)
-    → IfSome best (λ found. found.index < k)
-some_within None n k le h = tt
-some_within (Some a) n k le h = omega (arith, le, h)

@@ -45,7 +45,7 @@ impl Narrow {
     {
         Ok(Narrow {
             sums: saturated_sums(alloc, sums)?,
-            next: saturated_sums(alloc, sums)?,
+            next: Items::from(vec![in alloc; 0; sums.len()]?),
         })
     }
 

@@ -10,7 +10,7 @@ ghost use Rattle.mp_tiles.specs.Cutting.{diagonals_between};
 ghost use Rattle.mp_tiles.specs.Among.{profile_among};
 ghost use Rattle.mp_tiles.specs.Plain.{ArePlain};
 ghost use Rattle.mp_tiles.specs.Grids.{row_series, column_series, window_length, AreSumsIn, AreGapsIn};
-ghost use Rattle.mp_tiles.specs.Scanning.{in_block, on_diagonals};
+ghost use Rattle.mp_tiles.specs.Scanning.{in_block};
 
 use crate::columns::scan_columns;
 use crate::cuts::Tile;

@@ -10,7 +10,8 @@ pub loop-start-preserved : goal.loop-start-preserved
 loop-start-preserved c =
     let row = row_at (columns_in c.args.profile.now) in
     let before = flat_map row (range_with_len 0 c.loop-start.start) in
-    let pushed = rw (c.all-all.ensures.column, c.left-left.ensures, c.right-right.ensures) at c.in_ok-push_row.ensures in
+    let pushed =
+    rw (c.all-all.ensures.column, c.left-left.ensures, c.right-right.ensures) at c.in_ok-push_row.ensures in
     pushed
     ∙ (ap (λ xs. xs ++ row c.loop-start.start) c.loop-start.invariant
     ∙ (append_assoc c.args.text.now.items before (row c.loop-start.start)

@@ -3,4 +3,5 @@ use Rattle.mp_session.proofs.AppendLemmas.{AreGood}
 use Rattle.mp_session.proofs.append_command.count_items.Given as goal
 
 abbrev pub invariant-loop-item : goal.invariant-loop-item
-invariant-loop-item l = AreGood l.form.scale l.form.channels (fields_in l.items) (fields_in l.item-iterator.text.now) l.count
+invariant-loop-item l =
+    AreGood l.form.scale l.form.channels (fields_in l.items) (fields_in l.item-iterator.text.now) l.count

@@ -15,7 +15,8 @@ returns-clause-ok c = λ state files scale stores.
     let channels = length (channels_at (stores_of held) c.args.slot) in
     let n = c.count.ensures.channels in
     let samples : c.len.result + c.in-Ok.more ≡ samples_in (channels_at (stores_of held) c.args.slot) + length items =
-    ap (λ (m : ℕ). m + c.in-Ok.more) (c.len.ensures.length ∙ ap (λ st. samples_in (channels_at st c.args.slot)) c.reserve.ensures.stores)
+    ap (λ (m : ℕ). m + c.in-Ok.more)
+    (c.len.ensures.length ∙ ap (λ st. samples_in (channels_at st c.args.slot)) c.reserve.ensures.stores)
     ∙ ap (λ (m : ℕ). samples_in (channels_at (stores_of held) c.args.slot) + m) c.in-Ok.ensures.count in
     appended c.args.scale c.args.slot items held state files added (c.len.result + c.in-Ok.more) _ scale stores
     (omega (arith, c.in-Ok.ensures.open, c.count.ensures.count)) c.in-Ok.ensures.fine
@@ -29,7 +30,8 @@ returns-clause-can c =
     let added = lists_in c.in_ok-added.added.items in
     let n = c.count.result in
     let same : length (slot_at later c.args.slot) ≡ n =
-    sym (count_at later c.args.slot) ∙ (ap (λ st. length (channels_at st c.args.slot)) c.reserve.ensures.stores ∙ sym c.count.ensures.channels) in
+    sym (count_at later c.args.slot)
+    ∙ (ap (λ st. length (channels_at st c.args.slot)) c.reserve.ensures.stores ∙ sym c.count.ensures.channels) in
     let even = added_even c.args.scale n items added c.in-Ok.ensures.good c.in_ok-added.ensures in
     record {
       within = c.count.ensures.open c.in-Ok.ensures.open;

@@ -13,7 +13,8 @@ loop-item-preserved c =
     let left = fields_in c.next.new.self.text.now in
     let series = series_of c.loop-item.samples.items in
     let sample = c.sample_at.result in
-    let grown = ap series_of c.in_ok-push.ensures.items ∙ map-append reading_of c.loop-item.samples.items (sample ∷ []) in
+    let grown =
+    ap series_of c.in_ok-push.ensures.items ∙ map-append reading_of c.loop-item.samples.items (sample ∷ []) in
     subst (λ (s : Series). AreRead scale channels c.args.channel all left s) (sym grown)
     (read_more scale channels c.args.channel all c.in-Some.item.now left series (reading_of sample) c.sample_at.ensures
     (subst (λ ls. AreRead scale channels c.args.channel all ls series) c.in-Some.ensures.steps c.loop-item.invariant))

@@ -13,9 +13,11 @@ loop-k-preserved c =
     let rows = rows_in (read_items c.args.form.scale c.args.form.channels (fields_in c.args.items.now)) in
     let old = c.loop-k.added.items in
     let one = c.in_ok-read_channel.field-0 in
-    let grown : map series_of (lists_in c.push.new.self.items) ≡ map series_of (lists_in old) ++ series_of one.items ∷ [] =
+    let grown : map series_of (lists_in c.push.new.self.items)
+    ≡ map series_of (lists_in old) ++ series_of one.items ∷ [] =
     ap (λ v. map series_of (lists_in v)) c.in_ok-push.ensures.items
-    ∙ (ap (map series_of) (map-append (λ samples. samples.items) old (one ∷ [])) ∙ map-append series_of (lists_in old) (one.items ∷ [])) in
+    ∙ (ap (map series_of) (map-append (λ samples. samples.items) old (one ∷ []))
+    ∙ map-append series_of (lists_in old) (one.items ∷ [])) in
     grown
     ∙ (ap (λ (ss : List Series). ss ++ series_of one.items ∷ []) c.loop-k.invariant
     ∙ (ap (λ (s : Series). columns_of c.loop-k.k rows ++ s ∷ []) c.in_ok-read_channel.ensures

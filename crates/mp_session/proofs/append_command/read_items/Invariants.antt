@@ -8,4 +8,5 @@ use Rattle.mp_session.proofs.append_command.read_items.Given as goal
 
 abbrev pub invariant-loop-k : goal.invariant-loop-k
 invariant-loop-k l =
-    map series_of (lists_in l.added.items) ≡ columns_of l.k (rows_in (read_items l.form.scale l.form.channels (fields_in l.items)))
+    map series_of (lists_in l.added.items)
+    ≡ columns_of l.k (rows_in (read_items l.form.scale l.form.channels (fields_in l.items)))

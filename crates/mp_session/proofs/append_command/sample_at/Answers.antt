@@ -13,20 +13,27 @@ unwrap-requires c =
     let values = values_in c.args.item.now in
     let row = good_row (item_of scale c.args.form.channels 0 c.args.item.now) c.requires.good in
     let spelled = item_spelled scale c.args.form.channels 0 c.args.item.now row.0 row.1 in
-    let at = ap (option_map (λ text. text.now)) (sym c.unwrap-value.ensures)
+    let at =
+    ap (option_map (λ text. text.now)) (sym c.unwrap-value.ensures)
     ∙ nth_from_yields_List c.nth.result c.nth.new.self c.args.channel c.nth.ensures.ran
-    (YieldsList-from_first (λ text. text.now) (λ left. values_left (option_map (λ text. text.now) left.left)) values c.of.ensures) in
-    ok_by_spelling c.read_sample.result (value_of scale value) _ (sample_of_value scale values row.0 c.args.channel value spelled at) c.read_sample.ensures.fault
+    (YieldsList-from_first (λ text. text.now) (λ left. values_left (option_map (λ text. text.now) left.left))
+    values c.of.ensures) in
+    ok_by_spelling c.read_sample.result (value_of scale value) _
+    (sample_of_value scale values row.0 c.args.channel value spelled at) c.read_sample.ensures.fault
 
 pub returns : goal.returns
 returns c = λ row is.
     let scale = c.args.form.scale in
     let value = c.unwrap-value.result.now in
     let values = values_in c.args.item.now in
-    let at = ap (option_map (λ text. text.now)) (sym c.unwrap-value.ensures)
+    let at =
+    ap (option_map (λ text. text.now)) (sym c.unwrap-value.ensures)
     ∙ nth_from_yields_List c.nth.result c.nth.new.self c.args.channel c.nth.ensures.ran
-    (YieldsList-from_first (λ text. text.now) (λ left. values_left (option_map (λ text. text.now) left.left)) values c.of.ensures) in
-    let spelled = sample_of_value scale values row c.args.channel value (item_spelled scale c.args.form.channels 0 c.args.item.now row is) at in
+    (YieldsList-from_first (λ text. text.now) (λ left. values_left (option_map (λ text. text.now) left.left))
+    values c.of.ensures) in
+    let spelled =
+    sample_of_value scale values row c.args.channel value
+    (item_spelled scale c.args.form.channels 0 c.args.item.now row is) at in
     let read = rw c.unwrap.ensures at c.read_sample.ensures.sample in
     let same = sym read ∙ spelled in
     cc

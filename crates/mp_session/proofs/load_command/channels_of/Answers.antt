@@ -14,11 +14,19 @@ loop-k-preserved c =
     let series = c.series.result.now in
     let k = c.loop-k.k in
     record {
-      items = ap items_in c.in_ok-push.ensures.items
+      items =
+          ap items_in c.in_ok-push.ensures.items
           ∙ (map-append (λ channel. channel.items) old (one ∷ [])
           ∙ (ap (λ (lists : List (List Sample)). lists ++ one.items ∷ []) c.loop-k.invariant.items
-          ∙ (ap (λ (samples : List Sample). take k columns ++ samples ∷ []) (c.in_ok-channel_of.ensures.items ∙ sym (got columns k series c.series.ensures))
+          ∙ (ap (λ (samples : List Sample). take k columns ++ samples ∷ [])
+          (c.in_ok-channel_of.ensures.items ∙ sym (got columns k series c.series.ensures))
           ∙ sym (take_more columns k [] (omega (arith, c.loop-k-test.true, c.count-k-end.ensures))))));
-      unread = ap reads_in c.in_ok-push.ensures.items
-          ∙ omega (arith, sum_by-append (λ channel. channel.reads) old (one ∷ []), c.loop-k.invariant.unread, c.in_ok-channel_of.ensures.unread);
+      unread =
+          ap reads_in c.in_ok-push.ensures.items
+          ∙ omega (
+            arith,
+            sum_by-append (λ channel. channel.reads) old (one ∷ []),
+            c.loop-k.invariant.unread,
+            c.in_ok-channel_of.ensures.unread,
+          );
     }

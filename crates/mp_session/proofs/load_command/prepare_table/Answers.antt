@@ -21,32 +21,42 @@ read_table-requires-clause-few c =
 pub series-requires : goal.series-requires
 series-requires c =
     let cols = c.as_slice.result.now in
-    let t = table_is c.args.scale cols (data_records c.args.load.header c.args.bytes.now) (map series_of c.in-Ok.bundle) c.in-Ok.ensures.table in
+    let t =
+    table_is c.args.scale cols (data_records c.args.load.header c.args.bytes.now) (map series_of c.in-Ok.bundle)
+    c.in-Ok.ensures.table in
     let some = some_columns c.args.load.columns.field.now c.in_ok-columns.columns.items c.in_ok-columns.ensures in
     omega (arith, ap length c.as_slice.ensures.value, some, table_long cols c.in-Ok.bundle t)
 
 pub channels_of-requires : goal.channels_of-requires
 channels_of-requires c = λ k d within.
     let cols = c.as_slice.result.now in
-    let t = table_is c.args.scale cols (data_records c.args.load.header c.args.bytes.now) (map series_of c.in-Ok.bundle) c.in-Ok.ensures.table in
+    let t =
+    table_is c.args.scale cols (data_records c.args.load.header c.args.bytes.now) (map series_of c.in-Ok.bundle)
+    c.in-Ok.ensures.table in
     omega (arith, even_table cols c.in-Ok.bundle t k d within, t.few)
 
 pub returns-clause-ok : goal.returns-clause-ok
 returns-clause-ok c = λ state files scale within none found.
     let load = c.args.load in
     let cols = unwrap_or (columns load.columns.field.now) [] in
-    let same : cols ≡ c.as_slice.result.now = ap (λ o. unwrap_or o []) c.in_ok-columns.ensures ∙ sym c.as_slice.ensures.value in
+    let same : cols ≡ c.as_slice.result.now =
+    ap (λ o. unwrap_or o []) c.in_ok-columns.ensures ∙ sym c.as_slice.ensures.value in
     let channels = c.in_ok-channels_of.field-0.items in
-    loaded state files load.slot load.file.now cols load.header c.args.bytes.now c.in-Ok.bundle c.series.result.now _ _ within none found c.requires.within
-    (rw (scale, same) c.in-Ok.ensures.table) c.series.ensures refl refl
-    (ap (change.PutChannels load.slot) (sym (map-map series_of (λ channel. channel.items) channels) ∙ ap (map series_of) c.in_ok-channels_of.ensures.items))
+    loaded state files load.slot load.file.now cols load.header c.args.bytes.now c.in-Ok.bundle c.series.result.now _ _
+    within none found c.requires.within (rw (scale, same) c.in-Ok.ensures.table) c.series.ensures refl refl
+    (ap (change.PutChannels load.slot)
+    (sym (map-map series_of (λ channel. channel.items) channels)
+    ∙ ap (map series_of) c.in_ok-channels_of.ensures.items))
 
 pub returns-clause-can : goal.returns-clause-can
 returns-clause-can c = λ held.
     let cols = c.as_slice.result.now in
-    let t = table_is c.args.scale cols (data_records c.args.load.header c.args.bytes.now) (map series_of c.in-Ok.bundle) c.in-Ok.ensures.table in
+    let t =
+    table_is c.args.scale cols (data_records c.args.load.header c.args.bytes.now) (map series_of c.in-Ok.bundle)
+    c.in-Ok.ensures.table in
     let some = some_columns c.args.load.columns.field.now c.in_ok-columns.columns.items c.in_ok-columns.ensures in
     let few = few_columns c.args.load.columns.field.now c.in_ok-columns.columns.items c.in_ok-columns.ensures in
     let long = ap length c.as_slice.ensures.value in
-    can_put_table c.args.load.slot cols c.in-Ok.bundle c.in_ok-channels_of.field-0.items c.requires.slot (omega (arith, long, some)) (omega (arith, long, few))
-    t c.in_ok-channels_of.ensures.items c.in_ok-channels_of.ensures.unread
+    can_put_table c.args.load.slot cols c.in-Ok.bundle c.in_ok-channels_of.field-0.items c.requires.slot
+    (omega (arith, long, some)) (omega (arith, long, few)) t c.in_ok-channels_of.ensures.items
+    c.in_ok-channels_of.ensures.unread

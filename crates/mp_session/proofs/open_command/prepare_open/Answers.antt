@@ -8,7 +8,9 @@ pub returns-clause-ok : goal.returns-clause-ok
 returns-clause-ok c = λ state files.
     let channels = c.in_ok-channels.channels.items in
     opened state files c.args.slot c.args.channels _ (sym c.in_default.ensures.cause) refl
-    (ap (PutChannels c.args.slot) (empty_series channels c.in_ok-channels.ensures.empty ∙ ap (λ (n : ℕ). replicate n []) (sym c.in_ok-channels.channels.ok.0 ∙ c.in_ok-channels.ensures.len)))
+    (ap (PutChannels c.args.slot)
+    (empty_series channels c.in_ok-channels.ensures.empty
+    ∙ ap (λ (n : ℕ). replicate n []) (sym c.in_ok-channels.channels.ok.0 ∙ c.in_ok-channels.ensures.len)))
 
 pub returns-clause-can : goal.returns-clause-can
 returns-clause-can c = λ held.

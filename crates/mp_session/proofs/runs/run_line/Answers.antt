@@ -11,21 +11,26 @@ use Rattle.mp_session.proofs.runs.run_line.Goals as goal
 pub returns-in-Err-Memory-clause-memory : goal.returns-in-Err-Memory-clause-memory
 returns-in-Err-Memory-clause-memory g c = λ left _. record {
   texts = [];
-  run = have_run_stopped (g.H.Shelf.files c.args.shelf.now) c.args.session.now c.run.new.self c.in-Err-Memory.ensures.stop c.in-Err-Memory.ensures.stop_lines;
+  run =
+      have_run_stopped (g.H.Shelf.files c.args.shelf.now) c.args.session.now c.run.new.self c.in-Err-Memory.ensures.stop
+      c.in-Err-Memory.ensures.stop_lines;
   wrote = none;
 }
 
 pub returns-in-Err-ShelfFault-clause-shelf_fault : goal.returns-in-Err-ShelfFault-clause-shelf_fault
 returns-in-Err-ShelfFault-clause-shelf_fault g c = λ left _. record {
   texts = [];
-  run = have_run_stopped (g.H.Shelf.files c.args.shelf.now) c.args.session.now c.run.new.self c.in-Err-ShelfFault.ensures.stop c.in-Err-ShelfFault.ensures.stop_lines;
+  run =
+      have_run_stopped (g.H.Shelf.files c.args.shelf.now) c.args.session.now c.run.new.self
+      c.in-Err-ShelfFault.ensures.stop c.in-Err-ShelfFault.ensures.stop_lines;
   wrote = none;
 }
 
 pub returns-in-Err-ShelfFault-clause-shelf_asked : goal.returns-in-Err-ShelfFault-clause-shelf_asked
-returns-in-Err-ShelfFault-clause-shelf_asked g c = λ state h _. ⊎_elim
-    (λ (asks : fetches state c.args.line.now ≡ true). asks)
-    (λ (asks : fetches state c.args.line.now ≡ false). absurd (c.in-Err-ShelfFault.ensures.no_fault state h asks (ap Err c.in-Err-ShelfFault.field-0-is)))
+returns-in-Err-ShelfFault-clause-shelf_asked g c = λ state h _.
+    ⊎_elim (λ (asks : fetches state c.args.line.now ≡ true). asks)
+    (λ (asks : fetches state c.args.line.now ≡ false).
+    absurd (c.in-Err-ShelfFault.ensures.no_fault state h asks (ap Err c.in-Err-ShelfFault.field-0-is)))
     (cases_Bool (fetches state c.args.line.now))
 
 pub returns-clause-run : goal.returns-clause-run
@@ -34,10 +39,15 @@ returns-clause-run g c = λ left.
     let ran = c.in-Ok.ensures in
     record {
       texts = c.as_slice.result.now ∷ [];
-      run = have_run_one (g.H.Shelf.files c.args.shelf.now) line c.as_slice.result.now c.args.session.now c.run.new.self c.is_refused.result
+      run =
+          have_run_one (g.H.Shelf.files c.args.shelf.now) line c.as_slice.result.now c.args.session.now c.run.new.self
+          c.is_refused.result
           (λ state files h t. c.as_slice.ensures ∙ ran.text state files h (told_line state files line t))
           (λ state files h t. ran.after state files h (told_line state files line t))
-          (λ state files h t. c.is_refused.ensures ∙ (ap is_refused (ran.kind state files h (told_line state files line t)) ∙ refused_kind state line files))
+          (λ state files h t.
+          c.is_refused.ensures
+          ∙ (ap is_refused (ran.kind state files h (told_line state files line t))
+          ∙ refused_kind state line files))
           ran.lines;
       wrote = wrote_one c.in_default.ensures.wrote;
     }
@@ -49,6 +59,7 @@ pub returns-in-Err-clause-begun : goal.returns-in-Err-clause-begun
 returns-in-Err-clause-begun g c = λ left _. record {
   text = c.as_slice.result.now;
   text_is = λ state files h t.
-      ap (λ (r : List ℕ). r ∷ []) (c.as_slice.ensures ∙ c.in-Ok.ensures.text state files h (told_line state files c.args.line.now t));
+      ap (λ (r : List ℕ). r ∷ [])
+      (c.as_slice.ensures ∙ c.in-Ok.ensures.text state files h (told_line state files c.args.line.now t));
   front = c.in-Err.ensures.front;
 }

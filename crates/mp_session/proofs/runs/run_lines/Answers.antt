@@ -28,7 +28,8 @@ loop-reader-init g c = rw c.in_ok-reader.ensures (record {
 
 pub returns-in-Err-clause-read_fault : goal.returns-in-Err-clause-read_fault
 returns-in-Err-clause-read_fault g c = λ _.
-    lines_before_fault c.advance.new.self (g.S.Source.left c.advance.new.input) c.loop-reader.invariant.run c.in-Err.ensures.failed
+    lines_before_fault c.advance.new.self (g.S.Source.left c.advance.new.input) c.loop-reader.invariant.run
+    c.in-Err.ensures.failed
 
 pub returns-in-Ok-PastLimit-clause-input_limit : goal.returns-in-Ok-PastLimit-clause-input_limit
 returns-in-Ok-PastLimit-clause-input_limit g c = λ _.
@@ -42,20 +43,24 @@ returns-in-Ok-End-clause-all g c =
 
 pub returns-in_err-ran-clause-memory : goal.returns-in_err-ran-clause-memory
 returns-in_err-ran-clause-memory g c = λ e.
-    some_lines c.loop-reader.invariant.run (rw c.loop-reader.invariant.files at c.in_err-ran.ensures.memory (g.S.Source.left c.advance.new.input) (search rules))
+    some_lines c.loop-reader.invariant.run
+    (rw c.loop-reader.invariant.files at c.in_err-ran.ensures.memory
+    (g.S.Source.left c.advance.new.input) (search rules))
 
 pub returns-in_err-ran-clause-shelf_fault : goal.returns-in_err-ran-clause-shelf_fault
 returns-in_err-ran-clause-shelf_fault g c = λ e.
     to_file c.advance.new.self (g.S.Source.left c.advance.new.input) c.loop-reader.invariant.run c.in-Ok-Line.last
     (rw c.in-Ok-Line.field-0-is at c.in-Ok-Line.ensures.next) c.line.ensures
-    (rw c.loop-reader.invariant.files at c.in_err-ran.ensures.shelf_fault (g.S.Source.left c.advance.new.input) (search rules))
+    (rw c.loop-reader.invariant.files at c.in_err-ran.ensures.shelf_fault
+    (g.S.Source.left c.advance.new.input) (search rules))
     (λ state h. c.in_err-ran.ensures.shelf_asked state h (search rules))
 
 pub returns-in_err-ran-clause-write_fault : goal.returns-in_err-ran-clause-write_fault
 returns-in_err-ran-clause-write_fault g c = λ e.
     into_line c.advance.new.self (g.S.Source.left c.advance.new.input) c.loop-reader.invariant.run c.in-Ok-Line.last
     (rw c.in-Ok-Line.field-0-is at c.in-Ok-Line.ensures.next) c.line.ensures
-    (rw c.loop-reader.invariant.files at c.in_err-ran.ensures.begun (g.S.Source.left c.advance.new.input) (search rules))
+    (rw c.loop-reader.invariant.files at c.in_err-ran.ensures.begun
+    (g.S.Source.left c.advance.new.input) (search rules))
 
 pub returns-then-ran-clause-all : goal.returns-then-ran-clause-all
 returns-then-ran-clause-all g c =
@@ -63,9 +68,11 @@ returns-then-ran-clause-all g c =
     let next = rw c.in-Ok-Line.field-0-is at c.in-Ok-Line.ensures.next in
     let run = rw c.loop-reader.invariant.files at c.in_ok-ran.ensures.run left in
     elim c.then-ran.branch [
-      | then-ran-via-then-ran w ↦ all_to_end c.advance.new.self left c.loop-reader.invariant.run c.in-Ok-Line.last next c.line.ensures
+      | then-ran-via-then-ran w ↦
+          all_to_end c.advance.new.self left c.loop-reader.invariant.run c.in-Ok-Line.last next c.line.ensures
           run c.in_ok-ran.ensures.ends w.if-ran.true
-      | then-ran-via-else-ran+then-last w ↦ all_to_last c.advance.new.self left c.loop-reader.invariant.run c.in-Ok-Line.last
+      | then-ran-via-else-ran+then-last w ↦
+          all_to_last c.advance.new.self left c.loop-reader.invariant.run c.in-Ok-Line.last
           w.if-last.true next c.line.ensures run
     ]
 
@@ -74,12 +81,16 @@ loop-reader-preserved g c =
     let i = c.loop-reader.invariant in
     let left = g.S.Source.left c.advance.new.input in
     let read = c.in-Ok-Line.ensures in
-    let line_held = subst (λ last. IsNext c.loop-reader.reader c.advance.new.self (g.S.Source.left c.loop-reader.input) left (Line last))
+    let line_held =
+    subst (λ last.
+    IsNext c.loop-reader.reader c.advance.new.self (g.S.Source.left c.loop-reader.input) left (Line last))
     c.if-last.false (rw c.in-Ok-Line.field-0-is at read.next) in
     let fewer = read.fewer (c.in-Ok-Line.field-0-is ∙ ap Line c.if-last.false) in
     let ran = c.in_ok-ran.ensures in
     rw c.drop_line.ensures (record {
-      run = under_way_on c.advance.new.self left i.run line_held c.line.ensures (rw i.files at ran.run left) ran.ends c.if-ran.false;
+      run =
+          under_way_on c.advance.new.self left i.run line_held c.line.ensures (rw i.files at ran.run left)
+          ran.ends c.if-ran.false;
       part = λ whole. absurd (cc whole);
       count = omega (arith, i.count, fewer, (ran.run left).run.count);
       given = omega (arith, i.given, read.given);

@@ -7,7 +7,8 @@ use Rattle.mp_session.proofs.runs.run_lines.Given as goal
 
 abbrev pub invariant-loop-reader : goal.invariant-loop-reader
 invariant-loop-reader g l = record {
-  run : IsUnderWay g.K.Sink (g.H.Shelf.files l.initial.shelf) l.limit (course_at l.initial.session (g.S.Source.left l.initial.input) l.initial.out)
+  run : IsUnderWay g.K.Sink (g.H.Shelf.files l.initial.shelf) l.limit
+      (course_at l.initial.session (g.S.Source.left l.initial.input) l.initial.out)
       (course_at l.session (g.S.Source.left l.input) l.out) l.reader l.refused;
   part : ¬ IsTrue l.reader.holding.whole;
   count : l.session.lines + (length l.reader.unread + l.reader.left) ≤ l.initial.session.lines + l.limit;

@@ -6,7 +6,8 @@ use Rattle.mp_session.proofs.top.run_session.Goals as goal
 pub returns-clause-told : goal.returns-clause-told
 returns-clause-told g c = λ files bytes before t e w fits.
     let state = opening c.args.settings.window c.args.settings.scale in
-    ok_on c.run_lines.result c.run_lines.ensures.all (λ _ ran. all_told ran state files bytes before c.in_ok-session.ensures.opening t e w fits)
+    ok_on c.run_lines.result c.run_lines.ensures.all
+    (λ _ ran. all_told ran state files bytes before c.in_ok-session.ensures.opening t e w fits)
 
 pub returns-clause-front : goal.returns-clause-front
 returns-clause-front g c = λ files bytes before t e w fits.
@@ -23,20 +24,24 @@ returns-clause-front g c = λ files bytes before t e w fits.
 
 pub returns-clause-read_fault_front : goal.returns-clause-read_fault_front
 returns-clause-read_fault_front g c = λ files bytes before t e w fits is.
-    told_taken (c.run_lines.ensures.read_fault is) (opening c.args.settings.window c.args.settings.scale) files bytes before c.in_ok-session.ensures.opening t e w fits
+    told_taken (c.run_lines.ensures.read_fault is) (opening c.args.settings.window c.args.settings.scale) files bytes
+    before c.in_ok-session.ensures.opening t e w fits
 
 pub returns-clause-input_limit_front : goal.returns-clause-input_limit_front
 returns-clause-input_limit_front g c = λ files bytes before t e w fits is.
     let ended = c.run_lines.ensures.input_limit is in
-    told_within ended.0 ended.1 (opening c.args.settings.window c.args.settings.scale) files bytes before c.in_ok-session.ensures.opening t e w fits
+    told_within ended.0 ended.1 (opening c.args.settings.window c.args.settings.scale) files bytes before
+    c.in_ok-session.ensures.opening t e w fits
 
 pub returns-clause-memory_front : goal.returns-clause-memory_front
 returns-clause-memory_front g c = λ files bytes before t e w fits is.
-    some_whole (c.run_lines.ensures.memory is) (opening c.args.settings.window c.args.settings.scale) files bytes before c.in_ok-session.ensures.opening t e w fits
+    some_whole (c.run_lines.ensures.memory is) (opening c.args.settings.window c.args.settings.scale) files bytes before
+    c.in_ok-session.ensures.opening t e w fits
 
 pub returns-clause-shelf_fault_front : goal.returns-clause-shelf_fault_front
 returns-clause-shelf_fault_front g c = λ files bytes before t e w fits is.
-    told_to_file (c.run_lines.ensures.shelf_fault is) (opening c.args.settings.window c.args.settings.scale) files bytes before c.in_ok-session.ensures.opening t e w fits
+    told_to_file (c.run_lines.ensures.shelf_fault is) (opening c.args.settings.window c.args.settings.scale) files bytes
+    before c.in_ok-session.ensures.opening t e w fits
 
 pub returns-clause-quiet : goal.returns-clause-quiet
 returns-clause-quiet g c = λ files bytes t e none.
@@ -54,7 +59,8 @@ returns-clause-quiet g c = λ files bytes t e none.
 pub returns-clause-refused : goal.returns-clause-refused
 returns-clause-refused g c = λ files bytes t e.
     if_ok c.run_lines.result c.run_lines.ensures.all
-    (λ _ ran. all_refused ran (opening c.args.settings.window c.args.settings.scale) files bytes c.in_ok-session.ensures.opening t e)
+    (λ _ ran. all_refused ran (opening c.args.settings.window c.args.settings.scale) files bytes
+    c.in_ok-session.ensures.opening t e)
 
 pub returns-clause-read : goal.returns-clause-read
 returns-clause-read g c = λ bytes e none.
@@ -74,4 +80,5 @@ returns-clause-flushed g c = ok_on c.run_lines.result c.run_lines.ensures.all (�
 
 pub returns-clause-fileless : goal.returns-clause-fileless
 returns-clause-fileless g c = λ files bytes e none is.
-    stopped_at_file (c.run_lines.ensures.shelf_fault is) (opening c.args.settings.window c.args.settings.scale) files bytes c.in_ok-session.ensures.opening e none
+    stopped_at_file (c.run_lines.ensures.shelf_fault is) (opening c.args.settings.window c.args.settings.scale) files
+    bytes c.in_ok-session.ensures.opening e none

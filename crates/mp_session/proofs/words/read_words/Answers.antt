@@ -11,6 +11,8 @@ returns-in_default c =
     let long = length-map c.args.words.now string_bytes in
     elim c.in_default.branch [
       | in_default-via-then-words-lt2 w ↦ few_words words (grind (arith, nat_tests, long))
-      | in_default-via-else-words-lt2+else-words-lt3+then-words-lt4 w ↦ three_words words (grind (arith, nat_tests, long))
-      | in_default-via-else-words-lt2+else-words-lt3+else-words-lt4+else-words-lt5 w ↦ many_words words (grind (arith, nat_tests, long))
+      | in_default-via-else-words-lt2+else-words-lt3+then-words-lt4 w ↦
+          three_words words (grind (arith, nat_tests, long))
+      | in_default-via-else-words-lt2+else-words-lt3+else-words-lt4+else-words-lt5 w ↦
+          many_words words (grind (arith, nat_tests, long))
     ]

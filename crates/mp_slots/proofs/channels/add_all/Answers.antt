@@ -13,14 +13,18 @@ bounds-added-k c =
 
 pub add_samples-requires-clause-room : goal.add_samples-requires-clause-room
 add_samples-requires-clause-room c =
-    let fits = fits_at c.args.channels.now c.loop-k.channels c.args.added.now c.loop-k.k c.index-channels-k.result c.index-added-k.result c.requires
-    (omega arith) (omega (arith, c.loop-k.auto.channels)) (c.loop-k.invariant.rest c.loop-k.k (omega arith)) c.index-added-k.is in
+    let fits =
+    fits_at c.args.channels.now c.loop-k.channels c.args.added.now c.loop-k.k c.index-channels-k.result
+    c.index-added-k.result c.requires (omega arith) (omega (arith, c.loop-k.auto.channels))
+    (c.loop-k.invariant.rest c.loop-k.k (omega arith)) c.index-added-k.is in
     rw c.as_slice.ensures.value fits.room
 
 pub add_samples-requires-clause-fits : goal.add_samples-requires-clause-fits
 add_samples-requires-clause-fits c =
-    let fits = fits_at c.args.channels.now c.loop-k.channels c.args.added.now c.loop-k.k c.index-channels-k.result c.index-added-k.result c.requires
-    (omega arith) (omega (arith, c.loop-k.auto.channels)) (c.loop-k.invariant.rest c.loop-k.k (omega arith)) c.index-added-k.is in
+    let fits =
+    fits_at c.args.channels.now c.loop-k.channels c.args.added.now c.loop-k.k c.index-channels-k.result
+    c.index-added-k.result c.requires (omega arith) (omega (arith, c.loop-k.auto.channels))
+    (c.loop-k.invariant.rest c.loop-k.k (omega arith)) c.index-added-k.is in
     rw c.as_slice.ensures.value fits.fits
 
 pub loop-k-preserved : goal.loop-k-preserved
@@ -29,16 +33,24 @@ loop-k-preserved c =
     let now = c.loop-k.channels in
     let k = c.loop-k.k in
     let long = lists_long old c.args.added.now c.requires in
-    let list = list_at c.args.added.now k c.index-added-k.result (omega (arith, long, c.loop-k.auto.channels)) c.index-added-k.is in
-    let here = get_or_default now k c.index-channels-k.result nothing (omega arith) ∙ c.loop-k.invariant.rest k (omega arith) in
+    let list =
+    list_at c.args.added.now k c.index-added-k.result (omega (arith, long, c.loop-k.auto.channels))
+    c.index-added-k.is in
+    let here =
+    get_or_default now k c.index-channels-k.result nothing (omega arith)
+    ∙ c.loop-k.invariant.rest k (omega arith) in
     record {
-      done = item_done old now (lists_in c.args.added.now) k c.add_samples.new.series (omega arith)
+      done =
+          item_done old now (lists_in c.args.added.now) k c.add_samples.new.series (omega arith)
           (c.add_samples.ensures.items
           ∙ (ap (λ channel. channel.items ++ c.as_slice.result.now) here
-          ∙ ap (λ (samples : List Sample). (slice_index_or old k nothing).items ++ samples) (c.as_slice.ensures.value ∙ sym list)))
+          ∙ ap (λ (samples : List Sample). (slice_index_or old k nothing).items ++ samples)
+          (c.as_slice.ensures.value ∙ sym list)))
           c.loop-k.invariant.done;
       rest = rest_kept old now k c.add_samples.new.series c.loop-k.invariant.rest;
-      reads = reads_kept old now k c.add_samples.new.series c.index-channels-k.result c.add_samples.ensures.reads c.loop-k.invariant.reads;
+      reads =
+          reads_kept old now k c.add_samples.new.series c.index-channels-k.result c.add_samples.ensures.reads
+          c.loop-k.invariant.reads;
     }
 
 pub returns-clause-items : goal.returns-clause-items

@@ -22,7 +22,8 @@ loop-i-preserved c =
       done = set_more 0 (λ q s. s ≡ moved_by moves q) c.loop-i.sums i c.next_sum-sum.result (omega arith)
           c.loop-i.invariant.done here;
       above = λ small. below_more
-          (λ q. c.args.first ≤ q → (get_or c.args.limits.now q 0 ≤ moved_by moves q) × (c.args.best ≤ moved_by moves q)) i
+          (λ q. c.args.first ≤ q → (get_or c.args.limits.now q 0 ≤ moved_by moves q) × (c.args.best ≤ moved_by moves q))
+          i
           (c.loop-i.invariant.above (omega (arith, small, c.either-below.ensures.a)))
           (λ from.
           let limit = below_tells c.next_sum-sum.result (get_or c.args.limits.now i 0) c.next_sum-sum.type_inv

@@ -12,7 +12,8 @@ overflow_cast-first c =
     let w = length c.args.before.now in
     let many = length-map items number_in in
     let small = sum_small c.args.range (numbers_in items) c.args.m 0 w c.requires.range c.requires.fits
-    (omega (arith, many, c.requires.all, c.requires.one_more)) (omega (arith, many, c.requires.all, c.requires.one_more)) in
+    (omega (arith, many, c.requires.all, c.requires.one_more))
+    (omega (arith, many, c.requires.all, c.requires.one_more)) in
     omega (arith, small, c.sum_of-first.ensures.sum)
 
 pub invariant_of-moves : goal.invariant_of-moves
@@ -28,7 +29,8 @@ invariant_of-moves c =
       can = can_move_narrow c.args.range xs c.args.m c.args.before.now c.parts.result.1.now c.parts.result.0.now passed
           c.requires.range c.requires.fits;
       small = λ i le. subst (λ n. n < 2 ^ 63)
-          (sym (row_is xs c.args.m c.sum_of-first.result c.args.before.now c.parts.result.1.now c.parts.result.0.now passed
+          (sym (row_is xs c.args.m c.sum_of-first.result c.args.before.now c.parts.result.1.now
+          c.parts.result.0.now passed
           c.sum_of-first.ensures.sum i le))
           (sum_small c.args.range xs c.args.m i w c.requires.range c.requires.fits
           (omega (arith, le, many, c.requires.all, c.requires.one_more))

@@ -18,7 +18,8 @@ returns-else-is_below-clause-best c =
     let end : c.args.first + n ≡ c.args.end = omega arith in
     let best = c.args.best.now.found in
     let sums : ℕ → ℕ = λ i. get_or c.args.sums.now i 0 in
-    let starts = subst (StartsAtMost c.args.first) (sym c.requires.best) (best_starts c.args.free.now sums c.args.first) in
+    let starts =
+    subst (StartsAtMost c.args.first) (sym c.requires.best) (best_starts c.args.free.now sums c.args.first) in
     subst (λ e. best ≡ near (row_candidate c.args.free.now sums) e) end
     (best_kept _ _ c.args.first n best c.requires.best (λ i low high.
     let above = c.requires.above c.if-is_below.false i low (omega (arith, high)) in

@@ -1,4 +1,4 @@
-use Rattle.std.proofs.Common.{length, ap, ◌∙◌, arith}
+use Rattle.std.proofs.Common.{arith}
 use Rattle.mp_workers.proofs.joins.self_join.Goals as goal
 
 pub run_all-requires-clause-pieces : goal.run_all-requires-clause-pieces

@@ -8,12 +8,14 @@ use Rattle.mp_feed.proofs.feeds.Feed.feed.Goals as goal
 
 -- the line ends at the first LF, or at the piece's end
 line_end_is : (c : goal.After-from) → c.unwrap_or-line_end.result ≡ position_or_len is_lf c.args.piece.now
-line_end_is c = c.unwrap_or-line_end.ensures ∙ unwrap_or-first_lf c.args.piece.now c.memchr-lf.result c.memchr-lf.ensures
+line_end_is c =
+    c.unwrap_or-line_end.ensures ∙ unwrap_or-first_lf c.args.piece.now c.memchr-lf.result c.memchr-lf.ensures
 
 whole_is : (c : goal.After-from) → c.is_some-self-inside.result ≡ has_lf c.args.piece.now
 whole_is c = c.is_some-self-inside.ensures ∙ is_some-first_lf c.args.piece.now c.memchr-lf.result c.memchr-lf.ensures
 
-kept_is : (c : goal.After-from) → c.keep.new.kept.items ≡ cut (c.self.inside.kept.items ++ before_first is_lf c.args.piece.now)
+kept_is : (c : goal.After-from)
+    → c.keep.new.kept.items ≡ cut (c.self.inside.kept.items ++ before_first is_lf c.args.piece.now)
 kept_is c = c.keep.ensures.kept ∙ ap (λ n. cut (c.self.inside.kept.items ++ take n c.args.piece.now)) (line_end_is c)
 
 fed_is : (old inside : Holding) (piece kept : List ℕ) (whole : Bool) → inside ≡ old
@@ -39,7 +41,9 @@ invariant_of-self c = (returns-clause-is_cut c, omega arith)
 pub returns-clause-used : goal.returns-clause-used
 returns-clause-used c =
     let piece = c.args.piece.now in
-    let ends = line_end_is c in ⊎_elim
+    let ends = line_end_is c in
+    ⊎_elim
     (λ (some : has_lf piece ≡ true). rw (c.from.ensures, whole_is c, some) (omega (arith, used_of-lf piece some)))
-    (λ (none : has_lf piece ≡ false). rw (c.from.ensures, whole_is c, none) (omega (arith, used_of-no_lf piece none, position_or_len-no_lf piece none)))
+    (λ (none : has_lf piece ≡ false). rw (c.from.ensures, whole_is c, none)
+    (omega (arith, used_of-no_lf piece none, position_or_len-no_lf piece none)))
     (cases_Bool (has_lf piece))

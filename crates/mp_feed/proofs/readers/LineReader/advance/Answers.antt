@@ -9,7 +9,13 @@ use Rattle.mp_feed.proofs.ReaderLemmas.{gave_line, gave_part, at_rest}
 use Rattle.mp_feed.proofs.readers.LineReader.advance.Goals as goal
 
 pub loop-self-init : goal.loop-self-init
-loop-self-init g c = record { gave = gave_none c.args.self.now (g.S.Source.left c.args.input.now); part = c.requires.part; fewer = omega arith; given = refl; faults = omega arith }
+loop-self-init g c = record {
+  gave = gave_none c.args.self.now (g.S.Source.left c.args.input.now);
+  part = c.requires.part;
+  fewer = omega arith;
+  given = refl;
+  faults = omega arith;
+}
 
 pub returns-then-feed_on-clause-next : goal.returns-then-feed_on-clause-next
 returns-then-feed_on-clause-next g c =
@@ -39,7 +45,8 @@ returns-in_err-fill-clause-failed g c =
     let none : has_lf c.loop-self.self.unread ≡ false = sym fed.lf ∙ c.if-feed_on.false in
     let failed = c.in_err-fill.ensures.failed in
     on_err c.from_residual.result (record {
-      gave = rw (failed.0, failed.1) (gave_on i.gave (gave_part _ fed.was_cut none fed.held fed.unread fed.left fed.past));
+      gave =
+          rw (failed.0, failed.1) (gave_on i.gave (gave_part _ fed.was_cut none fed.held fed.unread fed.left fed.past));
       rest = rw failed.0 (at_rest _ fed.is_cut (fed.unread ∙ drop-used_of-no_lf c.loop-self.self.unread none));
       within = rw failed.0 (ap (λ (r : Reading). r.past) (sym c.self.view_is) ∙ c.if-self.false);
     })
@@ -50,7 +57,9 @@ returns-then-not-branch-clause-next g c =
     let fed = c.feed_on.ensures in
     let none : has_lf c.loop-self.self.unread ≡ false = sym fed.lf ∙ c.if-feed_on.false in
     let filled = c.in_ok-fill.ensures in
-    let part = gave_on i.gave (gave_part (g.S.Source.left c.loop-self.input) fed.was_cut none fed.held fed.unread fed.left fed.past) in
+    let part =
+    gave_on i.gave
+    (gave_part (g.S.Source.left c.loop-self.input) fed.was_cut none fed.held fed.unread fed.left fed.past) in
     c.end.ensures.next c.args.self.now (g.S.Source.left c.args.input.now) (g.S.Source.left c.fill.new.input)
     (λ bytes e. let taken = part.source bytes e in (filled.dry c.if-not-branch.true).2 taken.rest taken.later_is)
     (gave_on part filled.gave)
@@ -61,11 +70,14 @@ loop-self-preserved g c =
     let fed = c.feed_on.ensures in
     let none : has_lf c.loop-self.self.unread ≡ false = sym fed.lf ∙ c.if-feed_on.false in
     let filled = c.in_ok-fill.ensures in
-    let within : c.loop-self.self.past ≡ false = sym fed.past ∙ (ap (λ (r : Reading). r.past) (sym c.self.view_is) ∙ c.if-self.false) in
+    let within : c.loop-self.self.past ≡ false =
+    sym fed.past ∙ (ap (λ (r : Reading). r.past) (sym c.self.view_is) ∙ c.if-self.false) in
     let part = gave_part (g.S.Source.left c.loop-self.input) fed.was_cut none fed.held fed.unread fed.left fed.past in
     record {
       gave = gave_on (gave_on i.gave part) filled.gave;
-      part = λ whole. not_both c.fill.new.self.holding.whole whole (ap (λ (h : Holding). h.whole) (filled.holding ∙ fed.held) ∙ none);
+      part = λ whole.
+          not_both c.fill.new.self.holding.whole whole
+          (ap (λ (h : Holding). h.whole) (filled.holding ∙ fed.held) ∙ none);
       fewer = omega (arith, i.fewer, filled.count, fed.left);
       given = omega (arith, i.given, filled.given, fed.left, ap bit within);
       faults = omega (arith, i.faults, filled.faults);

@@ -8,7 +8,8 @@ invariant-loop-self g l = record {
   gave : Gave [] l.initial.self l.self (g.S.Source.left l.initial.input) (g.S.Source.left l.input);
   part : ¬ IsTrue l.self.holding.whole;
   fewer : length l.self.unread + l.self.left ≤ length l.initial.self.unread + l.initial.self.left;
-  given : g.S.Source.given l.input + l.self.left + bit l.initial.self.past ≡ g.S.Source.given l.initial.input + l.initial.self.left + bit l.self.past;
+  given : g.S.Source.given l.input + l.self.left + bit l.initial.self.past
+      ≡ g.S.Source.given l.initial.input + l.initial.self.left + bit l.self.past;
   faults : g.S.Source.faults l.initial.input ≤ g.S.Source.faults l.input;
 }
 

@@ -13,9 +13,13 @@ read-tells c =
       within = rw c.ensures.count (omega arith);
       given = rw c.ensures.count (rw after (omega arith));
       first = rw c.ensures.count (λ bytes e.
-          first ∙ sym (take-replicate n c.args.self.now.left c.args.self.now.byte fits) ∙ ap (take n) (same_Some _ _ e));
+          first
+          ∙ sym (take-replicate n c.args.self.now.left c.args.self.now.byte fits)
+          ∙ ap (take n) (same_Some _ _ e));
       rest = rw c.ensures.count (λ bytes e.
-          ap Some (ap (λ source. replicate source.left source.byte) after ∙ sym (drop-replicate n c.args.self.now.left c.args.self.now.byte) ∙ ap (drop n) (same_Some _ _ e)));
+          ap Some (ap (λ source. replicate source.left source.byte) after
+          ∙ sym (drop-replicate n c.args.self.now.left c.args.self.now.byte)
+          ∙ ap (drop n) (same_Some _ _ e)));
       end = rw c.ensures.count (λ none room bytes e.
           let all : c.args.self.now.left ≡ 0 = omega arith in
           sym (same_Some _ _ e) ∙ ap (λ k. replicate k c.args.self.now.byte) all);

@@ -11,7 +11,10 @@ read-tells c = record {
   within = IfOk-weaker c.result _ _ (λ n is. omega arith) c.ensures.count;
   given = IfOk-weaker c.result _ _ (λ n after. rw after (omega arith)) c.ensures.after;
   first = IfOk-weaker c.result _ _ (λ n first bytes e. first ∙ ap (take n) (same_Some _ _ e)) c.ensures.first;
-  rest = IfOk-weaker c.result _ _ (λ n after bytes e. ap Some (ap (λ source. source.left) after ∙ ap (drop n) (same_Some _ _ e))) c.ensures.after;
+  rest =
+      IfOk-weaker c.result _ _
+      (λ n after bytes e. ap Some (ap (λ source. source.left) after ∙ ap (drop n) (same_Some _ _ e)))
+      c.ensures.after;
   end = IfOk-both c.result _ _ _ (λ n is step none room bytes e.
       let all : length c.args.self.now.source.left ≡ 0 = omega arith in
       sym (same_Some _ _ e) ∙ nil_from_length _ all) c.ensures.count c.ensures.step;

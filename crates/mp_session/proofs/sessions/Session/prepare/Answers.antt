@@ -18,7 +18,8 @@ prepare_append-requires g c = rw c.scale-scale.ensures.value c.scale-scale.ensur
 
 pub returns-in-Err-clause-ends : goal.returns-in-Err-clause-ends
 returns-in-Err-clause-ends g c =
-    ap (λ answer. is_ended (kind_of (answered answer))) c.refused.ensures.answer ∙ sym (ends_by c.args.line.now _ c.in-Err.ensures)
+    ap (λ answer. is_ended (kind_of (answered answer))) c.refused.ensures.answer
+    ∙ sym (ends_by c.args.line.now _ c.in-Err.ensures)
 
 pub returns-in-Ok-Blank-clause-ends : goal.returns-in-Ok-Blank-clause-ends
 returns-in-Ok-Blank-clause-ends g c =
@@ -31,23 +32,27 @@ pub returns-in-Ok-Session-clause-ok : goal.returns-in-Ok-Session-clause-ok
 returns-in-Ok-Session-clause-ok g c = λ state files stands told.
     subst (λ (asked : Asked). IsPrepared state files asked c.prepare_session.result)
     (sym (ap asked_by c.in-Ok-Session.field-0-is) ∙ c.in-Ok-Session.ensures)
-    (c.prepare_session.ensures.prepared state files c.in-Ok-Session.field-0-0 (stands.begun_is ∙ ap (λ (s : Held). s.begun) (sym c.self.view_is)))
+    (c.prepare_session.ensures.prepared state files c.in-Ok-Session.field-0-0
+    (stands.begun_is ∙ ap (λ (s : Held). s.begun) (sym c.self.view_is)))
 
 pub returns-in-Ok-Session-clause-ends : goal.returns-in-Ok-Session-clause-ends
 returns-in-Ok-Session-clause-ends g c =
-    c.prepare_session.ensures.goes_on ∙ sym (ends_by c.args.line.now _ (sym (ap asked_by c.in-Ok-Session.field-0-is) ∙ c.in-Ok-Session.ensures))
+    c.prepare_session.ensures.goes_on
+    ∙ sym (ends_by c.args.line.now _ (sym (ap asked_by c.in-Ok-Session.field-0-is) ∙ c.in-Ok-Session.ensures))
 
 -- ---- open
 
 pub returns-in_ok-prepare_open-in-Ok-Open-clause-ok : goal.returns-in_ok-prepare_open-in-Ok-Open-clause-ok
 returns-in_ok-prepare_open-in-Ok-Open-clause-ok g c = λ state files stands told.
     subst (λ (asked : Asked). IsPrepared state files asked c.in_ok-prepare_open-in-Ok-Open.field-0)
-    (sym (ap asked_by c.in-Ok-Open.field-0-is) ∙ c.in-Ok-Open.ensures) (c.in_ok-prepare_open-in-Ok-Open.ensures.ok state files)
+    (sym (ap asked_by c.in-Ok-Open.field-0-is) ∙ c.in-Ok-Open.ensures)
+    (c.in_ok-prepare_open-in-Ok-Open.ensures.ok state files)
 
 pub returns-in_err-prepare_open-in-Ok-Open-clause-stop : goal.returns-in_err-prepare_open-in-Ok-Open-clause-stop
 returns-in_err-prepare_open-in-Ok-Open-clause-stop g c = λ state stands.
     on_err c.from_residual.result
-    (subst (IsUnrefused state) (sym (ap asked_by c.in-Ok-Open.field-0-is) ∙ c.in-Ok-Open.ensures) (c.in_err-prepare_open-in-Ok-Open.ensures.memory state))
+    (subst (IsUnrefused state) (sym (ap asked_by c.in-Ok-Open.field-0-is) ∙ c.in-Ok-Open.ensures)
+    (c.in_err-prepare_open-in-Ok-Open.ensures.memory state))
 
 pub returns-in_ok-prepare_open-in-Ok-Open-clause-ends : goal.returns-in_ok-prepare_open-in-Ok-Open-clause-ends
 returns-in_ok-prepare_open-in-Ok-Open-clause-ends g c =
@@ -61,18 +66,21 @@ returns-in_ok-prepare_open-in-Ok-Open-clause-can g c = c.in_ok-prepare_open-in-O
 
 pub returns-in-Ok-Load-clause-ends : goal.returns-in-Ok-Load-clause-ends
 returns-in-Ok-Load-clause-ends g c =
-    if_ok c.prepare_load.result c.prepare_load.ensures.goes_on
-    (λ prepared goes_on. goes_on ∙ sym (ends_by c.args.line.now _ (sym (ap asked_by c.in-Ok-Load.field-0-is) ∙ c.in-Ok-Load.ensures)))
+    if_ok c.prepare_load.result c.prepare_load.ensures.goes_on (λ prepared goes_on.
+    goes_on ∙ sym (ends_by c.args.line.now _ (sym (ap asked_by c.in-Ok-Load.field-0-is) ∙ c.in-Ok-Load.ensures)))
 
 pub returns-in-Ok-Load-clause-unfetched : goal.returns-in-Ok-Load-clause-unfetched
 returns-in-Ok-Load-clause-unfetched g c = λ state stands none.
-    c.prepare_load.ensures.unfetched state (stands.stores_is ∙ ap (λ (s : Held). stores_of s.slots) (sym c.self.view_is))
-    (sym (fetches_as state c.args.line.now _ (sym (ap asked_by c.in-Ok-Load.field-0-is) ∙ c.in-Ok-Load.ensures)) ∙ none)
+    c.prepare_load.ensures.unfetched state
+    (stands.stores_is ∙ ap (λ (s : Held). stores_of s.slots) (sym c.self.view_is))
+    (sym (fetches_as state c.args.line.now _ (sym (ap asked_by c.in-Ok-Load.field-0-is) ∙ c.in-Ok-Load.ensures))
+    ∙ none)
 
 pub returns-in-Ok-Load-clause-no_fault : goal.returns-in-Ok-Load-clause-no_fault
 returns-in-Ok-Load-clause-no_fault g c = λ state stands none fault.
     c.prepare_load.ensures.no_fault state (stands.stores_is ∙ ap (λ (s : Held). stores_of s.slots) (sym c.self.view_is))
-    (sym (fetches_as state c.args.line.now _ (sym (ap asked_by c.in-Ok-Load.field-0-is) ∙ c.in-Ok-Load.ensures)) ∙ none) fault
+    (sym (fetches_as state c.args.line.now _ (sym (ap asked_by c.in-Ok-Load.field-0-is) ∙ c.in-Ok-Load.ensures))
+    ∙ none) fault
 
 -- ---- append
 
@@ -96,7 +104,8 @@ returns-in_ok-prepare_window-in-Ok-Window-clause-ok g c = λ state files stands 
     let over = subst (λ (s : Held). IsOver s.settings s.slots state) (sym c.self.view_is)
     (record { window_is = stands.window_is; scale_is = stands.scale_is; stores_is = stands.stores_is }) in
     subst (λ (asked : Asked). IsPrepared state files asked c.in_ok-prepare_window-in-Ok-Window.field-0)
-    (sym (ap asked_by c.in-Ok-Window.field-0-is) ∙ c.in-Ok-Window.ensures) (c.in_ok-prepare_window-in-Ok-Window.ensures.ok state files over)
+    (sym (ap asked_by c.in-Ok-Window.field-0-is) ∙ c.in-Ok-Window.ensures)
+    (c.in_ok-prepare_window-in-Ok-Window.ensures.ok state files over)
 
 pub returns-in_ok-prepare_window-in-Ok-Window-clause-ends : goal.returns-in_ok-prepare_window-in-Ok-Window-clause-ends
 returns-in_ok-prepare_window-in-Ok-Window-clause-ends g c =
@@ -110,9 +119,11 @@ returns-in_ok-prepare_profile-in-Ok-Profile-clause-ok g c = λ state files stand
     let over = subst (λ (s : Held). IsOver s.settings s.slots state) (sym c.self.view_is)
     (record { window_is = stands.window_is; scale_is = stands.scale_is; stores_is = stands.stores_is }) in
     subst (λ (asked : Asked). IsPrepared state files asked c.in_ok-prepare_profile-in-Ok-Profile.field-0)
-    (sym (ap asked_by c.in-Ok-Profile.field-0-is) ∙ c.in-Ok-Profile.ensures) (c.in_ok-prepare_profile-in-Ok-Profile.ensures.ok state files over)
+    (sym (ap asked_by c.in-Ok-Profile.field-0-is) ∙ c.in-Ok-Profile.ensures)
+    (c.in_ok-prepare_profile-in-Ok-Profile.ensures.ok state files over)
 
-pub returns-in_ok-prepare_profile-in-Ok-Profile-clause-ends : goal.returns-in_ok-prepare_profile-in-Ok-Profile-clause-ends
+pub returns-in_ok-prepare_profile-in-Ok-Profile-clause-ends :
+    goal.returns-in_ok-prepare_profile-in-Ok-Profile-clause-ends
 returns-in_ok-prepare_profile-in-Ok-Profile-clause-ends g c =
     c.in_ok-prepare_profile-in-Ok-Profile.ensures.goes_on
     ∙ sym (ends_by c.args.line.now _ (sym (ap asked_by c.in-Ok-Profile.field-0-is) ∙ c.in-Ok-Profile.ensures))
@@ -124,7 +135,8 @@ returns-in_ok-prepare_entry-in-Ok-Entry-clause-ok g c = λ state files stands to
     let over = subst (λ (s : Held). IsOver s.settings s.slots state) (sym c.self.view_is)
     (record { window_is = stands.window_is; scale_is = stands.scale_is; stores_is = stands.stores_is }) in
     subst (λ (asked : Asked). IsPrepared state files asked c.in_ok-prepare_entry-in-Ok-Entry.field-0)
-    (sym (ap asked_by c.in-Ok-Entry.field-0-is) ∙ c.in-Ok-Entry.ensures) (c.in_ok-prepare_entry-in-Ok-Entry.ensures.ok state files over)
+    (sym (ap asked_by c.in-Ok-Entry.field-0-is) ∙ c.in-Ok-Entry.ensures)
+    (c.in_ok-prepare_entry-in-Ok-Entry.ensures.ok state files over)
 
 pub returns-in_ok-prepare_entry-in-Ok-Entry-clause-ends : goal.returns-in_ok-prepare_entry-in-Ok-Entry-clause-ends
 returns-in_ok-prepare_entry-in-Ok-Entry-clause-ends g c =

@@ -11,7 +11,9 @@ returns-in-Some-clause-few c =
     let v = c.in-Some.channels.now in
     let found = c.in-Some.ensures.lookup in
     let long = stored_long stored c.self.invariant in
-    let within : c.args.slot < length stored = subst (λ (vs : List (Vec Counted Global)). c.args.slot < length vs) c.deref.ensures.value found.3.0 in
-    let is : v ≡ get_or stored c.args.slot v = found.1 ∙ ap (λ (vs : List (Vec Counted Global)). get_or vs c.args.slot v) c.deref.ensures.value in
+    let within : c.args.slot < length stored =
+    subst (λ (vs : List (Vec Counted Global)). c.args.slot < length vs) c.deref.ensures.value found.3.0 in
+    let is : v ≡ get_or stored c.args.slot v =
+    found.1 ∙ ap (λ (vs : List (Vec Counted Global)). get_or vs c.args.slot v) c.deref.ensures.value in
     let are = stored_is stored c.args.slot v c.self.invariant (omega (arith, long, within)) is in
     omega (arith, are.few, length-map v.items (λ (s : Counted). s.items), ap length c.as_slice.ensures.value)

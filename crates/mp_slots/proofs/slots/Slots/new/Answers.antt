@@ -9,8 +9,8 @@ use Rattle.mp_slots.proofs.slots.Slots.new.Goals as goal
 
 pub loop-preserved : goal.loop-preserved
 loop-preserved c =
-    closed_more c.push-2.new.self.items c.loop.stored.items c.push-in-loop.new.self.items c.new-in-loop.result c.loop.counter (omega arith)
-    c.in_ok-push-3.ensures.items c.new-in-loop.ensures.items c.loop.invariant
+    closed_more c.push-2.new.self.items c.loop.stored.items c.push-in-loop.new.self.items c.new-in-loop.result
+    c.loop.counter (omega arith) c.in_ok-push-3.ensures.items c.new-in-loop.ensures.items c.loop.invariant
 
 abbrev at_start : (c : goal.After-loop) → view c.loop.stored.items ≡ first_open c.new.result
 at_start c =
@@ -24,4 +24,5 @@ invariant_of-result c = subst AreSlots (sym (at_start c)) (slots_at_start c.new.
 
 pub returns-clause-stores : goal.returns-clause-stores
 returns-clause-stores c =
-    ap stores_of (at_start c) ∙ ap (λ (s : List Sample). Open (series_of s ∷ []) ∷ replicate 7 Closed) c.new.ensures.items
+    ap stores_of (at_start c)
+    ∙ ap (λ (s : List Sample). Open (series_of s ∷ []) ∷ replicate 7 Closed) c.new.ensures.items

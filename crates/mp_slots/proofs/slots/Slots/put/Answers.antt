@@ -4,7 +4,8 @@ use Rattle.mp_slots.proofs.SlotLemmas.{put_stores, slot_other, slot_set, stored_
 use Rattle.mp_slots.proofs.slots.Slots.put.Goals as goal
 
 pub invariant_of-self : goal.invariant_of-self
-invariant_of-self c = stored_slots c.self.inside.stored.items c.args.slot c.args.channels c.self.invariant c.requires.even
+invariant_of-self c =
+    stored_slots c.self.inside.stored.items c.args.slot c.args.channels c.self.invariant c.requires.even
 
 pub returns-clause-stores : goal.returns-clause-stores
 returns-clause-stores c =
@@ -14,8 +15,10 @@ returns-clause-stores c =
 
 pub returns-clause-reads : goal.returns-clause-reads
 returns-clause-reads c =
-    let within : c.args.slot < length c.args.self.now = omega (arith, ap length c.self.view_is, c.self.invariant.count, c.requires.slot) in
-    ap (λ (s : List Held). reads_in (slot_at s c.args.slot)) (view_set c.self.inside.stored.items c.args.slot c.args.channels
+    let within : c.args.slot < length c.args.self.now =
+    omega (arith, ap length c.self.view_is, c.self.invariant.count, c.requires.slot) in
+    ap (λ (s : List Held). reads_in (slot_at s c.args.slot))
+    (view_set c.self.inside.stored.items c.args.slot c.args.channels
     ∙ ap (λ (s : List Held). set s c.args.slot c.args.channels.items) c.self.view_is)
     ∙ (ap reads_in (slot_set c.args.self.now c.args.slot c.args.channels.items within) ∙ c.requires.unread)
 

@@ -11,13 +11,19 @@ on_ok (Ok x) p f = f p
 on_ok (Err e) p f = tt
 
 -- the vector that was lent keeps its length
-abbrev same_channels : (c : goal.After-self-1) → (with_items c.index_mut.result.now c.reserve_all.new.channels).items ≡ c.reserve_all.new.channels
-same_channels c = with_items_is c.index_mut.result.now c.reserve_all.new.channels (c.reserve_all.auto.channels ∙ (ap length c.as_mut_slice.ensures.value ∙ sym c.index_mut.result.now.ok.0))
+abbrev same_channels : (c : goal.After-self-1)
+    → (with_items c.index_mut.result.now c.reserve_all.new.channels).items ≡ c.reserve_all.new.channels
+same_channels c =
+    with_items_is c.index_mut.result.now c.reserve_all.new.channels
+    (c.reserve_all.auto.channels ∙ (ap length c.as_mut_slice.ensures.value ∙ sym c.index_mut.result.now.ok.0))
 
 abbrev room_made : (c : goal.After-self-1) → RoomWasMade c.index_mut.result.now.items c.reserve_all.new.channels
-room_made c = subst (λ (h : Held). RoomWasMade h c.reserve_all.new.channels) c.as_mut_slice.ensures.value c.reserve_all.ensures.same
+room_made c =
+    subst (λ (h : Held). RoomWasMade h c.reserve_all.new.channels) c.as_mut_slice.ensures.value
+    c.reserve_all.ensures.same
 
-abbrev seen : (c : goal.After-self-1) → view (set c.self.inside.stored.items c.args.slot (with_items c.index_mut.result.now c.reserve_all.new.channels))
+abbrev seen : (c : goal.After-self-1)
+    → view (set c.self.inside.stored.items c.args.slot (with_items c.index_mut.result.now c.reserve_all.new.channels))
     ≡ set c.args.self.now c.args.slot c.reserve_all.new.channels
 seen c =
     view_set c.self.inside.stored.items c.args.slot (with_items c.index_mut.result.now c.reserve_all.new.channels)
@@ -30,7 +36,8 @@ within c = omega (arith, ap length c.self.view_is, c.self.invariant.count, c.req
 abbrev held : (c : goal.After-self-1) → c.index_mut.result.now.items ≡ slot_at c.args.self.now c.args.slot
 held c =
     let long = stored_long c.self.inside.stored.items c.self.invariant in
-    stored_at c.self.inside.stored.items c.args.slot c.index_mut.result.now (omega (arith, long, c.requires)) c.index_mut.ensures.value
+    stored_at c.self.inside.stored.items c.args.slot c.index_mut.result.now (omega (arith, long, c.requires))
+    c.index_mut.ensures.value
     ∙ ap (λ (s : List Held). slot_at s c.args.slot) c.self.view_is
 
 pub invariant_of-self : goal.invariant_of-self
@@ -41,26 +48,36 @@ invariant_of-self c =
     (channels_like v.items c.reserve_all.new.channels (room_items v.items c.reserve_all.new.channels (room_made c))
     (stored_is c.self.inside.stored.items c.args.slot v c.self.invariant c.requires c.index_mut.ensures.value)))
 
-abbrev at_slot : (c : goal.After-self-1) → slot_at (set c.args.self.now c.args.slot c.reserve_all.new.channels) c.args.slot ≡ c.reserve_all.new.channels
+abbrev at_slot : (c : goal.After-self-1)
+    → slot_at (set c.args.self.now c.args.slot c.reserve_all.new.channels) c.args.slot ≡ c.reserve_all.new.channels
 at_slot c = slot_set c.args.self.now c.args.slot c.reserve_all.new.channels (within c)
 
 abbrev new_slot : (c : goal.After-self-1)
-    → slot_at (view (set c.self.inside.stored.items c.args.slot (with_items c.index_mut.result.now c.reserve_all.new.channels))) c.args.slot ≡ c.reserve_all.new.channels
+    → slot_at (view (set c.self.inside.stored.items c.args.slot
+    (with_items c.index_mut.result.now c.reserve_all.new.channels)))
+    c.args.slot
+    ≡ c.reserve_all.new.channels
 new_slot c = ap (λ (s : List Held). slot_at s c.args.slot) (seen c) ∙ at_slot c
 
-abbrev room_here : (c : goal.After-self-1) → RoomWasMade (slot_at c.args.self.now c.args.slot) c.reserve_all.new.channels
+abbrev room_here : (c : goal.After-self-1)
+    → RoomWasMade (slot_at c.args.self.now c.args.slot) c.reserve_all.new.channels
 room_here c = subst (λ (h : Held). RoomWasMade h c.reserve_all.new.channels) (held c) (room_made c)
 
 pub returns-clause-ok : goal.returns-clause-ok
 returns-clause-ok c =
-    subst (λ (h : Held). OnOk c.reserve_all.result (All (λ channel. c.args.more ≤ channel.spare) h)) (sym (new_slot c)) c.reserve_all.ensures.ok
+    subst (λ (h : Held). OnOk c.reserve_all.result (All (λ channel. c.args.more ≤ channel.spare) h)) (sym (new_slot c))
+    c.reserve_all.ensures.ok
 
 pub returns-clause-room : goal.returns-clause-room
 returns-clause-room c = λ added.
     let old = slot_at c.args.self.now c.args.slot in
     let new = c.reserve_all.new.channels in
     let same = room_items old new (room_here c) in
-    let are = channels_like old new same (subst AreChannels (held c) (stored_is c.self.inside.stored.items c.args.slot c.index_mut.result.now c.self.invariant c.requires c.index_mut.ensures.value)) in
+    let are =
+    channels_like old new same
+    (subst AreChannels (held c)
+    (stored_is c.self.inside.stored.items c.args.slot c.index_mut.result.now c.self.invariant c.requires
+    c.index_mut.ensures.value)) in
     on_ok c.reserve_all.result c.reserve_all.ensures.ok (λ spare long lists fits.
     subst (λ (h : Held). HaveRoom h added) (sym (new_slot c))
     (room_for new added c.args.more are spare (long ∙ ap length (new_slot c)) lists
@@ -69,7 +86,8 @@ returns-clause-room c = λ added.
 pub returns-clause-stores : goal.returns-clause-stores
 returns-clause-stores c =
     ap stores_of (seen c)
-    ∙ stores_like c.args.self.now c.args.slot c.reserve_all.new.channels (room_items (slot_at c.args.self.now c.args.slot) c.reserve_all.new.channels (room_here c))
+    ∙ stores_like c.args.self.now c.args.slot c.reserve_all.new.channels
+    (room_items (slot_at c.args.self.now c.args.slot) c.reserve_all.new.channels (room_here c))
 
 pub returns-clause-reads : goal.returns-clause-reads
 returns-clause-reads c = λ other.

@@ -29,5 +29,6 @@ returns-else-from-len-clause-kept c =
     c.range_with-range.ensures.wider c.requires.kept.range in
     kept_waits c.args.m items c.cover.new.self (omega arith)
     (subst (λ r. AreWithin r (numbers_in items)) (sym c.cover.ensures.range)
-    (range_grows range (without_last items) items c.args.sample c.requires.last front c.range_with-range.ensures.within))
+    (range_grows range (without_last items) items c.args.sample c.requires.last front
+    c.range_with-range.ensures.within))
     (c.cover.ensures.kept (without_last items) c.requires.kept front)

@@ -37,7 +37,8 @@ returns-clause-offered c =
     ∙ ap (λ j. with_best turned.profile.left j (near (row_candidate turned.free.items sums)
     (offered_before c.args.is_free c.args.m j))) at in
     is_offered c.args.m items c.args.is_free w n end turned.free.items after.profile.right
-    (near (row_candidate turned.free.items sums) end) before after refl (ap (λ free. free.items) c.turn.ensures.free) refl
+    (near (row_candidate turned.free.items sums) end) before after refl
+    (ap (λ free. free.items) c.turn.ensures.free) refl
     (subst (λ p. IsTaken turned.free.items (last_row c.args.m items w) w 0 end p.right after.profile.right)
     c.turn.ensures.profile (taken_as turned.free.items sums (last_row c.args.m items w) w 0 end _ _ same taken)) refl
     (best_as turned.free.items sums (last_row c.args.m items w) end same)

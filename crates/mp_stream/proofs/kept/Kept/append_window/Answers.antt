@@ -42,18 +42,22 @@ append_narrow-requires-clause-limits c =
     let before = c.args.self.now in
     let grown = c.grow.new.self in
     let limits = limits_grow before.is_narrow before.profile.right before.limits.items c.requires.kept.limits in
-    subst (λ t. AreLimits (limit_by t) grown.profile.right grown.limits.items) (sym c.grow.ensures.is_narrow ∙ c.if-self.true)
+    subst (λ t. AreLimits (limit_by t) grown.profile.right grown.limits.items)
+    (sym c.grow.ensures.is_narrow ∙ c.if-self.true)
     (subst (λ right. AreLimits (limit_by before.is_narrow) right grown.limits.items) (sym c.grow.ensures.right)
-    (subst (AreLimits (limit_by before.is_narrow) (before.profile.right ++ None ∷ [])) (sym c.grow.ensures.limits) limits))
+    (subst (AreLimits (limit_by before.is_narrow) (before.profile.right ++ None ∷ []))
+    (sym c.grow.ensures.limits) limits))
 
 pub append_wide-requires-clause-limits : goal.append_wide-requires-clause-limits
 append_wide-requires-clause-limits c =
     let before = c.args.self.now in
     let grown = c.grow.new.self in
     let limits = limits_grow before.is_narrow before.profile.right before.limits.items c.requires.kept.limits in
-    subst (λ t. AreLimits (limit_by t) grown.profile.right grown.limits.items) (sym c.grow.ensures.is_narrow ∙ c.if-self.false)
+    subst (λ t. AreLimits (limit_by t) grown.profile.right grown.limits.items)
+    (sym c.grow.ensures.is_narrow ∙ c.if-self.false)
     (subst (λ right. AreLimits (limit_by before.is_narrow) right grown.limits.items) (sym c.grow.ensures.right)
-    (subst (AreLimits (limit_by before.is_narrow) (before.profile.right ++ None ∷ [])) (sym c.grow.ensures.limits) limits))
+    (subst (AreLimits (limit_by before.is_narrow) (before.profile.right ++ None ∷ []))
+    (sym c.grow.ensures.limits) limits))
 
 pub append_narrow-requires-clause-earlier : goal.append_narrow-requires-clause-earlier
 append_narrow-requires-clause-earlier c =
