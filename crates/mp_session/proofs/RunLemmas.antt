@@ -1,11 +1,13 @@
 -- Runs of lines, one behind another.
-use Rattle.std.proofs.Common.{◌≡◌, ℕ, ◌+◌, Bool, true, false, ◌||◌, List, [], ◌∷◌, ◌++◌, refl, arith, ap, ◌∙◌, sym, subst, length-append, ⊎_elim}
+use Rattle.std.proofs.Common.{◌≡◌, ℕ, ◌+◌, Bool, true, false, ◌||◌, List, [], ◌∷◌, ◌++◌, map, refl, arith, ap, ◌∙◌, sym, subst, length-append, ⊎_elim}
 use Rattle.std.proofs.Math.Bool.{or-false, or-true, or_assoc}
 use Rattle.std.specs.Prelude.{is_some, Option}
 use Rattle.std.proofs.lemmas.Bool.{or_parts, cases_Bool}
 use Rattle.mp_outside.specs.declared.sinks.Sink.{Ghosts}
 use Rattle.mp_feed.specs.Writing.{none}
 use Rattle.mp_feed.specs.WritingLaws.{wrote_on}
+use Rattle.mp_bytes.specs.Lines.{cut}
+use Rattle.mp_replies.specs.CutLaws.{ends_cut}
 use Rattle.mp_replies.specs.State.{Files, State}
 use Rattle.mp_replies.specs.Step.{cause, after, fetches}
 use Rattle.mp_replies.specs.Output.{reply, replies, state_after, some_refused, some_ends, until_end}
@@ -42,6 +44,10 @@ pub some_ends-append : (ran more : List (List ℕ)) → some_ends (ran ++ more) 
 some_ends-append [] more = refl
 some_ends-append (line ∷ ran) more =
     ap (λ b. ends line || b) (some_ends-append ran more) ∙ sym (or_assoc (ends line) (some_ends ran) (some_ends more))
+
+pub some_ends_cut : (ran : List (List ℕ)) → some_ends (map cut ran) ≡ some_ends ran
+some_ends_cut [] = refl
+some_ends_cut (line ∷ ran) = rw (ends_cut line) (ap (λ b. ends line || b) (some_ends_cut ran))
 
 pub until_end-append : (ran more : List (List ℕ)) → some_ends ran ≡ false
     → until_end (ran ++ more) ≡ ran ++ until_end more

@@ -25,8 +25,8 @@ use Rattle.mp_session.specs.declared.top.Status.TheVariants as statuses
 use Rattle.mp_session.specs.Sessions.{StandsFor, ToldForAll, some_fetch}
 use Rattle.mp_session.specs.Statuses.{halted, is_whole, ran, status_by}
 use Rattle.mp_session.specs.Running.{Course, WereRun}
-use Rattle.mp_session.specs.Serving.{AreFirst, RanAll, RanEnded, RanInto, RanSome, RanToFile, ToldForRun, ToldTaken, ToldToFile}
-use Rattle.mp_session.proofs.RunLemmas.{not_both, replies-append, some_fetch-append, told_first, told_then}
+use Rattle.mp_session.specs.Serving.{AreFirst, IsPast, IsWithin, RanAll, RanEnded, RanInto, RanSome, RanToFile, ToldForRun, ToldTaken, ToldToFile, ends_within}
+use Rattle.mp_session.proofs.RunLemmas.{not_both, replies-append, some_ends_cut, some_fetch-append, told_first, told_then}
 
 -- all of the text is a front of it
 pub whole_text : (now : Option (List ℕ)) (before text : List ℕ) → now ≡ Some (before ++ text)
@@ -74,10 +74,6 @@ some_refused_cut state files [] = refl
 some_refused_cut state files (line ∷ ran) =
     rw (cause_cut state files line, after_cut state files line)
     (ap (λ b. is_some (cause state line files) || b) (some_refused_cut (after state line files) files ran))
-
-some_ends_cut : (ran : List (List ℕ)) → some_ends (map cut ran) ≡ some_ends ran
-some_ends_cut [] = refl
-some_ends_cut (line ∷ ran) = rw (ends_cut line) (ap (λ b. ends line || b) (some_ends_cut ran))
 
 some_fetch_cut : (state : State) (files : Files) (ran : List (List ℕ))
     → some_fetch state files (map cut ran) ≡ some_fetch state files ran
@@ -373,6 +369,13 @@ module _ {Out : Type 0} {sink : Ghosts Out} {shelf : Option Files} where
         told = ended_told ran state files bytes before h t e w fits;
       }
 
+  taken_is : {limit : ℕ} {old new : Course Out} → (ran : RanEnded sink shelf 1 old new) → length ran.taken ≡ limit
+      → (bytes : List ℕ) → old.left ≡ Some bytes → take limit bytes ≡ ran.taken
+  taken_is ran count bytes e =
+      let off = ran.source bytes e in
+      ap (λ n. take n bytes) (sym count)
+      ∙ (ap (take (length ran.taken)) off.bytes_are ∙ take-append_seam ran.taken (off.over ++ off.rest))
+
   pub told_within : {limit : ℕ} {old new : Course Out} → (ran : RanEnded sink shelf 1 old new)
       → length ran.taken ≡ limit
       → (state : State) (files : Files) (bytes before : List ℕ) → StandsFor old.session state
@@ -381,27 +384,28 @@ module _ {Out : Type 0} {sink : Ghosts Out} {shelf : Option Files} where
       → length before + length (session_output state files bytes) ≤ sink.room old.out
       → sink.written new.out ≡ Some (before ++ reports state files (ended_lines (take limit bytes)))
   told_within ran count state files bytes before h t e w fits =
-      let off = ran.source bytes e in
-      let front : take _ bytes ≡ ran.taken =
-      ap (λ n. take n bytes) (sym count)
-      ∙ (ap (take (length ran.taken)) off.bytes_are ∙ take-append_seam ran.taken (off.over ++ off.rest)) in
       ended_told ran state files bytes before h t e w fits
-      ∙ ap (λ t. Some (before ++ reports state files (ended_lines t))) (sym front)
+      ∙ ap (λ t. Some (before ++ reports state files (ended_lines t))) (sym (taken_is ran count bytes e))
 
-  -- a byte past the limit was taken, so there was one
-  pub longer_than_limit : {limit : ℕ} {old new : Course Out} → (ran : RanEnded sink shelf 1 old new)
+  -- a byte past the limit was taken, so there was one, and no line within it ended the run
+  pub past_limit : {limit : ℕ} {old new : Course Out} → (ran : RanEnded sink shelf 1 old new)
       → length ran.taken ≡ limit
-      → (bytes : List ℕ) → old.left ≡ Some bytes → limit < length bytes
-  longer_than_limit ran count bytes e =
+      → (bytes : List ℕ) → old.left ≡ Some bytes → IsPast limit bytes
+  past_limit ran count bytes e =
       let off = ran.source bytes e in
-      omega (
-        arith,
-        ap length off.bytes_are,
-        off.over_count,
-        count,
-        length-append ran.taken (off.over ++ off.rest),
-        length-append off.over off.rest,
-      )
+      record {
+        longer = omega (
+          arith,
+          ap length off.bytes_are,
+          off.over_count,
+          count,
+          length-append ran.taken (off.over ++ off.rest),
+          length-append off.over off.rest,
+        );
+        none_ends =
+            ap (λ t. some_ends (ended_lines t)) (taken_is ran count bytes e)
+            ∙ (sym (some_ends_cut (ended_lines ran.taken)) ∙ (ap some_ends ran.lines_are ∙ ran.none_ends));
+      }
 
   -- the run stopped where a file was asked for, so one was
   pub stopped_at_file : {old new : Course Out} → RanToFile sink shelf old new
@@ -498,3 +502,126 @@ memory_by (Err halts.Memory) is = refl
 pub on_memory : (r : Result Bool Halt) (status : Status) → status ≡ status_by r → status ≡ statuses.Memory
     → IsErrOf r halts.Memory
 on_memory r status is want = memory_by r (sym want ∙ is)
+
+write_fault_by : (r : Result Bool Halt) → statuses.WriteFault ≡ status_by r → IsErrOf r halts.WriteFault
+write_fault_by (Ok false) is = cc
+write_fault_by (Ok true) is = cc
+write_fault_by (Err halts.ReadFault) is = cc
+write_fault_by (Err halts.ShelfFault) is = cc
+write_fault_by (Err halts.WriteFault) is = refl
+write_fault_by (Err halts.InputLimit) is = cc
+write_fault_by (Err halts.Memory) is = cc
+
+pub on_write_fault : (r : Result Bool Halt) (status : Status) → status ≡ status_by r → status ≡ statuses.WriteFault
+    → IsErrOf r halts.WriteFault
+on_write_fault r status is fault = write_fault_by r (sym fault ∙ is)
+
+-- a session doesn't end so
+words_by : (r : Result Bool Halt) {P : Type 0} → statuses.Words ≡ status_by r → P
+words_by (Ok false) is = absurd (cc is)
+words_by (Ok true) is = absurd (cc is)
+words_by (Err halts.ReadFault) is = absurd (cc is)
+words_by (Err halts.ShelfFault) is = absurd (cc is)
+words_by (Err halts.WriteFault) is = absurd (cc is)
+words_by (Err halts.InputLimit) is = absurd (cc is)
+words_by (Err halts.Memory) is = absurd (cc is)
+
+pub on_words : (r : Result Bool Halt) (status : Status) {P : Type 0} → status ≡ status_by r
+    → status ≡ statuses.Words → P
+on_words r status is words = words_by r (sym words ∙ is)
+
+-- where a fetch failed, the status says that a read did
+shelf_fault_by : (r : Result Bool Halt) → IsErrOf r halts.ShelfFault → status_by r ≡ statuses.ReadFault
+shelf_fault_by (Ok refused) stopped = cc
+shelf_fault_by (Err halts.ReadFault) stopped = cc
+shelf_fault_by (Err halts.ShelfFault) stopped = refl
+shelf_fault_by (Err halts.WriteFault) stopped = cc
+shelf_fault_by (Err halts.InputLimit) stopped = cc
+shelf_fault_by (Err halts.Memory) stopped = cc
+
+pub on_shelf_fault : (r : Result Bool Halt) (status : Status) → status ≡ status_by r → IsErrOf r halts.ShelfFault
+    → status ≡ statuses.ReadFault
+on_shelf_fault r status is stopped = is ∙ shelf_fault_by r stopped
+
+-- where nothing fails, and the limit isn't met, a run comes to its end
+calm_by : (r : Result Bool Halt) → ¬ IsErrOf r halts.ReadFault → ¬ IsErrOf r halts.ShelfFault
+    → ¬ IsErrOf r halts.WriteFault → ¬ IsErrOf r halts.InputLimit
+    → IsTrue (is_whole (status_by r)) ⊎ (status_by r ≡ statuses.Memory)
+calm_by (Ok false) a b c d = inl refl
+calm_by (Ok true) a b c d = inl refl
+calm_by (Err halts.ReadFault) a b c d = absurd (a refl)
+calm_by (Err halts.ShelfFault) a b c d = absurd (b refl)
+calm_by (Err halts.WriteFault) a b c d = absurd (c refl)
+calm_by (Err halts.InputLimit) a b c d = absurd (d refl)
+calm_by (Err halts.Memory) a b c d = inr refl
+
+pub when_calm : (r : Result Bool Halt) (status : Status) → status ≡ status_by r → ¬ IsErrOf r halts.ReadFault
+    → ¬ IsErrOf r halts.ShelfFault → ¬ IsErrOf r halts.WriteFault → ¬ IsErrOf r halts.InputLimit
+    → IsTrue (is_whole status) ⊎ (status ≡ statuses.Memory)
+when_calm r status is a b c d =
+    subst (λ (s : Status). IsTrue (is_whole s) ⊎ (s ≡ statuses.Memory)) (sym is) (calm_by r a b c d)
+
+-- where a run can't come to its end, it ends early
+early_by : (r : Result Bool Halt) {P : Type 0} → OnOk r P → ¬ P
+    → (status_by r ≡ statuses.InputLimit) ⊎ ((status_by r ≡ statuses.ReadFault)
+    ⊎ ((status_by r ≡ statuses.WriteFault) ⊎ (status_by r ≡ statuses.Memory)))
+early_by (Ok refused) p none = absurd (none p)
+early_by (Err halts.ReadFault) p none = inr (inl refl)
+early_by (Err halts.ShelfFault) p none = inr (inl refl)
+early_by (Err halts.WriteFault) p none = inr (inr (inl refl))
+early_by (Err halts.InputLimit) p none = inl refl
+early_by (Err halts.Memory) p none = inr (inr (inr refl))
+
+pub when_early : (r : Result Bool Halt) (status : Status) {P : Type 0} → status ≡ status_by r → OnOk r P → ¬ P
+    → (status ≡ statuses.InputLimit) ⊎ ((status ≡ statuses.ReadFault)
+    ⊎ ((status ≡ statuses.WriteFault) ⊎ (status ≡ statuses.Memory)))
+when_early r status is p none =
+    subst (λ (s : Status). (s ≡ statuses.InputLimit) ⊎ ((s ≡ statuses.ReadFault)
+    ⊎ ((s ≡ statuses.WriteFault) ⊎ (s ≡ statuses.Memory)))) (sym is) (early_by r p none)
+
+pub not_past : {limit : ℕ} (bytes : List ℕ) {P : Type 0} → IsWithin limit bytes → IsPast limit bytes → P
+not_past {limit} bytes within past = ⊎_elim
+    (λ (short : length bytes ≤ limit). absurd (omega (arith, short, past.longer)))
+    (λ (ended : ends_within limit bytes ≡ true). not_both ended past.none_ends)
+    within
+
+-- ---- words outside the grammar
+
+-- these two statuses alone
+abbrev is_refusal : Status → Bool
+is_refusal statuses.Done = false
+is_refusal statuses.Refused = false
+is_refusal statuses.Words = true
+is_refusal statuses.ReadFault = false
+is_refusal statuses.WriteFault = true
+is_refusal statuses.InputLimit = false
+is_refusal statuses.Memory = false
+
+refusal_status : (status : Status) → (status ≡ statuses.Words) ⊎ (status ≡ statuses.WriteFault)
+    → is_refusal status ≡ true
+refusal_status status ended = ⊎_elim
+    (λ (e : status ≡ statuses.Words). ap is_refusal e)
+    (λ (e : status ≡ statuses.WriteFault). ap is_refusal e)
+    ended
+
+pub no_read_fault : (status : Status) {P : Type 0} → (status ≡ statuses.Words) ⊎ (status ≡ statuses.WriteFault)
+    → status ≡ statuses.ReadFault → P
+no_read_fault status ended is = not_both (refusal_status status ended) (ap is_refusal is)
+
+pub no_limit : (status : Status) {P : Type 0} → (status ≡ statuses.Words) ⊎ (status ≡ statuses.WriteFault)
+    → status ≡ statuses.InputLimit → P
+no_limit status ended is = not_both (refusal_status status ended) (ap is_refusal is)
+
+pub not_whole : (status : Status) {P : Type 0} → (status ≡ statuses.Words) ⊎ (status ≡ statuses.WriteFault)
+    → IsTrue (is_whole status) → P
+not_whole statuses.Done ended whole = not_both (refusal_status statuses.Done ended) refl
+not_whole statuses.Refused ended whole = not_both (refusal_status statuses.Refused ended) refl
+not_whole statuses.Words ended whole = cc
+not_whole statuses.ReadFault ended whole = cc
+not_whole statuses.WriteFault ended whole = cc
+not_whole statuses.InputLimit ended whole = cc
+not_whole statuses.Memory ended whole = cc
+
+-- no setup stands for such words
+pub no_setup : (words : List (List ℕ)) (setup : Setup) {P : Type 0} → job words ≡ None → job words ≡ Some setup → P
+no_setup words setup none is = let both : None ≡ Some setup = sym none ∙ is in absurd (cc both)

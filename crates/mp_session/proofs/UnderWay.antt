@@ -1,8 +1,11 @@
 -- A run between two lines.
-use Rattle.std.proofs.Common.{◌≡◌, ℕ, Bool, true, false, ◌||◌, List, [], ◌∷◌, ◌++◌, length, refl, arith, ap, ◌∙◌, sym, subst, append_assoc, append-nil}
-use Rattle.std.specs.Prelude.{Option, if◌then◌else◌}
+use Rattle.std.proofs.Common.{◌≡◌, inl, inr, ℕ, ◌+◌, Bool, true, false, ◌||◌, List, [], ◌∷◌, ◌++◌, length, take, refl, arith, ap, ◌∙◌, sym, subst, append_assoc, append-nil}
+use Rattle.std.specs.Prelude.{Option, Some, if◌then◌else◌}
 use Rattle.std.proofs.Math.Bool.{or-false}
+use Rattle.std.proofs.Math.Seq.{take-append-add}
+use Rattle.mp_bytes.specs.Lines.{ended_lines}
 use Rattle.mp_outside.specs.declared.sinks.Sink.{Ghosts}
+use Rattle.mp_feed.specs.Feeding.{ended_lines_left}
 use Rattle.mp_feed.specs.declared.readers.Next.TheVariants.{Line, End, PastLimit}
 use Rattle.mp_feed.specs.Reading.{Reading, at_start, after_line, bit, Gave, IsNext, IsFailed}
 use Rattle.mp_feed.specs.ReadingLaws.{gave_none, gave_on, dry_on, line_comes, lines_at_end, lines_at_rest, lines_so_far}
@@ -12,8 +15,8 @@ use Rattle.mp_replies.specs.State.{Files, State}
 use Rattle.mp_replies.specs.Step.{fetches}
 use Rattle.mp_session.specs.Sessions.{Held, StandsFor}
 use Rattle.mp_session.specs.Running.{Course, WasBegun, WereRun, course_at}
-use Rattle.mp_session.specs.Serving.{AreFirst, RanAll, RanEnded, RanInto, RanSome, RanToFile}
-use Rattle.mp_session.proofs.RunLemmas.{not_both, some_ends-append, until_end-append, until_end-one, were_run_none, were_run_on}
+use Rattle.mp_session.specs.Serving.{AreFirst, IsWithin, RanAll, RanEnded, RanInto, RanSome, RanToFile, ends_within}
+use Rattle.mp_session.proofs.RunLemmas.{not_both, some_ends-append, some_ends_cut, until_end-append, until_end-one, were_run_none, were_run_on}
 
 -- These lines were run, and none of them ended the run. They are those that the reader gave.
 pub record IsUnderWay {Out : Type 0} (sink : Ghosts Out) (told : Option Files) (limit : ℕ) (old now : Course Out)
@@ -22,6 +25,22 @@ pub record IsUnderWay {Out : Type 0} (sink : Ghosts Out) (told : Option Files) (
   pub run : WereRun sink told lines old now refused
   pub none_ends : some_ends lines ≡ false
   pub gave : Gave lines (at_start limit) reader old.left now.left
+
+-- of the lines that were given one ends the run, so one of those that an LF ends within the limit does
+ended_in_front : {given : List (List ℕ)} {limit : ℕ} {reader : Reading} {left later : Option (List ℕ)}
+    → (gave : Gave given (at_start limit) reader left later) → some_ends given ≡ true
+    → (bytes : List ℕ) → left ≡ Some bytes → ends_within limit bytes ≡ true
+ended_in_front {given} {limit} {reader} gave ended bytes e =
+    let off = gave.source bytes e in
+    let more = take reader.left (off.over ++ off.rest) in
+    let front : take limit bytes ≡ gave.got ++ more =
+    ap (λ n. take n bytes) (sym gave.count)
+    ∙ (ap (take (length gave.got + reader.left)) off.bytes_are
+    ∙ take-append-add gave.got (off.over ++ off.rest) reader.left) in
+    ap (λ t. some_ends (ended_lines t)) front
+    ∙ (sym (some_ends_cut (ended_lines (gave.got ++ more)))
+    ∙ (ap some_ends (gave.ended_are more)
+    ∙ (some_ends-append given (ended_lines_left reader.holding (reader.unread ++ more)) ∙ rw ended refl)))
 
 module _ {Out : Type 0} {sink : Ghosts Out} {told : Option Files} where
   pub under_way_start : (limit : ℕ) (old : Course Out) → IsUnderWay sink told limit old old (at_start limit) false
@@ -56,6 +75,19 @@ module _ {Out : Type 0} {sink : Ghosts Out} {told : Option Files} where
         gave = gave_on u.gave (subst (λ l. Gave (l ∷ []) reader (after_line next) now.left later) (sym line_is) comes.gave);
       }
 
+  -- it ended the run, and its LF is within the limit, as all is at the end of the input
+  end_within : {limit : ℕ} {old now : Course Out} {reader : Reading} {refused : Bool} {line : List ℕ}
+      (next : Reading) (later : Option (List ℕ)) (u : IsUnderWay sink told limit old now reader refused)
+      → (final : Bool) → IsNext reader next now.left later (Line final) → line ≡ next.holding.kept → ends line ≡ true
+      → (bytes : List ℕ) → old.left ≡ Some bytes → IsWithin limit bytes
+  end_within next later u true comes line_is ended bytes e =
+      let gave = gave_on u.gave comes.gave in
+      inl (lines_at_end gave comes.rest.unread comes.within (dry_on u.gave comes.dry) bytes e).within
+  end_within {limit = limit} next later u false comes line_is ended bytes e =
+      inr (ended_in_front (gave_on u.gave comes.gave)
+      (some_ends-append u.lines (next.holding.kept ∷ [])
+      ∙ rw (u.none_ends, ← line_is, ended) refl) bytes e)
+
   -- it ended the run
   pub all_to_end : {limit : ℕ} {old now : Course Out} {reader : Reading} {refused also : Bool}
       {line : List ℕ} {last : Bool}
@@ -73,6 +105,7 @@ module _ {Out : Type 0} {sink : Ghosts Out} {told : Option Files} where
         ∙ (until_end-append u.lines (line ∷ comes_next.0) u.none_ends
         ∙ ap (λ b. u.lines ++ (line ∷ (if b then [] else until_end comes_next.0))) (sym is ∙ ended));
     read = λ bytes e goes_on. not_both ended (sym (line_ends u line last is) ∙ goes_on);
+    within = end_within next later u final comes line_is (sym is ∙ ended);
   }
 
   -- it was the last line
@@ -97,6 +130,7 @@ module _ {Out : Type 0} {sink : Ghosts Out} {told : Option Files} where
         read = λ bytes e goes_on.
             let all = lines_at_end gave comes.rest.unread comes.within dry bytes e in
             (all.read, all.within);
+        within = λ bytes e. inl (lines_at_end gave comes.rest.unread comes.within dry bytes e).within;
       }
   all_to_last next later u false is_final comes line_is run = not_both is_final refl
 
@@ -191,6 +225,7 @@ module _ {Out : Type 0} {sink : Ghosts Out} {told : Option Files} where
         read = λ bytes e goes_on.
             let all = lines_at_end gave comes.rest.unread comes.within dry bytes e in
             (all.read, all.within);
+        within = λ bytes e. inl (lines_at_end gave comes.rest.unread comes.within dry bytes e).within;
       }
 
   pub lines_before_fault : {limit : ℕ} {old now : Course Out} {reader : Reading} {refused : Bool} (next : Reading)

@@ -1,23 +1,48 @@
--- How a run ends.
-use Rattle.std.specs.Prelude.{◌≡◌, ℕ, ◌≤◌, Bool, true, false, List, [], ◌∷◌, ◌++◌, length, Option, Some}
+-- How a run ends, and what is said of a call that serves an input.
+use Rattle.std.specs.Prelude.{◌≡◌, ◌⊎◌, ℕ, ◌+◌, ◌<◌, ◌≤◌, Bool, true, false, IsTrue, List, [], ◌∷◌, ◌++◌, length, take, Option, Some, None}
+use Rattle.mp_outside.specs.Counts.{Rose}
+use Rattle.mp_outside.specs.declared.shelves.Shelf as shelves
+use Rattle.mp_outside.specs.declared.sources.Source as sources
+use Rattle.mp_outside.specs.declared.sinks.Sink as sinks
 use Rattle.mp_outside.specs.declared.sinks.Sink.{Ghosts}
 use Rattle.mp_feed.specs.Feeding.{nothing, lines_left, ended_lines_left}
 use Rattle.mp_feed.specs.Reading.{IsTakenOff}
+use Rattle.mp_feed.specs.Writing.{TellsPrefix}
 use Rattle.mp_replies.specs.State.{Files, State, opening}
 use Rattle.mp_bytes.specs.Lines.{ended_lines}
-use Rattle.mp_replies.specs.Output.{lines_run, reports, some_ends, state_after, until_end}
+use Rattle.mp_replies.specs.Output.{lines_run, output, reports, some_ends, some_refused, state_after, until_end, usage}
 use Rattle.mp_replies.specs.Step.{fetches}
 use Rattle.mp_replies.specs.Words.{Setup, job}
+use Rattle.mp_session.specs.declared.top.Status.{Status}
+use Rattle.mp_session.specs.declared.top.Status.TheVariants as statuses
 use Rattle.mp_session.specs.Running.{Course, WereRun, WasBegun}
-use Rattle.mp_session.specs.Sessions.{StandsFor, ToldForAll}
+use Rattle.mp_session.specs.Sessions.{StandsFor, ToldForAll, some_fetch}
+use Rattle.mp_session.specs.Statuses.{is_whole, ran}
+
+-- ---- the limit on input
+
+-- whether a line that ends the run is ended by an LF within so many first bytes
+abbrev pub ends_within : ℕ → List ℕ → Bool
+ends_within limit bytes = some_ends (ended_lines (take limit bytes))
+
+-- so many bytes hold all that is read of an input: the whole of it, or a line that ends the run, with its LF
+abbrev pub IsWithin : ℕ → List ℕ → Type 0
+IsWithin limit bytes = (length bytes ≤ limit) ⊎ (ends_within limit bytes ≡ true)
+
+-- they do not: there are more, and no line that ends the run is ended within them
+pub record IsPast (limit : ℕ) (bytes : List ℕ) : Type 0 where
+  pub longer : limit < length bytes
+  pub none_ends : ends_within limit bytes ≡ false
+
+-- ---- which lines were run
 
 -- these lines come first of those that are run of the input
 pub record AreFirst {Out : Type 0} (lines : List (List ℕ)) (old : Course Out) : Type 0 where
   pub more : (bytes : List ℕ) → old.left ≡ Some bytes
       → (rest : List (List ℕ)) × (until_end (lines_left nothing bytes) ≡ lines ++ rest)
 
--- The lines of the input were run, up to and with the first that ends the run. Where none does, the input was read to
--- its end, within the limit.
+-- The lines of the input were run, up to and with the first that ends the run, within the limit. Where none does, the
+-- input was read to its end.
 pub record RanAll {Out : Type 0} (sink : Ghosts Out) (told : Option Files) (limit : ℕ)
     (old new : Course Out) (refused : Bool) : Type 0 where
   pub lines : List (List ℕ)
@@ -25,6 +50,7 @@ pub record RanAll {Out : Type 0} (sink : Ghosts Out) (told : Option Files) (limi
   pub lines_are : (bytes : List ℕ) → old.left ≡ Some bytes → until_end (lines_left nothing bytes) ≡ lines
   pub read : (bytes : List ℕ) → old.left ≡ Some bytes → some_ends lines ≡ false
       → (new.left ≡ Some []) × (length bytes ≤ limit)
+  pub within : (bytes : List ℕ) → old.left ≡ Some bytes → IsWithin limit bytes
 
 -- some of them were run, in order from the first on
 pub record RanSome {Out : Type 0} (sink : Ghosts Out) (told : Option Files) (old new : Course Out) : Type 0 where
@@ -61,6 +87,8 @@ pub record RanToFile {Out : Type 0} (sink : Ghosts Out) (told : Option Files) (o
   pub asks : (state : State) (files : Files) → StandsFor old.session state → ToldForAll told state files some.lines
       → fetches (state_after state files some.lines) line ≡ true
 
+-- ---- what is told of them
+
 -- Of these bytes some were taken and the others are left. A sink that told what was before tells the reports of the
 -- lines that an LF ends of those that were taken.
 pub record ToldTaken (state : State) (files : Files) (bytes : List ℕ) (left : Option (List ℕ))
@@ -89,3 +117,177 @@ ToldForRun told state files bytes = ToldForAll told state files (lines_run bytes
 abbrev pub ToldForWords : Option Files → List (List ℕ) → Files → List ℕ → Type 0
 ToldForWords told words files bytes =
     (setup : Setup) → job words ≡ Some setup → ToldForRun told (opening setup.window setup.scale) files bytes
+
+-- ---- a call
+
+-- What stands outside at one moment: a shelf and a sink, and what these and the source tell.
+pub record Outside (Sh Out : Type 0) : Type 0 where
+  pub shelf : Sh
+  -- the files of the shelf, where it tells them, and how many fetches failed
+  pub files : Option Files
+  pub fetch_faults : ℕ
+  -- the bytes that the source has left, where it tells them, how many it gave, and how many reads failed
+  pub left : Option (List ℕ)
+  pub given : ℕ
+  pub read_faults : ℕ
+  pub sink : Out
+  -- the bytes that the sink took, where it tells them, how many of them it can tell, whether they are flushed, and how
+  -- many writes and flushes failed
+  pub written : Option (List ℕ)
+  pub room : ℕ
+  pub flushed : Bool
+  pub write_faults : ℕ
+
+abbrev pub outside_at : {Sh In Out : Type 0} → shelves.Ghosts Sh → sources.Ghosts In → Ghosts Out → Sh → In → Out
+    → Outside Sh Out
+outside_at shelf_tells source_tells sink_tells shelf source sink = record {
+  shelf = shelf;
+  files = shelf_tells.files shelf;
+  fetch_faults = shelf_tells.faults shelf;
+  left = source_tells.left source;
+  given = source_tells.given source;
+  read_faults = source_tells.faults source;
+  sink = sink;
+  written = sink_tells.written sink;
+  room = sink_tells.room sink;
+  flushed = sink_tells.flushed sink;
+  write_faults = sink_tells.faults sink;
+}
+
+-- a call that serves an input: its words, its limit on input, what stands outside before and after it, and its answer
+pub record Call (Sh Out : Type 0) : Type 0 where
+  pub words : List (List ℕ)
+  pub limit : ℕ
+  pub old : Outside Sh Out
+  pub new : Outside Sh Out
+  pub status : Status
+
+-- the source tells these bytes, and the shelf these files where a line that is run asks for one
+pub record TellsInput {Sh Out : Type 0} (call : Call Sh Out) (files : Files) (bytes : List ℕ) : Type 0 where
+  pub shelf : ToldForWords call.old.files call.words files bytes
+  pub source : call.old.left ≡ Some bytes
+
+-- the sink tells that these bytes were written before, and has room for this text, too
+pub record HasRoom {Sh Out : Type 0} (call : Call Sh Out) (before text : List ℕ) : Type 0 where
+  pub tells : call.old.written ≡ Some before
+  pub fits : length before + length text ≤ call.old.room
+
+-- both, where the words are of the grammar and ask for this setup
+pub record IsTold {Sh Out : Type 0} (call : Call Sh Out) (setup : Setup) (files : Files) (bytes before : List ℕ)
+    : Type 0 where
+  pub setup_is : job call.words ≡ Some setup
+  pub input : TellsInput call files bytes
+  pub room : HasRoom call before (output call.words files bytes)
+
+-- no fault of the outside was counted
+pub record IsCalm {Sh Out : Type 0} (call : Call Sh Out) : Type 0 where
+  pub reads : ¬ Rose call.old.read_faults call.new.read_faults
+  pub fetches : ¬ Rose call.old.fetch_faults call.new.fetch_faults
+  pub writes : ¬ Rose call.old.write_faults call.new.write_faults
+
+-- ---- what is said of a call
+
+-- What is written: the whole output, or a front of it where the run ended early.
+pub record WritesOutput {Sh Out : Type 0} (call : Call Sh Out) : Type 0 where
+  pub whole : (files : Files) (bytes before : List ℕ) → TellsInput call files bytes
+      → HasRoom call before (output call.words files bytes) → IsTrue (is_whole call.status)
+      → call.new.written ≡ Some (before ++ output call.words files bytes)
+  pub front : (files : Files) (bytes before : List ℕ) → TellsInput call files bytes
+      → HasRoom call before (output call.words files bytes)
+      → TellsPrefix call.new.written before (output call.words files bytes)
+  -- Which front it is: behind a failed read of the input, the reports of all lines that an LF ended before it; behind
+  -- the limit on input, those of the lines ended within it; behind a failed read of a file, those of all lines before
+  -- the one that asks for it; for want of memory, those of whole lines.
+  pub read_fault : (setup : Setup) (files : Files) (bytes before : List ℕ) → IsTold call setup files bytes before
+      → call.status ≡ statuses.ReadFault → ¬ Rose call.old.fetch_faults call.new.fetch_faults
+      → ToldTaken (opening setup.window setup.scale) files bytes call.new.left before call.new.written
+  pub fetch_fault : (setup : Setup) (files : Files) (bytes before : List ℕ) → IsTold call setup files bytes before
+      → call.status ≡ statuses.ReadFault → ¬ Rose call.old.read_faults call.new.read_faults
+      → ToldToFile (opening setup.window setup.scale) files bytes before call.new.written
+  pub input_limit : (setup : Setup) (files : Files) (bytes before : List ℕ) → IsTold call setup files bytes before
+      → call.status ≡ statuses.InputLimit
+      → call.new.written
+      ≡ Some (before ++ reports (opening setup.window setup.scale) files (ended_lines (take call.limit bytes)))
+  pub memory : (setup : Setup) (files : Files) (bytes before : List ℕ) → IsTold call setup files bytes before
+      → call.status ≡ statuses.Memory
+      → (count : ℕ)
+      × (call.new.written
+      ≡ Some (before ++ reports (opening setup.window setup.scale) files (take count (lines_run bytes))))
+  -- Where nothing is to be written, nothing is done with the sink, however the run ended.
+  pub quiet : (files : Files) (bytes : List ℕ) → TellsInput call files bytes → output call.words files bytes ≡ []
+      → call.new.sink ≡ call.old.sink
+  -- Every sink is flushed, or nothing was done with it, also one that tells nothing. So one that was flushed is
+  -- flushed.
+  pub flushed_or_untouched : IsTrue (is_whole call.status)
+      → (call.new.flushed ≡ true) ⊎ (call.new.sink ≡ call.old.sink)
+  pub flushed : call.old.flushed ≡ true → IsTrue (is_whole call.status) → call.new.flushed ≡ true
+
+-- What is read: to the end or to an accepted `end`, within the limit.
+pub record ReadsInput {Sh Out : Type 0} (call : Call Sh Out) : Type 0 where
+  -- whether some line was refused
+  pub refused : (setup : Setup) (files : Files) (bytes : List ℕ) → job call.words ≡ Some setup
+      → TellsInput call files bytes → IsTrue (is_whole call.status)
+      → call.status ≡ ran (some_refused (opening setup.window setup.scale) files (lines_run bytes))
+  -- where no line ends the run, nothing is left of the input, and it was no longer than the limit
+  pub read : (bytes : List ℕ) → call.old.left ≡ Some bytes → some_ends (lines_run bytes) ≡ false
+      → IsTrue (is_whole call.status) → call.new.left ≡ Some []
+  pub within : (bytes : List ℕ) → call.old.left ≡ Some bytes → some_ends (lines_run bytes) ≡ false
+      → IsTrue (is_whole call.status) → length bytes ≤ call.limit
+  -- and where one does, its LF, if it has one, stands within the limit
+  pub end_within : (bytes : List ℕ) → call.old.left ≡ Some bytes → IsTrue (is_whole call.status)
+      → IsWithin call.limit bytes
+  -- `InputLimit` comes only of an input that isn't within the limit, and only where more bytes were given
+  pub past : (bytes : List ℕ) → call.old.left ≡ Some bytes → call.status ≡ statuses.InputLimit
+      → IsPast call.limit bytes
+  pub over : call.status ≡ statuses.InputLimit → call.old.given + call.limit < call.new.given
+  -- At most one byte past the limit is taken.
+  pub given : call.new.given ≤ call.old.given + call.limit + 1
+
+-- Words outside the grammar: the usage is written, no input is read and no file fetched.
+pub record RefusesWords {Sh Out : Type 0} (call : Call Sh Out) : Type 0 where
+  pub words : call.status ≡ statuses.Words → job call.words ≡ None
+  pub outside : job call.words ≡ None → (call.status ≡ statuses.Words) ⊎ (call.status ≡ statuses.WriteFault)
+  pub written : (before : List ℕ) → HasRoom call before usage → call.status ≡ statuses.Words
+      → call.new.written ≡ Some (before ++ usage)
+  pub front : (before : List ℕ) → HasRoom call before usage → job call.words ≡ None
+      → TellsPrefix call.new.written before usage
+  pub unfinished : (before : List ℕ) → HasRoom call before usage → job call.words ≡ None
+      → call.status ≡ statuses.WriteFault
+      → ¬ ((call.new.written ≡ Some (before ++ usage)) × (call.new.flushed ≡ true))
+  pub flushed : call.status ≡ statuses.Words → call.new.flushed ≡ true
+  pub unread : job call.words ≡ None
+      → (call.new.left ≡ call.old.left) × (call.new.given ≡ call.old.given)
+      × (call.new.read_faults ≡ call.old.read_faults)
+  pub unfetched : job call.words ≡ None → call.new.shelf ≡ call.old.shelf
+
+-- Why a run ended early, and where it doesn't.
+pub record EndsByCause {Sh Out : Type 0} (call : Call Sh Out) : Type 0 where
+  pub read_fault : call.status ≡ statuses.ReadFault
+      → Rose call.old.read_faults call.new.read_faults ⊎ Rose call.old.fetch_faults call.new.fetch_faults
+  pub write_fault : call.status ≡ statuses.WriteFault → Rose call.old.write_faults call.new.write_faults
+  -- an input that isn't within the limit ends at it, or earlier by a fault or for want of memory
+  pub limited : (setup : Setup) (bytes : List ℕ) → job call.words ≡ Some setup → call.old.left ≡ Some bytes
+      → IsPast call.limit bytes
+      → (call.status ≡ statuses.InputLimit) ⊎ ((call.status ≡ statuses.ReadFault)
+      ⊎ ((call.status ≡ statuses.WriteFault) ⊎ (call.status ≡ statuses.Memory)))
+  -- one that is within it is run to its end where nothing fails: by its bytes, and by how many were given
+  pub complete : (setup : Setup) (bytes : List ℕ) → job call.words ≡ Some setup → IsCalm call
+      → call.old.left ≡ Some bytes → IsWithin call.limit bytes
+      → IsTrue (is_whole call.status) ⊎ (call.status ≡ statuses.Memory)
+  pub complete_given : (setup : Setup) → job call.words ≡ Some setup → IsCalm call
+      → call.new.given ≤ call.old.given + call.limit
+      → IsTrue (is_whole call.status) ⊎ (call.status ≡ statuses.Memory)
+  -- the files of the shelf stay, and a fetch fails only where it ends the run
+  pub files : call.new.files ≡ call.old.files
+  pub calm : ¬ (call.status ≡ statuses.ReadFault) → call.new.fetch_faults ≡ call.old.fetch_faults
+  pub fileless : (setup : Setup) (files : Files) (bytes : List ℕ) → job call.words ≡ Some setup
+      → call.old.left ≡ Some bytes
+      → some_fetch (opening setup.window setup.scale) files (lines_run bytes) ≡ false
+      → call.new.fetch_faults ≡ call.old.fetch_faults
+
+-- An input was served: all of this.
+pub record IsServed {Sh Out : Type 0} (call : Call Sh Out) : Type 0 where
+  pub writes : WritesOutput call
+  pub reads : ReadsInput call
+  pub refuses : RefusesWords call
+  pub ends : EndsByCause call

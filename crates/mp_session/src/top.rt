@@ -5,12 +5,11 @@ ghost use Rattle.mp_bytes.specs.Lines.{ended_lines};
 ghost use Rattle.mp_feed.specs.Writing.{TellsPrefix};
 ghost use Rattle.mp_outside.specs.Counts.{Rose};
 ghost use Rattle.mp_replies.specs.Limits.{input_limit};
-ghost use Rattle.mp_replies.specs.Output.{lines_run, output, reports, session_output, some_ends, some_refused, usage};
+ghost use Rattle.mp_replies.specs.Output.{lines_run, reports, session_output, some_ends, some_refused, usage};
 ghost use Rattle.mp_replies.specs.State.{Files, opening};
-ghost use Rattle.mp_replies.specs.Words.{Setup, job};
-ghost use Rattle.mp_session.specs.Serving.{ToldForRun, ToldForWords, ToldTaken, ToldToFile};
+ghost use Rattle.mp_session.specs.Serving.{IsPast, IsServed, IsWithin, ToldForRun, ToldTaken, ToldToFile, outside_at};
 ghost use Rattle.mp_session.specs.Sessions.{some_fetch};
-ghost use Rattle.mp_session.specs.Statuses.{is_whole, ran, status_by};
+ghost use Rattle.mp_session.specs.Statuses.{status_by};
 
 use crate::halts::Halt;
 use crate::runs::run_lines;
@@ -42,7 +41,7 @@ pub enum Status {
     ReadFault = 3,
     /// A write or a flush failed.
     WriteFault = 4,
-    /// The input is longer than its limit.
+    /// The input is longer than its limit, and no accepted `end` stands within it.
     InputLimit = 5,
     /// Out of memory.
     Memory = 6,
@@ -54,7 +53,7 @@ pub enum Status {
 ///
 /// `rt` is what starts threads, `shelf` what fetches files, and `gate` what a worker passes before each piece of its
 /// work. The profile of a line is shared among as many workers as the words say. An accepted `end` ends the run, and no
-/// byte behind its line is looked at.
+/// byte behind its line is looked at. The limit on input is `INPUT_LIMIT`.
 pub fn serve<R: Threads + Sync, H: Shelf, S: Source, K: Sink, G: Gate>(
     rt: &R,
     alloc: Global,
@@ -65,106 +64,46 @@ pub fn serve<R: Threads + Sync, H: Shelf, S: Source, K: Sink, G: Gate>(
     gate: &G,
 ) -> Status
     requires given { S.given input.old ≤ 2 ^ 127 }
+    ensures { IsServed (record {
+        words = map string_bytes words.now;
+        limit = input_limit;
+        old = outside_at H.Shelf S.Source K.Sink shelf.old input.old out.old;
+        new = outside_at H.Shelf S.Source K.Sink shelf.new input.new out.new;
+        status = result;
+    }) }
+{
+    serve_within(rt, alloc, words, shelf, input, out, gate, INPUT_LIMIT)
+}
 
-    // The whole output, or a front of it where the run ended early.
-    ensures output { (files : Files) (bytes before : List ℕ)
-        → ToldForWords (H.files shelf.old) (map string_bytes words.now) files bytes → S.left input.old ≡ Some bytes
-        → K.written out.old ≡ Some before
-        → length before + length (output (map string_bytes words.now) files bytes) ≤ K.room out.old
-        → IsTrue (is_whole result) → K.written out.new ≡ Some (before ++ output (map string_bytes words.now) files bytes) }
-    ensures front { (files : Files) (bytes before : List ℕ)
-        → ToldForWords (H.files shelf.old) (map string_bytes words.now) files bytes → S.left input.old ≡ Some bytes
-        → K.written out.old ≡ Some before
-        → length before + length (output (map string_bytes words.now) files bytes) ≤ K.room out.old
-        → TellsPrefix (K.written out.new) before (output (map string_bytes words.now) files bytes) }
-
-    // Which front it is: behind a failed read of the input, the reports of all lines that an LF ended before it; behind
-    // the limit on input, those of the lines ended within it; behind a failed read of a file, those of all lines before the
-    // one that asks for it; for want of memory, those of whole lines.
-    ensures read_fault_front { (setup : Setup) (files : Files) (bytes before : List ℕ) → job (map string_bytes words.now) ≡ Some setup
-        → ToldForRun (H.files shelf.old) (opening setup.window setup.scale) files bytes
-        → S.left input.old ≡ Some bytes → K.written out.old ≡ Some before
-        → length before + length (output (map string_bytes words.now) files bytes) ≤ K.room out.old
-        → result ≡ Status.ReadFault → ¬ Rose (H.faults shelf.old) (H.faults shelf.new)
-        → ToldTaken (opening setup.window setup.scale) files bytes (S.left input.new) before (K.written out.new) }
-    ensures shelf_fault_front { (setup : Setup) (files : Files) (bytes before : List ℕ) → job (map string_bytes words.now) ≡ Some setup
-        → ToldForRun (H.files shelf.old) (opening setup.window setup.scale) files bytes
-        → S.left input.old ≡ Some bytes → K.written out.old ≡ Some before
-        → length before + length (output (map string_bytes words.now) files bytes) ≤ K.room out.old
-        → result ≡ Status.ReadFault → ¬ Rose (S.faults input.old) (S.faults input.new)
-        → ToldToFile (opening setup.window setup.scale) files bytes before (K.written out.new) }
-    ensures input_limit_front { (setup : Setup) (files : Files) (bytes before : List ℕ) → job (map string_bytes words.now) ≡ Some setup
-        → ToldForRun (H.files shelf.old) (opening setup.window setup.scale) files bytes
-        → S.left input.old ≡ Some bytes → K.written out.old ≡ Some before
-        → length before + length (output (map string_bytes words.now) files bytes) ≤ K.room out.old
-        → result ≡ Status.InputLimit
-        → K.written out.new ≡ Some (before ++ reports (opening setup.window setup.scale) files (ended_lines (take input_limit bytes))) }
-    ensures memory_front { (setup : Setup) (files : Files) (bytes before : List ℕ) → job (map string_bytes words.now) ≡ Some setup
-        → ToldForRun (H.files shelf.old) (opening setup.window setup.scale) files bytes
-        → S.left input.old ≡ Some bytes → K.written out.old ≡ Some before
-        → length before + length (output (map string_bytes words.now) files bytes) ≤ K.room out.old
-        → result ≡ Status.Memory
-        → (count : ℕ) × (K.written out.new ≡ Some (before ++ reports (opening setup.window setup.scale) files (take count (lines_run bytes)))) }
-
-    // Where nothing is to be written, nothing is done with the sink, however the run ended.
-    ensures quiet { (files : Files) (bytes : List ℕ)
-        → ToldForWords (H.files shelf.old) (map string_bytes words.now) files bytes → S.left input.old ≡ Some bytes
-        → output (map string_bytes words.now) files bytes ≡ [] → out.new ≡ out.old }
-
-    // To the end: whether some line was refused, and, where none ended the run, that nothing is left of the input and
-    // that it was no longer than the limit.
-    ensures refused { (setup : Setup) (files : Files) (bytes : List ℕ) → job (map string_bytes words.now) ≡ Some setup
-        → ToldForRun (H.files shelf.old) (opening setup.window setup.scale) files bytes
-        → S.left input.old ≡ Some bytes → IsTrue (is_whole result)
-        → result ≡ ran (some_refused (opening setup.window setup.scale) files (lines_run bytes)) }
-    ensures read { (bytes : List ℕ) → S.left input.old ≡ Some bytes → some_ends (lines_run bytes) ≡ false
-        → IsTrue (is_whole result) → S.left input.new ≡ Some [] }
-    ensures within { (bytes : List ℕ) → S.left input.old ≡ Some bytes → some_ends (lines_run bytes) ≡ false
-        → IsTrue (is_whole result) → length bytes ≤ input_limit }
-
-    // At most one byte past the limit is taken.
-    ensures given { S.given input.new ≤ S.given input.old + input_limit + 1 }
-
-    // Words outside the grammar.
-    ensures words { result ≡ Status.Words → job (map string_bytes words.now) ≡ None }
-    ensures outside { job (map string_bytes words.now) ≡ None → (result ≡ Status.Words) ⊎ (result ≡ Status.WriteFault) }
-    ensures usage { (before : List ℕ) → K.written out.old ≡ Some before → length before + length usage ≤ K.room out.old
-        → result ≡ Status.Words → K.written out.new ≡ Some (before ++ usage) }
-    ensures usage_front { (before : List ℕ) → K.written out.old ≡ Some before → length before + length usage ≤ K.room out.old
-        → job (map string_bytes words.now) ≡ None → TellsPrefix (K.written out.new) before usage }
-    ensures usage_unfinished { (before : List ℕ) → K.written out.old ≡ Some before → length before + length usage ≤ K.room out.old
-        → job (map string_bytes words.now) ≡ None → result ≡ Status.WriteFault
-        → ¬ ((K.written out.new ≡ Some (before ++ usage)) × (K.flushed out.new ≡ true)) }
-    ensures unread { job (map string_bytes words.now) ≡ None
-        → (S.left input.new ≡ S.left input.old) × (S.given input.new ≡ S.given input.old) × (S.faults input.new ≡ S.faults input.old) }
-    ensures unfetched { job (map string_bytes words.now) ≡ None → shelf.new ≡ shelf.old }
-
-    // Every sink is flushed, or nothing was done with it, also one that tells nothing. So one that was flushed is flushed.
-    ensures flushed_or_untouched { IsTrue (is_whole result) → (K.flushed out.new ≡ true) ⊎ (out.new ≡ out.old) }
-    ensures flushed { K.flushed out.old ≡ true → IsTrue (is_whole result) → K.flushed out.new ≡ true }
-    ensures usage_flushed { result ≡ Status.Words → K.flushed out.new ≡ true }
-
-    // Why a run ended early.
-    ensures read_fault { result ≡ Status.ReadFault
-        → Rose (S.faults input.old) (S.faults input.new) ⊎ Rose (H.faults shelf.old) (H.faults shelf.new) }
-    ensures write_fault { result ≡ Status.WriteFault → Rose (K.faults out.old) (K.faults out.new) }
-    ensures input_limit { result ≡ Status.InputLimit → S.given input.old + input_limit < S.given input.new }
-    ensures past_limit { (bytes : List ℕ) → S.left input.old ≡ Some bytes → result ≡ Status.InputLimit → input_limit < length bytes }
-    ensures calm { ¬ (result ≡ Status.ReadFault) → H.faults shelf.new ≡ H.faults shelf.old }
-    ensures fileless { (setup : Setup) (files : Files) (bytes : List ℕ) → job (map string_bytes words.now) ≡ Some setup
-        → S.left input.old ≡ Some bytes → some_fetch (opening setup.window setup.scale) files (lines_run bytes) ≡ false
-        → H.faults shelf.new ≡ H.faults shelf.old }
-    ensures files { H.files shelf.new ≡ H.files shelf.old }
-    ensures complete { (setup : Setup) → job (map string_bytes words.now) ≡ Some setup
-        → ¬ Rose (S.faults input.old) (S.faults input.new) → ¬ Rose (H.faults shelf.old) (H.faults shelf.new)
-        → ¬ Rose (K.faults out.old) (K.faults out.new)
-        → S.given input.new ≤ S.given input.old + input_limit
-        → IsTrue (is_whole result) ⊎ (result ≡ Status.Memory) }
+/// Does what `serve` does, with a limit on input of its own.
+///
+/// `InputLimit` comes exactly where the input has more than `limit` bytes, none of the lines that an LF ends within the
+/// first `limit` bytes is an accepted `end`, and no fault and no want of memory ended the run before. So a source
+/// without end, such as `LoopSource`, ends the run at the limit.
+pub fn serve_within<R: Threads + Sync, H: Shelf, S: Source, K: Sink, G: Gate>(
+    rt: &R,
+    alloc: Global,
+    words: &[String],
+    shelf: &mut H,
+    input: &mut S,
+    out: &mut K,
+    gate: &G,
+    limit: u64,
+) -> Status
+    requires limit { limit < 2 ^ 64 - 1 }
+    requires given { S.given input.old ≤ 2 ^ 127 }
+    ensures { IsServed (record {
+        words = map string_bytes words.now;
+        limit = limit;
+        old = outside_at H.Shelf S.Source K.Sink shelf.old input.old out.old;
+        new = outside_at H.Shelf S.Source K.Sink shelf.new input.new out.new;
+        status = result;
+    }) }
 {
     let Some(settings) = read_words(words) else {
         return refuse_words(out);
     };
-    status_of(run_session(rt, alloc, settings, shelf, input, out, gate, INPUT_LIMIT))
+    status_of(run_session(rt, alloc, settings, shelf, input, out, gate, limit))
 }
 
 fn refuse_words<K: Sink>(out: &mut K) -> Status
@@ -259,7 +198,8 @@ fn run_session<R: Threads + Sync, H: Shelf, S: Source, K: Sink, G: Gate>(
         → OnOk result (S.left input.new ≡ Some []) }
     ensures within { (bytes : List ℕ) → S.left input.old ≡ Some bytes → some_ends (lines_run bytes) ≡ false
         → OnOk result (length bytes ≤ limit) }
-    ensures past { (bytes : List ℕ) → S.left input.old ≡ Some bytes → IsErrOf result Halt.InputLimit → limit < length bytes }
+    ensures end_within { (bytes : List ℕ) → S.left input.old ≡ Some bytes → OnOk result (IsWithin limit bytes) }
+    ensures past { (bytes : List ℕ) → S.left input.old ≡ Some bytes → IsErrOf result Halt.InputLimit → IsPast limit bytes }
     ensures given { S.given input.new ≤ S.given input.old + limit + 1 }
 
     ensures flushed { OnOk result ((K.flushed out.new ≡ true) ⊎ (out.new ≡ out.old)) }

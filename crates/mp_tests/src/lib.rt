@@ -1,6 +1,6 @@
-//! Tests that cross crates: whole runs through the top call, files, refusals and their order, runs that end early, the
-//! lines of an input that comes in pieces, the longest lines, series and files, the replies of a session, and the calls
-//! that take memory.
+//! Tests that cross crates: whole runs through the top call, files, refusals and their order, runs that end early,
+//! inputs that go on past a limit, the lines of an input that comes in pieces, the longest lines, series and files, the
+//! replies of a session, and the calls that take memory.
 #![tactic(auto)]
 
 #[cfg(test)]
@@ -9,6 +9,8 @@ mod cuts;
 mod faults;
 #[cfg(test)]
 mod files;
+#[cfg(test)]
+mod input_limits;
 #[cfg(test)]
 mod limits;
 #[cfg(test)]

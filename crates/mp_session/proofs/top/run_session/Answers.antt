@@ -1,6 +1,6 @@
 use Rattle.mp_replies.specs.State.{opening}
 use Rattle.mp_session.proofs.EndLemmas.{if_ok}
-use Rattle.mp_session.proofs.ServeLemmas.{ok_on, by_outcome, all_told, all_some, all_refused, all_read, some_front, into_front, some_quiet, into_quiet, some_whole, some_flushed, told_taken, told_within, longer_than_limit, stopped_at_file, told_to_file}
+use Rattle.mp_session.proofs.ServeLemmas.{ok_on, by_outcome, all_told, all_some, all_refused, all_read, some_front, into_front, some_quiet, into_quiet, some_whole, some_flushed, told_taken, told_within, past_limit, stopped_at_file, told_to_file}
 use Rattle.mp_session.proofs.top.run_session.Goals as goal
 
 pub returns-clause-told : goal.returns-clause-told
@@ -70,10 +70,14 @@ pub returns-clause-within : goal.returns-clause-within
 returns-clause-within g c = λ bytes e none.
     ok_on c.run_lines.result c.run_lines.ensures.all (λ _ ran. (all_read ran bytes e none).1)
 
+pub returns-clause-end_within : goal.returns-clause-end_within
+returns-clause-end_within g c = λ bytes e.
+    ok_on c.run_lines.result c.run_lines.ensures.all (λ _ ran. ran.within bytes e)
+
 pub returns-clause-past : goal.returns-clause-past
 returns-clause-past g c = λ bytes e is.
     let ended = c.run_lines.ensures.input_limit is in
-    longer_than_limit ended.0 ended.1 bytes e
+    past_limit ended.0 ended.1 bytes e
 
 pub returns-clause-flushed : goal.returns-clause-flushed
 returns-clause-flushed g c = ok_on c.run_lines.result c.run_lines.ensures.all (λ _ ran. some_flushed (all_some ran))
