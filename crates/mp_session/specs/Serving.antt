@@ -3,7 +3,6 @@ use Rattle.std.specs.Prelude.{◌≡◌, ◌⊎◌, ℕ, ◌+◌, ◌<◌, ◌�
 use Rattle.mp_outside.specs.Counts.{Rose}
 use Rattle.mp_outside.specs.declared.shelves.Shelf as shelves
 use Rattle.mp_outside.specs.declared.sources.Source as sources
-use Rattle.mp_outside.specs.declared.sinks.Sink as sinks
 use Rattle.mp_outside.specs.declared.sinks.Sink.{Ghosts}
 use Rattle.mp_feed.specs.Feeding.{nothing, lines_left, ended_lines_left}
 use Rattle.mp_feed.specs.Reading.{IsTakenOff}

@@ -65,11 +65,11 @@ pub fn serve<R: Threads + Sync, H: Shelf, S: Source, K: Sink, G: Gate>(
 ) -> Status
     requires given { S.given input.old ≤ 2 ^ 127 }
     ensures { IsServed (record {
-        words = map string_bytes words.now;
-        limit = input_limit;
-        old = outside_at H.Shelf S.Source K.Sink shelf.old input.old out.old;
-        new = outside_at H.Shelf S.Source K.Sink shelf.new input.new out.new;
-        status = result;
+      words = map string_bytes words.now;
+      limit = input_limit;
+      old = outside_at H.Shelf S.Source K.Sink shelf.old input.old out.old;
+      new = outside_at H.Shelf S.Source K.Sink shelf.new input.new out.new;
+      status = result;
     }) }
 {
     serve_within(rt, alloc, words, shelf, input, out, gate, INPUT_LIMIT)
@@ -93,11 +93,11 @@ pub fn serve_within<R: Threads + Sync, H: Shelf, S: Source, K: Sink, G: Gate>(
     requires limit { limit < 2 ^ 64 - 1 }
     requires given { S.given input.old ≤ 2 ^ 127 }
     ensures { IsServed (record {
-        words = map string_bytes words.now;
-        limit = limit;
-        old = outside_at H.Shelf S.Source K.Sink shelf.old input.old out.old;
-        new = outside_at H.Shelf S.Source K.Sink shelf.new input.new out.new;
-        status = result;
+      words = map string_bytes words.now;
+      limit = limit;
+      old = outside_at H.Shelf S.Source K.Sink shelf.old input.old out.old;
+      new = outside_at H.Shelf S.Source K.Sink shelf.new input.new out.new;
+      status = result;
     }) }
 {
     let Some(settings) = read_words(words) else {
