@@ -32,11 +32,7 @@ fn check<R: Abort + AllocGlobal + Threads + Sync>(
             output,
             "{limit} bytes at most, in steps of {step}"
         );
-        assert_eq!(rt;
-            ended,
-            status,
-            "{limit} bytes at most, in steps of {step}"
-        );
+        assert_eq!(rt; ended, status, "{limit} bytes at most, in steps of {step}");
     }
     Ok(())
 }
@@ -103,12 +99,7 @@ fn an_accepted_end_ends_the_run_where_its_line_is_within_the_limit(
             "refused 1 fields\nok 2\n",
             Status::Refused,
         ),
-        (
-            9,
-            "end 1\nend\n#",
-            "refused 1 fields\n",
-            Status::InputLimit,
-        ),
+        (9, "end 1\nend\n#", "refused 1 fields\n", Status::InputLimit),
     ] {
         check(&rt, limit, input, output, status)?;
     }
@@ -125,12 +116,7 @@ fn behind_the_limit_the_lines_within_it_are_reported(rt: HostRuntime) -> Result<
             "ok 1 6\n",
             Status::InputLimit,
         ),
-        (
-            31,
-            "append 0 1 2 3 1 2 3\nprofile 0\n",
-            two,
-            Status::Done,
-        ),
+        (31, "append 0 1 2 3 1 2 3\nprofile 0\n", two, Status::Done),
         (
             40,
             "append 0 1 2 3 1 2 3\nprofile 0\nentry 0 0\n",
