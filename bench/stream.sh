@@ -10,7 +10,7 @@ work="$(mktemp -d)"
 trap 'rm -rf "$work"' EXIT
 
 g++ -O3 -march=x86-64-v2 -o "$work/plain" "$here/stream.cpp"
-tr -d '\r' < "$here/../crates/real_series/data/ecg.csv" | awk -F, 'NR > 1 { print $2 }' > "$work/64"
+tr -d '\r' < "$here/../crates/stored_runs/data/ecg.csv" | awk -F, 'NR > 1 { print $2 }' > "$work/64"
 awk '{ print ($1 - 1203) * 3890000 }' "$work/64" > "$work/128"
 
 # the name of a program, the samples, and the words that run it
