@@ -1,13 +1,7 @@
 //! Runs that a failed read, fetch or write or the input's limit ends early.
 
-ghost use Rattle.std.specs.Prelude.{◌≤◌, ◌^◌};
-
 use crate::run::split_words;
-use mp_nums::Memory;
-use mp_outside::{
-    CalmShelf, CalmSink, CalmSource, Failed, LoopSource, MemShelf, MemSink, MemSource, OpenGate,
-    Shelf, Sink, Source,
-};
+use mp_outside::{CalmShelf, CalmSink, LoopSource, MemShelf, MemSink, MemSource, OpenGate, Sink};
 use mp_session::top::{Status, serve};
 use std::alloc::{AllocError, Global};
 use std::process::Abort;
@@ -15,179 +9,186 @@ use std::str;
 use std::test::Fail;
 use std::thread::Threads;
 
-const INPUT: &[u8] = b"append 0 1 2 3\nprofile 0\n";
-
-/// Serves the source for windows of three samples.
-fn serve_into<R: AllocGlobal + Threads + Sync, H: Shelf, S: Source, K: Sink>(
-    rt: &R,
-    shelf: &mut H,
-    input: &mut S,
-    out: &mut K,
-) -> Result<Status, AllocError>
-    requires { S.given input.old ≤ 2 ^ 127 }
-{
-    serve_words(rt, "--window 3", shelf, input, out)
-}
-
-/// Serves the source with these words.
-fn serve_words<R: AllocGlobal + Threads + Sync, H: Shelf, S: Source, K: Sink>(
-    rt: &R,
-    words: &str,
-    shelf: &mut H,
-    input: &mut S,
-    out: &mut K,
-) -> Result<Status, AllocError>
-    requires { S.given input.old ≤ 2 ^ 127 }
-{
-    let alloc = rt.alloc();
-    let words = split_words(alloc, words)?;
-    Ok(serve(rt, alloc, words.as_slice(), shelf, input, out, &OpenGate))
-}
-
-#[test]
-fn a_failed_read_ends_the_run(rt: HostRuntime) -> Result<(), Fail> {
-    let alloc = rt.alloc();
-    for (failing, written) in [(0, ""), (1, ""), (2, "ok 1 3\n")] {
-        let mut shelf = CalmShelf::new(alloc);
-        let mut input = MemSource::new(INPUT.to_vec(alloc)?, 8, vec![in alloc; failing]?);
-        let mut out = CalmSink::new(alloc, 64)?;
-        let status = serve_into(&rt, &mut shelf, &mut input, &mut out)?;
-        assert_eq!(rt; status, Status::ReadFault, "read {failing} fails");
-        assert_eq!(rt;
-            str::from_utf8(out.bytes())?,
-            written,
-            "read {failing} fails"
-        );
-    }
-    Ok(())
-}
-
-// The first read brings a whole line and a part of the next, which isn't run.
-#[test]
-fn the_lines_before_a_failed_read_are_reported(rt: HostRuntime) -> Result<(), Fail> {
-    let alloc = rt.alloc();
-    for (step, written) in [
-        (15, "ok 1 3\n"),
-        (24, "ok 1 3\n"),
-        (25, "ok 1 3\nprofile 2 1\n0 - - - -\n"),
-    ] {
-        let mut shelf = CalmShelf::new(alloc);
-        let mut input = MemSource::new(INPUT.to_vec(alloc)?, step, vec![in alloc; 1]?);
-        let mut out = CalmSink::new(alloc, 64)?;
-        let status = serve_into(&rt, &mut shelf, &mut input, &mut out)?;
-        assert_eq!(rt; status, Status::ReadFault, "{step} bytes are read");
-        assert_eq!(rt;
-            str::from_utf8(out.bytes())?,
-            written,
-            "{step} bytes are read"
-        );
-    }
-    Ok(())
-}
-
-// Of 41 bytes the first read brings 40: all but the LF of the last line.
-#[test]
-fn a_line_whose_lf_was_not_read_is_not_run(rt: HostRuntime) -> Result<(), Fail> {
-    let alloc = rt.alloc();
-    let lines = b"append 0 1 2 3 1 2 3\nprofile 0\nentry 0 0\n";
-    let mut shelf = CalmShelf::new(alloc);
-    let mut input = MemSource::new(lines.to_vec(alloc)?, 40, vec![in alloc; 1]?);
-    let mut out = CalmSink::new(alloc, 128)?;
-    let status = serve_into(&rt, &mut shelf, &mut input, &mut out)?;
-    assert_eq!(rt; status, Status::ReadFault);
-    assert_eq!(rt;
-        str::from_utf8(out.bytes())?,
-        "ok 1 6\nprofile 2 4\n0 0 3 - 3\n1 6 3 - 3\n2 6 0 0 -\n3 0 0 0 -\n"
-    );
-    Ok(())
-}
-
-// Each read brings a line, and the third one would fail.
-#[test]
-fn behind_an_accepted_end_nothing_is_read(rt: HostRuntime) -> Result<(), Fail> {
-    let alloc = rt.alloc();
-    for (lines, status, written) in [
-        ("#ab\nend\nfrob\n", Status::Done, "ok 2\n"),
-        (
-            "fro\nend\nfrob\n",
-            Status::Refused,
-            "refused 1 unknown\nok 2\n",
-        ),
-        ("end\n#ab\nfrob\n", Status::Done, "ok 1\n"),
-        ("#ab\nEnd\nend\n", Status::ReadFault, "refused 2 unknown\n"),
-        ("#ab\nend", Status::ReadFault, ""),
-    ] {
-        let mut shelf = CalmShelf::new(alloc);
-        let bytes = lines.as_bytes().to_vec(alloc)?;
-        let mut input = MemSource::new(bytes, 4, vec![in alloc; 2]?);
-        let mut out = CalmSink::new(alloc, 64)?;
-        let ended = serve_into(&rt, &mut shelf, &mut input, &mut out)?;
-        assert_eq!(rt; ended, status, "{lines}");
-        assert_eq!(rt; str::from_utf8(out.bytes())?, written, "{lines}");
-    }
-    Ok(())
-}
-
-/// A shelf with one file of three records, of which the fetch of this number fails, counted from 0.
-fn failing_shelf(alloc: Global, failing: u64) -> Result<MemShelf, Memory> {
-    let mut shelf = MemShelf::new(alloc, vec![in alloc; failing]?);
-    shelf.put(b"three.csv".to_vec(alloc)?, b"1\n2\n3\n".to_vec(alloc)?)?;
-    Ok(shelf)
-}
-
-/// Serves the lines with a shelf of which one fetch fails.
-fn check_failing_fetch<R: Abort + AllocGlobal + Threads + Sync>(
-    rt: &R,
-    failing: u64,
-    lines: &[u8],
-    written: &str,
+/// A run with a file `three.csv` of three records, where a call of the outside may fail. The calls of each kind are counted
+/// from 0, the writes and flushes together.
+#[derive(Clone, Copy)]
+struct FaultyRun<'a> {
+    shows: &'a str,
+    words: &'a str,
+    input: &'a str,
+    /// How many bytes one read gives, at most.
+    read_step: usize,
+    failing_read: Option<u64>,
+    failing_fetch: Option<u64>,
+    /// How many bytes one write takes, at most.
+    write_step: usize,
+    failing_write: Option<u64>,
+    output: &'a str,
     status: Status,
-) -> Result<(), Fail> {
+    /// Whether a flush behind the run fails, since the run made no further call.
+    next_flush_fails: bool,
+}
+
+/// A run in which nothing fails.
+const CALM: FaultyRun = FaultyRun {
+    shows: "",
+    words: "--window 3",
+    input: "append 0 1 2 3\nprofile 0\n",
+    read_step: 8,
+    failing_read: None,
+    failing_fetch: None,
+    write_step: 128,
+    failing_write: None,
+    output: "",
+    status: Status::Done,
+    next_flush_fails: false,
+};
+
+/// The number of the one call that fails.
+fn plan(alloc: Global, failing: Option<u64>) -> Result<Vec<u64>, AllocError> {
+    let mut plan = Vec::new(alloc);
+    if let Some(number) = failing {
+        plan.push(number)?;
+    }
+    Ok(plan)
+}
+
+fn check<R: Abort + AllocGlobal + Threads + Sync>(rt: &R, run: &FaultyRun<'_>) -> Result<(), Fail> {
     let alloc = rt.alloc();
-    let mut shelf = failing_shelf(alloc, failing)?;
-    let mut input = CalmSource::new(lines.to_vec(alloc)?, 7);
-    let mut out = CalmSink::new(alloc, 1_024)?;
-    let ended = serve_into(rt, &mut shelf, &mut input, &mut out)?;
-    assert_eq!(rt;
-        str::from_utf8(out.bytes())?,
-        written,
-        "fetch {failing} fails"
+    let words = split_words(alloc, run.words)?;
+    let mut shelf = MemShelf::new(alloc, plan(alloc, run.failing_fetch)?);
+    shelf.put(b"three.csv".to_vec(alloc)?, b"1\n2\n3\n".to_vec(alloc)?)?;
+    let input = run.input.as_bytes().to_vec(alloc)?;
+    let mut input = MemSource::new(input, run.read_step.max(1), plan(alloc, run.failing_read)?);
+    let failing = plan(alloc, run.failing_write)?;
+    let mut out = MemSink::new(alloc, 1_024, run.write_step.max(1), failing)?;
+    let status = serve(
+        rt,
+        alloc,
+        words.as_slice(),
+        &mut shelf,
+        &mut input,
+        &mut out,
+        &OpenGate,
     );
-    assert_eq!(rt; ended, status, "fetch {failing} fails");
+    assert_eq!(rt; str::from_utf8(out.bytes())?, run.output, "{}", run.shows);
+    assert_eq!(rt; status, run.status, "{}", run.shows);
+    assert_eq!(rt; out.flush().is_err(), run.next_flush_fails, "{}", run.shows);
     Ok(())
 }
 
-#[test]
-fn a_failed_fetch_ends_the_run(rt: HostRuntime) -> Result<(), Fail> {
-    let lines = b"load 0 none.csv 0\nappend 0 1\n";
-    check_failing_fetch(&rt, 0, lines, "", Status::ReadFault)?;
-    check_failing_fetch(&rt, 1, lines, "refused 1 file\nok 2 1\n", Status::Refused)
-}
-
-#[test]
-fn a_load_fetches_its_file_once(rt: HostRuntime) -> Result<(), Fail> {
-    let lines = b"load 0 three.csv 0\nload 0 three.csv 0 header\nload 0 three.csv 1\nend\n";
-    for (failing, written, status) in [
-        (0, "", Status::ReadFault),
-        (1, "ok 1 3\n", Status::ReadFault),
-        (2, "ok 1 3\nok 2 2\n", Status::ReadFault),
-        (
-            3,
-            "ok 1 3\nok 2 2\nrefused 3 record 1\nok 4\n",
-            Status::Refused,
-        ),
-    ] {
-        check_failing_fetch(&rt, failing, lines, written, status)?;
+fn check_all<R: Abort + AllocGlobal + Threads + Sync>(
+    rt: &R,
+    table: &[FaultyRun<'_>],
+) -> Result<(), Fail> {
+    for run in table {
+        check(rt, run)?;
     }
     Ok(())
 }
 
-// The first fetch would fail.
-#[test]
-fn a_line_that_is_no_load_or_is_refused_without_its_file_fetches_none(
-    rt: HostRuntime,
-) -> Result<(), Fail> {
-    let lines = b"\
+static READS: [FaultyRun; 12] = [
+    FaultyRun {
+        shows: "the first read fails",
+        failing_read: Some(0),
+        status: Status::ReadFault,
+        ..CALM
+    },
+    FaultyRun {
+        shows: "the second read fails, before the first line is whole",
+        failing_read: Some(1),
+        status: Status::ReadFault,
+        ..CALM
+    },
+    FaultyRun {
+        shows: "the third read fails, and the line before it is reported",
+        failing_read: Some(2),
+        output: "ok 1 3\n",
+        status: Status::ReadFault,
+        ..CALM
+    },
+    FaultyRun {
+        shows: "a whole line is read and no byte behind it",
+        read_step: 15,
+        failing_read: Some(1),
+        output: "ok 1 3\n",
+        status: Status::ReadFault,
+        ..CALM
+    },
+    FaultyRun {
+        shows: "of the second line all but its LF is read, and it isn't run",
+        read_step: 24,
+        failing_read: Some(1),
+        output: "ok 1 3\n",
+        status: Status::ReadFault,
+        ..CALM
+    },
+    FaultyRun {
+        shows: "both lines are read, and the read that would tell the end fails",
+        read_step: 25,
+        failing_read: Some(1),
+        output: "ok 1 3\nprofile 2 1\n0 - - - -\n",
+        status: Status::ReadFault,
+        ..CALM
+    },
+    FaultyRun {
+        shows: "of three lines all but the last LF is read",
+        input: "append 0 1 2 3 1 2 3\nprofile 0\nentry 0 0\n",
+        read_step: 40,
+        failing_read: Some(1),
+        output: "ok 1 6\nprofile 2 4\n0 0 3 - 3\n1 6 3 - 3\n2 6 0 0 -\n3 0 0 0 -\n",
+        status: Status::ReadFault,
+        ..CALM
+    },
+    FaultyRun {
+        shows: "behind an accepted end nothing is read",
+        input: "#ab\nend\nfrob\n",
+        read_step: 4,
+        failing_read: Some(2),
+        output: "ok 2\n",
+        ..CALM
+    },
+    FaultyRun {
+        shows: "behind an accepted end nothing is read, also where a line was refused",
+        input: "fro\nend\nfrob\n",
+        read_step: 4,
+        failing_read: Some(2),
+        output: "refused 1 unknown\nok 2\n",
+        status: Status::Refused,
+        ..CALM
+    },
+    FaultyRun {
+        shows: "behind an end in the first line nothing is read",
+        input: "end\n#ab\nfrob\n",
+        read_step: 4,
+        failing_read: Some(1),
+        output: "ok 1\n",
+        ..CALM
+    },
+    FaultyRun {
+        shows: "behind a line that is no end the run goes on",
+        input: "#ab\nEnd\nend\n",
+        read_step: 4,
+        failing_read: Some(2),
+        output: "refused 2 unknown\n",
+        status: Status::ReadFault,
+        ..CALM
+    },
+    FaultyRun {
+        shows: "an end whose LF is not read isn't run",
+        input: "#ab\nend",
+        read_step: 4,
+        failing_read: Some(2),
+        status: Status::ReadFault,
+        ..CALM
+    },
+];
+
+/// Three lines that each ask for the file, and the end.
+const LOADS: &str = "load 0 three.csv 0\nload 0 three.csv 0 header\nload 0 three.csv 1\nend\n";
+
+/// Lines that ask for no file, or are refused without it, and then one that asks for it.
+const LINES_WITHOUT_A_FILE: &str = "\
 load
 load 0 three.csv
 load 0 three.csv 0 heading
@@ -206,7 +207,8 @@ open 1 1
 load 1 three.csv 0
 append 0 1
 ";
-    let written = "\
+
+const REPORTS_WITHOUT_A_FILE: &str = "\
 refused 1 fields
 refused 2 fields
 refused 3 fields
@@ -223,96 +225,191 @@ profile 14 1
 0 - - - -
 ok 15 0
 ";
-    check_failing_fetch(&rt, 0, lines, written, Status::ReadFault)
+
+static FETCHES: [FaultyRun; 7] = [
+    FaultyRun {
+        shows: "the fetch of a file that isn't there fails",
+        input: "load 0 none.csv 0\nappend 0 1\n",
+        failing_fetch: Some(0),
+        status: Status::ReadFault,
+        ..CALM
+    },
+    FaultyRun {
+        shows: "a second fetch would fail, and isn't made",
+        input: "load 0 none.csv 0\nappend 0 1\n",
+        failing_fetch: Some(1),
+        output: "refused 1 file\nok 2 1\n",
+        status: Status::Refused,
+        ..CALM
+    },
+    FaultyRun {
+        shows: "the fetch of the first load fails",
+        input: LOADS,
+        failing_fetch: Some(0),
+        status: Status::ReadFault,
+        ..CALM
+    },
+    FaultyRun {
+        shows: "the fetch of the second load fails, and the first one made one alone",
+        input: LOADS,
+        failing_fetch: Some(1),
+        output: "ok 1 3\n",
+        status: Status::ReadFault,
+        ..CALM
+    },
+    FaultyRun {
+        shows: "the fetch of the third load fails, and the second one made one alone",
+        input: LOADS,
+        failing_fetch: Some(2),
+        output: "ok 1 3\nok 2 2\n",
+        status: Status::ReadFault,
+        ..CALM
+    },
+    FaultyRun {
+        shows: "a fourth fetch would fail, and isn't made",
+        input: LOADS,
+        failing_fetch: Some(3),
+        output: "ok 1 3\nok 2 2\nrefused 3 record 1\nok 4\n",
+        status: Status::Refused,
+        ..CALM
+    },
+    FaultyRun {
+        shows: "a line that is no load or is refused without its file fetches none",
+        input: LINES_WITHOUT_A_FILE,
+        failing_fetch: Some(0),
+        output: REPORTS_WITHOUT_A_FILE,
+        status: Status::ReadFault,
+        ..CALM
+    },
+];
+
+static WRITES: [FaultyRun; 9] = [
+    FaultyRun {
+        shows: "the first write fails",
+        write_step: 4,
+        failing_write: Some(0),
+        status: Status::WriteFault,
+        ..CALM
+    },
+    FaultyRun {
+        shows: "the second write of a report fails",
+        write_step: 4,
+        failing_write: Some(1),
+        output: "ok 1",
+        status: Status::WriteFault,
+        ..CALM
+    },
+    FaultyRun {
+        shows: "the flush of a report fails",
+        write_step: 4,
+        failing_write: Some(2),
+        output: "ok 1 3\n",
+        status: Status::WriteFault,
+        ..CALM
+    },
+    FaultyRun {
+        shows: "the first write of the second report fails",
+        write_step: 4,
+        failing_write: Some(3),
+        output: "ok 1 3\n",
+        status: Status::WriteFault,
+        ..CALM
+    },
+    FaultyRun {
+        shows: "the second write of the second report fails",
+        write_step: 4,
+        failing_write: Some(4),
+        output: "ok 1 3\nprof",
+        status: Status::WriteFault,
+        ..CALM
+    },
+    FaultyRun {
+        shows: "a report that is written at once fails, and the one before it is whole",
+        input: "append 0 1 2 3 1 2 3\nprofile 0\n",
+        read_step: 65_536,
+        failing_write: Some(2),
+        output: "ok 1 6\n",
+        status: Status::WriteFault,
+        ..CALM
+    },
+    FaultyRun {
+        shows: "quiet lines leave the sink alone",
+        input: "# nothing to report\n\n  \n#\r\n# the last",
+        write_step: 4,
+        failing_write: Some(0),
+        next_flush_fails: true,
+        ..CALM
+    },
+    FaultyRun {
+        shows: "a quiet line behind a report of two writes and a flush makes no fourth call",
+        input: "x\n# nothing to report\n\n",
+        write_step: 9,
+        failing_write: Some(3),
+        output: "refused 1 unknown\n",
+        status: Status::Refused,
+        next_flush_fails: true,
+        ..CALM
+    },
+    FaultyRun {
+        shows: "words that are refused read no input and fetch no file, and their line can fail to be written",
+        words: "--window 2",
+        failing_read: Some(0),
+        failing_fetch: Some(0),
+        write_step: 6,
+        failing_write: Some(1),
+        output: "mprof:",
+        status: Status::WriteFault,
+        ..CALM
+    },
+];
+
+#[test]
+fn a_failed_read_ends_the_run(rt: HostRuntime) -> Result<(), Fail> {
+    check_all(&rt, &READS)
+}
+
+#[test]
+fn a_failed_fetch_ends_the_run(rt: HostRuntime) -> Result<(), Fail> {
+    check_all(&rt, &FETCHES)
 }
 
 #[test]
 fn a_failed_write_or_flush_ends_the_run(rt: HostRuntime) -> Result<(), Fail> {
-    let alloc = rt.alloc();
-    for (failing, written) in [
-        (0, ""),
-        (1, "ok 1"),
-        (2, "ok 1 3\n"),
-        (3, "ok 1 3\n"),
-        (4, "ok 1 3\nprof"),
-    ] {
-        let mut shelf = CalmShelf::new(alloc);
-        let mut input = MemSource::new(INPUT.to_vec(alloc)?, 8, Vec::new(alloc));
-        let mut out = MemSink::new(alloc, 64, 4, vec![in alloc; failing]?)?;
-        let status = serve_into(&rt, &mut shelf, &mut input, &mut out)?;
-        assert_eq!(rt; status, Status::WriteFault, "call {failing} fails");
-        assert_eq!(rt;
-            str::from_utf8(out.bytes())?,
-            written,
-            "call {failing} fails"
-        );
-    }
-    Ok(())
-}
-
-// A report takes a write and a flush here.
-#[test]
-fn the_reports_before_a_failed_write_are_whole(rt: HostRuntime) -> Result<(), Fail> {
-    let alloc = rt.alloc();
-    let lines = b"append 0 1 2 3 1 2 3\nprofile 0\n";
-    let mut shelf = CalmShelf::new(alloc);
-    let mut input = CalmSource::new(lines.to_vec(alloc)?, 65_536);
-    let mut out = MemSink::new(alloc, 128, 128, vec![in alloc; 2]?)?;
-    let status = serve_into(&rt, &mut shelf, &mut input, &mut out)?;
-    assert_eq!(rt; status, Status::WriteFault);
-    assert_eq!(rt; str::from_utf8(out.bytes())?, "ok 1 6\n");
-    Ok(())
-}
-
-#[test]
-fn quiet_lines_leave_the_sink_alone(rt: HostRuntime) -> Result<(), Fail> {
-    let alloc = rt.alloc();
-    let lines = b"# nothing to report\n\n  \n#\r\n# the last";
-    let mut shelf = CalmShelf::new(alloc);
-    let mut input = MemSource::new(lines.to_vec(alloc)?, 8, Vec::new(alloc));
-    let mut out = MemSink::new(alloc, 64, 4, vec![in alloc; 0]?)?;
-    let status = serve_into(&rt, &mut shelf, &mut input, &mut out)?;
-    assert_eq!(rt; status, Status::Done);
-    assert!(rt; out.bytes().is_empty());
-    assert_eq!(rt; out.flush(), Err(Failed), "the first call fails");
-    Ok(())
-}
-
-// The refused line takes three calls: two writes and a flush. A quiet line behind it makes no fourth one.
-#[test]
-fn a_quiet_line_behind_a_report_is_not_flushed(rt: HostRuntime) -> Result<(), Fail> {
-    let alloc = rt.alloc();
-    let lines = b"x\n# nothing to report\n\n";
-    let mut shelf = CalmShelf::new(alloc);
-    let mut input = MemSource::new(lines.to_vec(alloc)?, 8, Vec::new(alloc));
-    let mut out = MemSink::new(alloc, 64, 9, vec![in alloc; 3]?)?;
-    let status = serve_into(&rt, &mut shelf, &mut input, &mut out)?;
-    assert_eq!(rt; status, Status::Refused);
-    assert_eq!(rt; str::from_utf8(out.bytes())?, "refused 1 unknown\n");
-    assert_eq!(rt; out.flush(), Err(Failed), "the fourth call fails");
-    Ok(())
-}
-
-#[test]
-fn a_refusal_of_the_words_can_fail_to_be_written(rt: HostRuntime) -> Result<(), Fail> {
-    let alloc = rt.alloc();
-    let mut shelf = failing_shelf(alloc, 0)?;
-    let mut input = MemSource::new(INPUT.to_vec(alloc)?, 8, vec![in alloc; 0]?);
-    let mut out = MemSink::new(alloc, 128, 6, vec![in alloc; 1]?)?;
-    let status = serve_words(&rt, "--window 2", &mut shelf, &mut input, &mut out)?;
-    assert_eq!(rt; status, Status::WriteFault);
-    assert_eq!(rt; str::from_utf8(out.bytes())?, "mprof:");
-    Ok(())
+    check_all(&rt, &WRITES)
 }
 
 #[test]
 fn an_input_without_end_ends_at_the_limit(rt: HostRuntime) -> Result<(), Fail> {
     let alloc = rt.alloc();
+    let words = split_words(alloc, "--window 3")?;
     let mut shelf = CalmShelf::new(alloc);
     let mut input = LoopSource::new(b'#');
     let mut out = CalmSink::new(alloc, 64)?;
-    let status = serve_into(&rt, &mut shelf, &mut input, &mut out)?;
+    let status = serve(
+        &rt,
+        alloc,
+        words.as_slice(),
+        &mut shelf,
+        &mut input,
+        &mut out,
+        &OpenGate,
+    );
     assert_eq!(rt; status, Status::InputLimit);
     assert!(rt; out.bytes().is_empty());
     Ok(())
+}
+
+#[test]
+fn statuses_have_their_numbers(rt: HostRuntime) {
+    for (status, number) in [
+        (Status::Done, 0),
+        (Status::Refused, 1),
+        (Status::Words, 2),
+        (Status::ReadFault, 3),
+        (Status::WriteFault, 4),
+        (Status::InputLimit, 5),
+        (Status::Memory, 6),
+    ] {
+        assert_eq!(rt; status as u8, number);
+    }
 }

@@ -2,7 +2,7 @@
 
 ghost use Rattle.std.specs.Prelude.{◌<◌};
 
-use crate::run::{File, Run, check};
+use crate::run::{Run, check};
 use mp_session::Feed;
 use mp_session::top::Status;
 use std::alloc::{AllocError, Global};
@@ -38,17 +38,13 @@ fn check_file<R: Abort + AllocGlobal + Threads + Sync>(
     status: Status,
 ) -> Result<(), Fail> {
     let run = Run {
-        shows: output,
         words: "--window 3",
-        files: &[File {
-            name: "long.csv",
-            bytes,
-        }],
+        file: bytes,
         input,
         output,
         status,
     };
-    check(rt, &run, 65_536)
+    check(rt, &run)
 }
 
 /// A comment of so many bytes, and what ends it.
@@ -237,12 +233,11 @@ fn a_long_series_has_a_profile_of_the_longest_windows(rt: HostRuntime) -> Result
         output.push_str(row_of_zeros(rt.alloc(), start)?.as_str())?;
     }
     let run = Run {
-        shows: "the longest windows of 30,000 samples",
         words: "--window 16384",
-        files: &[],
+        file: b"",
         input: input.as_slice(),
         output: output.as_str(),
         status: Status::Done,
     };
-    check(&rt, &run, 65_536)
+    check(&rt, &run)
 }
