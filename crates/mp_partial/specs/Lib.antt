@@ -4,3 +4,5 @@ pub mod Profiled
 pub mod Together
 pub mod TogetherLaws
 pub mod Offers
+pub mod Patching
+pub mod PatchingLaws

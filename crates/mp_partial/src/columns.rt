@@ -1,8 +1,9 @@
 //! One column: for each place its nearest window, or none.
 
-ghost use Rattle.std.specs.Prelude.{◌≡◌, ◌+◌, ◌<◌, false, length, replicate, IfOk, Some, None};
+ghost use Rattle.std.specs.Prelude.{◌≡◌, ◌+◌, ◌<◌, ◌≤◌, false, length, replicate, IfOk, Some, None};
 ghost use Rattle.mp_nums.specs.Near.{nearer_of};
 ghost use Rattle.mp_partial.specs.Values.{empty_column, merged_column, offered};
+ghost use Rattle.mp_partial.specs.Patching.{slots_from, placed, IsCovered};
 
 use mp_nums::{Items, Memory, Near, Slot, Slots, Sq, nearer};
 use std::alloc::Global;
@@ -49,9 +50,64 @@ pub(crate) fn merge(column: &mut Slots, other: &Slots)
     merge_each(column.as_mut_slice(), other.as_slice());
 }
 
+/// So many slots from a place on.
+pub(crate) fn part(column: &Slots, first: u64, count: u64) -> &[Slot]
+    requires { first + count ≤ length column.now.items }
+    ensures slots { result.now ≡ slots_from column.now.items first count }
+    ensures places { length result.now ≡ count }
+{
+    let first = first as usize;
+    &column.as_slice()[first..first + count as usize]
+}
+
+/// Takes over what was found on one side into this side and into both. Most is nearer to neither, and one look tells.
+pub(crate) fn merge_side(side: &mut Slots, both: &mut Slots, first: u64, slots: &[Slot])
+    requires within { first + length slots.now ≤ length side.old.items }
+    requires both { length both.old.items ≡ length side.old.items }
+    requires covered { IsCovered side.old.items both.old.items }
+    ensures side { side.new.items
+        ≡ merged_column side.old.items (placed (length side.old.items) first slots.now) }
+    ensures both { both.new.items
+        ≡ merged_column both.old.items (placed (length side.old.items) first slots.now) }
+    ensures side_spare { side.new.spare ≡ side.old.spare }
+    ensures both_spare { both.new.spare ≡ both.old.spare }
+{
+    merge_from(
+        side.as_mut_slice(),
+        both.as_mut_slice(),
+        first as usize,
+        slots,
+    );
+}
+
+fn merge_from(side: &mut [Slot], both: &mut [Slot], first: usize, slots: &[Slot])
+    requires within { first + length slots.now ≤ length side.old }
+    requires both { length both.old ≡ length side.old }
+    requires covered { IsCovered side.old both.old }
+    ensures side { side.new ≡ merged_column side.old (placed (length side.old) first slots.now) }
+    ensures both { both.new ≡ merged_column both.old (placed (length side.old) first slots.now) }
+{
+    for k in 0..slots.len() {
+        merge_slot(&mut side[first + k], &mut both[first + k], &slots[k]);
+    }
+}
+
+#[inline]
+fn merge_slot(side: &mut Slot, both: &mut Slot, found: &Slot)
+    requires covered { nearer_of side.old found.now ≡ side.old → nearer_of both.old found.now ≡ both.old }
+    ensures side { side.new ≡ nearer_of side.old found.now }
+    ensures both { both.new ≡ nearer_of both.old found.now }
+{
+    if let Some(near) = *found {
+        if offer_slot(side, near) {
+            offer_slot(both, near);
+        }
+    }
+}
+
 /// Keeps the nearer of the two, and tells whether `found` was taken.
 #[inline]
-fn offer_slot(slot: &mut Slot, found: Near) -> bool
+pub(crate) fn offer_slot(slot: &mut Slot, found: Near) -> bool
     ensures offered { slot.new ≡ nearer_of slot.old (Some found) }
     ensures kept { result ≡ false → slot.new ≡ slot.old }
 {

@@ -1,11 +1,13 @@
 //! A profile of a part of the pairs of windows.
 
-ghost use Rattle.std.specs.Prelude.{◌≡◌, ◌≢◌, ◌+◌, ◌<◌, ◌≤◌, nat_lt, if◌then◌else◌, [], ◌∷◌, ◌++◌, length, IsOk, OnOk, Some, None};
+ghost use Rattle.std.specs.Prelude.{◌≡◌, ◌≢◌, ◌+◌, ◌<◌, ◌≤◌, ◌↔◌, nat_lt, if◌then◌else◌, [], ◌∷◌, ◌++◌, length, IsOk, IsTrue, OnOk, Some, None};
 ghost use Rattle.mp_partial.specs.Values.{HasColumns, empty_column, empty_columns, merged_columns, merged_column, offered};
 ghost use Rattle.mp_partial.specs.MergeLaws.{columns_merge};
+ghost use Rattle.mp_partial.specs.Patching.{slots_from, placed};
 
 use crate::columns;
 use crate::parts::Part;
+use crate::patches::{MAX_PATCH_COLUMNS, MAX_PATCH_ROWS, Patch};
 use mp_nums::{Items, Memory, Near, Slot, Slots, Sq};
 use std::alloc::Global;
 use std::marker::Model;
@@ -75,6 +77,13 @@ impl Profile {
         self.all.as_slice().len() as u64
     }
 
+    /// Whether it is of no window.
+    pub fn is_empty(&self) -> bool
+        ensures { IsTrue result ↔ (length self.now.all ≡ 0) }
+    {
+        self.len() == 0
+    }
+
     /// Window `j` is found at this distance from window `i`.
     #[inline]
     pub fn offer(&mut self, i: u64, j: u64, dist: Sq)
@@ -95,6 +104,52 @@ impl Profile {
         } else {
             columns::offer_on_side(&mut self.right, &mut self.all, i, found);
         }
+    }
+
+    /// The patch goes to so many rows and columns, with what stands on the right of the rows and on the left of the
+    /// columns.
+    pub(crate) fn begin(
+        &self,
+        patch: &mut Patch,
+        first_row: u64,
+        rows: u64,
+        first_column: u64,
+        columns: u64,
+    )
+        requires few_rows { rows ≤ MAX_PATCH_ROWS }
+        requires few_columns { columns ≤ MAX_PATCH_COLUMNS }
+        requires last_row { first_row + rows ≤ length self.now.all }
+        requires last_column { first_column + columns ≤ length self.now.all }
+        ensures first_row { patch.new.first_row ≡ first_row }
+        ensures rows { patch.new.rows ≡ slots_from self.now.right first_row rows }
+        ensures first_column { patch.new.first_column ≡ first_column }
+        ensures columns { patch.new.columns ≡ slots_from self.now.left first_column columns }
+        ensures lesser { self.now.all ≡ merged_column self.now.left self.now.right }
+    {
+        let row_slots = columns::part(&self.right, first_row, rows);
+        let column_slots = columns::part(&self.left, first_column, columns);
+        patch.fill(first_row, row_slots, first_column, column_slots);
+    }
+
+    /// Takes over what the patch has: of the rows on the right, and of the columns on the left.
+    pub(crate) fn absorb(&mut self, patch: &Patch)
+        requires last_row { patch.now.first_row + length patch.now.rows ≤ length self.old.all }
+        requires last_column { patch.now.first_column + length patch.now.columns ≤ length self.old.all }
+        ensures right { self.new.right ≡ merged_column self.old.right
+            (placed (length self.old.all) patch.now.first_row patch.now.rows) }
+        ensures left { self.new.left ≡ merged_column self.old.left
+            (placed (length self.old.all) patch.now.first_column patch.now.columns) }
+        ensures all { self.new.all ≡ merged_column self.old.all (merged_column
+            (placed (length self.old.all) patch.now.first_row patch.now.rows)
+            (placed (length self.old.all) patch.now.first_column patch.now.columns)) }
+        ensures lesser { self.new.all ≡ merged_column self.new.left self.new.right }
+        ensures places { length self.new.all ≡ length self.old.all }
+        ensures spare { self.new.spare ≡ self.old.spare }
+    {
+        let (row, rows) = (patch.first_row(), patch.rows());
+        let (column, columns) = (patch.first_column(), patch.columns());
+        columns::merge_side(&mut self.right, &mut self.all, row, rows);
+        columns::merge_side(&mut self.left, &mut self.all, column, columns);
     }
 
     /// Makes room for `k` more windows.

@@ -16,6 +16,7 @@ use Rattle.std.proofs.lemmas.Option.{slice_get-get_or}
 use Rattle.mp_tiles.specs.declared.cuts.Tile.{Tile}
 use Rattle.mp_tiles.specs.declared.cuts.Region.{Region}
 use Rattle.mp_tiles.specs.Pairs.{IsTileBetween}
+use Rattle.mp_tiles.specs.Tight.{IsTight}
 use Rattle.mp_tiles.specs.Laws.{no_tile}
 use Rattle.mp_tiles.specs.Cutting.{groups_of, bands_of, tile_at, has_rows, tiles_in, tiles_of, own_region, own_tiles}
 use Rattle.mp_tiles.specs.Cutting.{both_region, diagonals_between, IsRegion}
@@ -160,35 +161,48 @@ is_tile r band k h starts lt e = record {
 within_range : (from to k : ℕ) → k < to - from → (nat_le from (from + k) && nat_lt (from + k) to) ≡ true
 within_range from to k lt = grind (arith, nat_tests)
 
-are_tiles_in : (r : Region) (band : ℕ) → IsRegion r → band < bands_of r
-    → All (IsTileBetween r.first r.end r.rows) (tiles_in r band)
-are_tiles_in r band h lt =
-    let from = first_group r band in
-    let n = end_group r band - from in
-    let f = tile_at r band in
-    let is : ℕ → Tile → Type 0 = λ _ t. IsTileBetween r.first r.end r.rows t in
-    subst (All (IsTileBetween r.first r.end r.rows)) (sym (tiles_are r band h lt))
-    (λ k d within.
-    let below : k < n = subst (λ m. k < m) (length-map-range_with_len f from n) within in
-    let starts = group_starts r band k h below in
-    subst (IsTileBetween r.first r.end r.rows) (sym (get_or-map-range_with_len f from n k (from + k) d below refl))
-    (is_tile r band (from + k) h (band_starts r.rows band lt) starts
-    (in_range r band (from + k) h (band_starts r.rows band lt) starts
-    ∙ within_range from (end_group r band) k below)))
+-- what holds of each group that has rows in a band holds of each tile
+module _ (P : Tile → Type 0) (r : Region) (h : IsRegion r)
+    (is : (band k : ℕ) → band * 65536 < r.rows → r.first + k * r.width < r.end → has_rows (tile_at r band k) ≡ true
+    → P (tile_at r band k)) where
+  each_in : (band : ℕ) → band < bands_of r → All P (tiles_in r band)
+  each_in band lt =
+      let from = first_group r band in
+      let n = end_group r band - from in
+      let f = tile_at r band in
+      subst (All P) (sym (tiles_are r band h lt))
+      (λ k d within.
+      let below : k < n = subst (λ m. k < m) (length-map-range_with_len f from n) within in
+      let starts = group_starts r band k h below in
+      subst P (sym (get_or-map-range_with_len f from n k (from + k) d below refl))
+      (is band (from + k) (band_starts r.rows band lt) starts
+      (in_range r band (from + k) h (band_starts r.rows band lt) starts
+      ∙ within_range from (end_group r band) k below)))
 
-are_tiles_below : (r : Region) (n : ℕ) → IsRegion r → n ≤ bands_of r
-    → All (IsTileBetween r.first r.end r.rows) (tiles_below r n)
-are_tiles_below r zero h le = λ k d lt. absurd (omega (arith, lt))
-are_tiles_below r (suc n) h le =
-    let one : n + 1 ≡ suc n = omega arith in
-    let is = IsTileBetween r.first r.end r.rows in
-    subst (λ m. All is (tiles_below r m)) one
-    (subst (All is) (sym (bands_more r n))
-    (All-append is (tiles_below r n) (tiles_in r n) (are_tiles_below r n h (omega arith))
-    (are_tiles_in r n h (omega arith))))
+  each_below : (n : ℕ) → n ≤ bands_of r → All P (tiles_below r n)
+  each_below zero le = λ k d lt. absurd (omega (arith, lt))
+  each_below (suc n) le =
+      let one : n + 1 ≡ suc n = omega arith in
+      subst (λ m. All P (tiles_below r m)) one
+      (subst (All P) (sym (bands_more r n))
+      (All-append P (tiles_below r n) (tiles_in r n) (each_below n (omega arith)) (each_in n (omega arith))))
 
 pub are_tiles : (r : Region) → IsRegion r → All (IsTileBetween r.first r.end r.rows) (tiles_of r)
-are_tiles r h = are_tiles_below r (bands_of r) h (omega arith)
+are_tiles r h =
+    each_below (IsTileBetween r.first r.end r.rows) r h (λ band k starts lt e. is_tile r band k h starts lt e)
+    (bands_of r) (omega arith)
+
+is_tight : (r : Region) (band k : ℕ) → IsRegion r → r.first + k * r.width < r.end
+    → IsTight r.origin r.end (tile_at r band k)
+is_tight r band k h lt = record {
+  few_diagonals = omega (arith, h.narrow);
+  first_row = omega arith;
+  last_row = omega arith;
+}
+
+pub are_tight : (r : Region) → IsRegion r → All (IsTight r.origin r.end) (tiles_of r)
+are_tight r h =
+    each_below (IsTight r.origin r.end) r h (λ band k _ lt _. is_tight r band k h lt) (bands_of r) (omega arith)
 
 -- ---- how many tiles there are
 

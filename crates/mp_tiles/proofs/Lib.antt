@@ -11,3 +11,4 @@ pub mod BlockSums
 pub mod LimitLemmas
 pub mod ProfileLaws
 pub mod JoinLaws
+pub mod PatchedTiles

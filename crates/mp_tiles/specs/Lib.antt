@@ -1,5 +1,6 @@
 pub mod Pairs
 pub mod Cutting
+pub mod Tight
 pub mod Sums
 pub mod Plain
 pub mod Grids
@@ -16,3 +17,5 @@ pub mod LimitLaws
 pub mod Laws
 pub mod Pieces
 pub mod Examples
+pub mod PatchScanning
+pub mod PatchLaws

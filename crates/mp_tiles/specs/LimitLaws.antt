@@ -29,7 +29,7 @@ use Rattle.mp_tiles.specs.Limits.{Covers, IsLimiting}
 
 -- ---- one slot
 
-covers_more : (s x : Option Near) (d : ℕ) → Covers s d → Covers (nearer_of s x) d
+pub covers_more : (s x : Option Near) (d : ℕ) → Covers s d → Covers (nearer_of s x) d
 covers_more s x d h j =
     let c : Option Near = Some (near_at j d) in
     nearer_associates s x c ∙ ap (nearer_of s) (nearer_commutes x c) ∙ sym (nearer_associates s c x)
@@ -38,7 +38,7 @@ covers_more s x d h j =
 comes_first : (k e j d : ℕ) → e < d → nearer_of (Some (near_at k e)) (Some (near_at j d)) ≡ Some (near_at k e)
 comes_first k e j d lt = grind (arith, nat_tests)
 
-covers_found : (s : Option Near) (k e d : ℕ) → e < d → Covers (nearer_of s (Some (near_at k e))) d
+pub covers_found : (s : Option Near) (k e d : ℕ) → e < d → Covers (nearer_of s (Some (near_at k e))) d
 covers_found s k e d lt j =
     nearer_associates s (Some (near_at k e)) (Some (near_at j d)) ∙ ap (nearer_of s) (comes_first k e j d lt)
 
@@ -58,7 +58,7 @@ by_test true j None slot h = (nearer_with_none slot).1
 by_test true j (Some d) slot h = h d refl refl j
 by_test false j dist slot h = (nearer_with_none slot).1
 
-nearest_quiet : (slot : Option Near) (p : ℕ → Bool) (m : ℕ) (a : Series) (i : ℕ) (b : Series)
+pub nearest_quiet : (slot : Option Near) (p : ℕ → Bool) (m : ℕ) (a : Series) (i : ℕ) (b : Series)
     → ((j d : ℕ) → j < windows_of m b → p j ≡ true → distance m a i b j ≡ Some d → Covers slot d)
     → nearer_of slot (nearest m p a i b) ≡ slot
 nearest_quiet slot p m a i b h =
@@ -124,10 +124,10 @@ last_true false t e = absurd (cc)
 is_less : (i j : ℕ) → nat_lt i j ≡ true → i < j
 is_less i j e = grind (arith, nat_tests)
 
-pair_is : (i j : ℕ) → only i j i j ≡ true
+pub pair_is : (i j : ℕ) → only i j i j ≡ true
 pair_is i j = grind (arith, nat_tests)
 
-no_other_column : (i j c : ℕ) → c ≢ j → only i j i c ≡ false
+pub no_other_column : (i j c : ℕ) → c ≢ j → only i j i c ≡ false
 no_other_column i j c ne = grind (arith, nat_tests)
 
 no_other_row : (i j r : ℕ) → r ≢ i → only i j r j ≡ false

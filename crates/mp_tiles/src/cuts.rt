@@ -4,6 +4,7 @@ ghost use Rattle.std.specs.Prelude.{◌≡◌, ℕ, ◌+◌, ◌-◌, ◌*◌, �
 ghost use Rattle.std.specs.Prelude.{slice_get, Some};
 ghost use Rattle.std.specs.List.{range_with_len};
 ghost use Rattle.mp_tiles.specs.Pairs.{has_pair, IsTileBetween};
+ghost use Rattle.mp_tiles.specs.Tight.{IsTight};
 ghost use Rattle.mp_tiles.specs.Cutting.{own_tiles, both_tiles, diagonals_between};
 ghost use Rattle.mp_tiles.specs.Cutting.{bands_of, tile_at, tiles_in, IsRegion};
 
@@ -78,6 +79,7 @@ pub fn cut_own(w: u64, excl: u64, tile: u32) -> Cut
     requires greatest { tile ≤ MAX_TILE }
     ensures tiles { result ≡ own_tiles w excl tile }
     ensures each { All (IsTileBetween (excl + 1) w w) result }
+    ensures tight { All (IsTight 0 w) result }
     ensures pairs { (i j : ℕ) → j < w
         → count_by (λ t. has_pair 0 t i j) result ≡ (if nat_lt (i + excl) j then 1 else 0) }
     ensures few { length result ≤ MAX_TILES }
@@ -104,6 +106,7 @@ pub fn cut_both(wa: u64, wb: u64, tile: u32) -> Cut
     requires greatest { tile ≤ MAX_TILE }
     ensures tiles { result ≡ both_tiles wa wb tile }
     ensures each { All (IsTileBetween 0 (diagonals_between wa wb) wa) result }
+    ensures tight { All (IsTight (wa - 1) (diagonals_between wa wb)) result }
     ensures pairs { (i j : ℕ) → i < wa → j < wb → count_by (λ t. has_pair (wa - 1) t i j) result ≡ 1 }
     ensures few { length result ≤ MAX_TILES }
 {

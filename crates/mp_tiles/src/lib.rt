@@ -27,4 +27,4 @@ pub use examples::worked_cuts;
 pub use joins::{JoinTiles, join};
 pub use kernels::{OwnTiles, profile};
 pub use laws::{cuts_hold_each_pair_once, tiles_make_the_join, tiles_make_the_profile};
-pub use scans::{scan_both, scan_own};
+pub use scans::{scan_both, scan_on_bench, scan_own, scan_patch};

@@ -9,13 +9,17 @@ ghost use Rattle.mp_tiles.specs.Offering.{IsOffering};
 ghost use Rattle.mp_tiles.specs.OfferingLaws.{fits_each, may_each, is_scanned_each, each_to_other};
 ghost use Rattle.mp_tiles.specs.OfferingLaws.{fits_rows, may_row, is_scanned_rows, column_to_row};
 ghost use Rattle.mp_tiles.specs.OfferingLaws.{fits_columns, may_column, is_scanned_columns, row_to_column};
+ghost use Rattle.mp_partial.specs.Patching.{Patched};
+ghost use Rattle.mp_tiles.specs.PatchScanning.{HasTakenFrom, fits_patch, may_patch, is_scanned_patch};
+ghost use Rattle.mp_tiles.specs.PatchScanning.{keeps_row_patch, keeps_column_patch};
+ghost use Rattle.mp_tiles.specs.PatchLaws.{patch_offers, patch_limits};
 ghost use Rattle.mp_tiles.specs.Limits.{IsReach, IsLimiting};
 ghost use Rattle.mp_tiles.specs.LimitLaws.{keeps_row_each, keeps_column_each, each_limits};
 ghost use Rattle.mp_tiles.specs.LimitLaws.{keeps_slot, keeps_all, row_limits, column_limits};
 
 use crate::limits::reach_at;
 use mp_nums::{Slots, Sq};
-use mp_partial::{Profile, offer_at};
+use mp_partial::{Patch, Profile, offer_at};
 
 /// A way to offer the windows of a pair. One window of the pair is a row and one a column.
 pub(crate) trait Offers {
@@ -64,6 +68,9 @@ pub(crate) trait Offers {
 /// Each of two windows of one series is offered to the other.
 pub(crate) struct EachToOther;
 
+/// Each is offered to the other, where a patch has a slot for it.
+pub(crate) struct EachInPatch;
+
 /// The column is offered to the row.
 pub(crate) struct ColumnToRow;
 
@@ -103,6 +110,72 @@ impl Offers for EachToOther {
     #[inline]
     fn column_limit(into: &Profile, column: u64) -> i64 {
         reach_at(into.left(), column).max(reach_at(into.all(), column))
+    }
+}
+
+/// The column is offered to the row, where that is a row of the patch.
+#[inline]
+fn offer_row(into: &mut Patch, row: u64, column: u64, dist: Sq)
+    ensures first_row { into.new.first_row ≡ into.old.first_row }
+    ensures rows { (m : ℕ) (a b : Series) → row < windows_of m a → column < windows_of m b
+        → distance m a row b column ≡ Some dist.0
+        → HasTakenFrom (only row column) m a b into.old.first_row into.old.rows into.new.rows }
+    ensures first_column { into.new.first_column ≡ into.old.first_column }
+    ensures columns { into.new.columns ≡ into.old.columns }
+{
+    if into.has_row(row) {
+        into.offer_row(row, column, dist);
+    }
+}
+
+/// The row is offered to the column, where that is a column of the patch.
+#[inline]
+fn offer_column(into: &mut Patch, row: u64, column: u64, dist: Sq)
+    ensures first_row { into.new.first_row ≡ into.old.first_row }
+    ensures rows { into.new.rows ≡ into.old.rows }
+    ensures first_column { into.new.first_column ≡ into.old.first_column }
+    ensures columns { (m : ℕ) (a b : Series) → row < windows_of m a → column < windows_of m b
+        → distance m a row b column ≡ Some dist.0
+        → HasTakenFrom (λ j i. only row column i j) m b a into.old.first_column into.old.columns into.new.columns }
+{
+    if into.has_column(column) {
+        into.offer_column(row, column, dist);
+    }
+}
+
+impl Offers for EachInPatch {
+    type Into = Patch;
+
+    ghost least = { 0 };
+
+    ghost fits = { fits_patch };
+
+    ghost may_offer = { may_patch };
+
+    ghost is_scanned = { is_scanned_patch };
+
+    ghost laws = { patch_offers };
+
+    ghost keeps_row = { keeps_row_patch };
+
+    ghost keeps_column = { keeps_column_patch };
+
+    ghost limits = { patch_limits };
+
+    #[inline]
+    fn offer(into: &mut Patch, row: u64, column: u64, dist: Sq) {
+        offer_row(into, row, column, dist);
+        offer_column(into, row, column, dist);
+    }
+
+    #[inline]
+    fn row_limit(into: &Patch, row: u64) -> i64 {
+        reach_at(into.rows(), row.saturating_sub(into.first_row()))
+    }
+
+    #[inline]
+    fn column_limit(into: &Patch, column: u64) -> i64 {
+        reach_at(into.columns(), column.saturating_sub(into.first_column()))
     }
 }
 

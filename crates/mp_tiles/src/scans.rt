@@ -5,6 +5,7 @@ ghost use Rattle.mp_defs.specs.Series.{series_of};
 ghost use Rattle.mp_defs.specs.Window.{windows, excl};
 ghost use Rattle.mp_defs.specs.Profile.{nearest_column};
 ghost use Rattle.mp_partial.specs.Values.{HasColumns, merged_column};
+ghost use Rattle.mp_partial.specs.Patching.{slots_from};
 ghost use Rattle.mp_tiles.specs.Pairs.{has_pair, IsTileBetween};
 ghost use Rattle.mp_tiles.specs.Cutting.{diagonals_between};
 ghost use Rattle.mp_tiles.specs.Among.{profile_among};
@@ -13,14 +14,14 @@ ghost use Rattle.mp_tiles.specs.Grids.{row_series, column_series, window_length,
 ghost use Rattle.mp_tiles.specs.Scanning.{in_block};
 
 use crate::columns::scan_columns;
-use crate::cuts::Tile;
+use crate::cuts::{MAX_TILE, Tile};
 use crate::diagonals::{first_sum, scan_rows};
 use crate::groups::{LANES, scan_groups};
 use crate::levels::find_scale;
-use crate::offers::{ColumnToRow, EachToOther, Offers, RowToColumn};
+use crate::offers::{ColumnToRow, EachInPatch, EachToOther, Offers, RowToColumn};
 use crate::windows::{Grid, PlainWindow, Windows, count_gaps, take_windows};
 use mp_nums::{Sample, Slots};
-use mp_partial::Profile;
+use mp_partial::{Bench, Part, Patch, Profile};
 use mp_series::{MAX_SAMPLES, MAX_WINDOW, MIN_WINDOW};
 
 /// The most diagonals in a strip, each of which has a sum.
@@ -259,6 +260,71 @@ pub fn scan_own(samples: &[Sample], m: u32, tile: &Tile, into: &mut Profile)
     let (first, end) = (tile.first as usize, tile.last as usize + 1);
     let (top, bottom) = (tile.first_row as usize, tile.last_row as usize + 1);
     scan_offsets::<EachToOther>(&grid, first, end, top, bottom, into);
+}
+
+/// Merges what the tile's pairs give into the slots of the patch: each two windows of a pair, where no sample is missing,
+/// are offered to each other, as far as the patch has them.
+pub fn scan_patch(samples: &[Sample], m: u32, tile: &Tile, into: &mut Patch)
+    requires shortest { MIN_WINDOW ≤ m }
+    requires longest { m ≤ MAX_WINDOW }
+    requires samples { length samples.now ≤ MAX_SAMPLES }
+    requires tile { IsTileBetween (excl m + 1) (windows (length samples.now) m) (windows (length samples.now) m)
+        tile.now }
+    ensures first_row { into.new.first_row ≡ into.old.first_row }
+    ensures rows { into.new.rows ≡ merged_column into.old.rows
+        (slots_from (profile_among (has_pair 0 tile.now) m (series_of samples.now)).right into.old.first_row
+        (length into.old.rows)) }
+    ensures first_column { into.new.first_column ≡ into.old.first_column }
+    ensures columns { into.new.columns ≡ merged_column into.old.columns
+        (slots_from (profile_among (has_pair 0 tile.now) m (series_of samples.now)).left into.old.first_column
+        (length into.old.columns)) }
+{
+    let windows = Windows::of(samples, m as usize - 1);
+    let grid = Grid {
+        rows: windows,
+        columns: windows,
+    };
+    scan_offsets::<EachInPatch>(
+        &grid,
+        tile.first as usize,
+        tile.last as usize + 1,
+        tile.first_row as usize,
+        tile.last_row as usize + 1,
+        into,
+    );
+}
+
+/// Merges the profile of the tile's pairs into that of the bench: the patch begins from what the profile has of the
+/// tile's rows and columns, takes what the tile's pairs give, and is absorbed.
+pub fn scan_on_bench(samples: &[Sample], m: u32, tile: &Tile, into: &mut Bench)
+    requires shortest { MIN_WINDOW ≤ m }
+    requires longest { m ≤ MAX_WINDOW }
+    requires samples { length samples.now ≤ MAX_SAMPLES }
+    requires tile { IsTileBetween (excl m + 1) (windows (length samples.now) m) (windows (length samples.now) m)
+        tile.now }
+    requires few_diagonals { tile.now.last < tile.now.first + MAX_TILE }
+    requires places { length into.old.profile.all ≡ windows (length samples.now) m }
+    ensures all { into.new.profile.all ≡ merged_column into.old.profile.all
+        (profile_among (has_pair 0 tile.now) m (series_of samples.now)).all }
+    ensures left { into.new.profile.left ≡ merged_column into.old.profile.left
+        (profile_among (has_pair 0 tile.now) m (series_of samples.now)).left }
+    ensures right { into.new.profile.right ≡ merged_column into.old.profile.right
+        (profile_among (has_pair 0 tile.now) m (series_of samples.now)).right }
+    ensures places { length into.new.profile.all ≡ length into.old.profile.all }
+    ensures is_value { HasColumns 3 (length into.new.profile.all)
+        (into.new.profile.all ∷ into.new.profile.left ∷ into.new.profile.right ∷ []) }
+    ensures spare { into.new.profile.spare ≡ into.old.profile.spare }
+{
+    let end = (tile.last_row + tile.last + 1).min(into.size());
+    let first_column = (tile.first_row + tile.first).min(end);
+    into.begin(
+        tile.first_row,
+        tile.last_row - tile.first_row + 1,
+        first_column,
+        end - first_column,
+    );
+    scan_patch(samples, m, tile, &mut into.patch);
+    into.absorb();
 }
 
 /// Merges what the tile's pairs give into the slots of the windows of `a`: of each pair, where no sample is missing,

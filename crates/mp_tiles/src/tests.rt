@@ -4,9 +4,9 @@ ghost use Rattle.mp_defs.specs.Window.{windows as windows_in, excl as zone};
 ghost use Rattle.mp_tiles.specs.Cutting.{diagonals_between};
 ghost use Rattle.mp_tiles.specs.Pairs.{IsTileBetween};
 
-use crate::{MAX_TILE, Tile, cut_both, cut_own, join, profile, scan_both, scan_own};
+use crate::{MAX_TILE, Tile, cut_both, cut_own, join, profile, scan_both, scan_on_bench, scan_own};
 use mp_nums::{Memory, Near, Sample, Slot, Slots, Sq};
-use mp_partial::{Part, Profile};
+use mp_partial::{Bench, Part, Patch, Profile};
 use mp_series::{excl, windows};
 use std::alloc::Global;
 use std::test::Fail;
@@ -188,6 +188,42 @@ fn units_and_growth(rt: HostRuntime) -> Result<(), Fail> {
     Ok(())
 }
 
+#[test]
+fn a_pair_is_found_by_its_row_and_by_its_column(rt: HostRuntime) -> Result<(), Fail> {
+    let mut patch = Patch::new(rt.alloc())?;
+    patch.start(0, 2, 2, 2);
+    patch.offer(0, 2, Sq(6));
+    assert_eq!(rt; patch.rows(), [near(6, 2), None].as_slice());
+    assert_eq!(rt; patch.columns(), [near(6, 0), None].as_slice());
+    patch.start(1, 1, 3, 1);
+    assert_eq!(rt; patch.rows(), [None].as_slice());
+    assert_eq!(rt; patch.columns(), [None].as_slice());
+    Ok(())
+}
+
+#[test]
+fn a_profile_absorbs_its_patch(rt: HostRuntime) -> Result<(), Fail> {
+    let mut bench: Bench = unit(rt.alloc(), 3)?;
+    assert_eq!(rt; bench.profile.all(), [None, None, None].as_slice());
+    assert_eq!(rt; bench.profile.left(), [None, None, None].as_slice());
+    assert_eq!(rt; bench.profile.right(), [None, None, None].as_slice());
+    bench.begin(0, 1, 2, 1);
+    bench.patch.offer(0, 2, Sq(6));
+    bench.absorb();
+    bench.absorb();
+    merge_with_unit(rt.alloc(), &mut bench)?;
+    assert_eq!(rt;
+        bench.profile.all(),
+        [near(6, 2), None, near(6, 0)].as_slice()
+    );
+    assert_eq!(rt; bench.profile.left(), [None, None, near(6, 0)].as_slice());
+    assert_eq!(rt; bench.profile.right(), [near(6, 2), None, None].as_slice());
+    bench.begin(0, 2, 1, 2);
+    assert_eq!(rt; bench.patch.rows(), [near(6, 2), None].as_slice());
+    assert_eq!(rt; bench.patch.columns(), [None, near(6, 0)].as_slice());
+    Ok(())
+}
+
 /// The tile of these diagonals and rows.
 fn tile(first: u64, last: u64, first_row: u64, last_row: u64) -> Tile {
     Tile {
@@ -337,6 +373,44 @@ fn rows_in_parts_give_what_every_pair_gives(rt: HostRuntime) -> Result<(), Fail>
                 assert_eq!(rt; parts.left(), every.left.as_slice());
                 assert_eq!(rt; parts.right(), every.right.as_slice());
             }
+        }
+    }
+    Ok(())
+}
+
+/// The profile by tiles of so many diagonals, each of which is scanned into a patch.
+fn profile_by_patches(
+    alloc: Global,
+    samples: &[Sample],
+    m: u32,
+    tile: u32,
+) -> Result<Profile, Memory>
+    requires shortest { MIN_WINDOW ≤ m }
+    requires longest { m ≤ MAX_WINDOW }
+    requires samples { length samples.now ≤ MAX_SAMPLES }
+    requires least { 1 ≤ tile }
+    requires greatest { tile ≤ MAX_TILE }
+{
+    let count = windows(samples.len() as u64, m);
+    let cut = cut_own(count, excl(m), tile);
+    let mut bench: Bench = unit(alloc, count)?;
+    for k in 0..cut.count() {
+        scan_on_bench(samples, m, &cut.tile(k), &mut bench);
+    }
+    Ok(bench.profile)
+}
+
+#[test]
+fn patches_give_what_every_pair_gives(rt: HostRuntime) -> Result<(), Fail> {
+    for (low, high) in [(-3, 4), (i32::MIN, i32::MAX)] {
+        let samples = spread(rt.alloc(), 330, low, high)?;
+        let samples = samples.as_slice();
+        let every = mp_plain::profile(rt.alloc(), samples, 20)?;
+        for tile in [1, 65, 256, 65_536] {
+            let patches = profile_by_patches(rt.alloc(), samples, 20, tile)?;
+            assert_eq!(rt; patches.all(), every.all.as_slice());
+            assert_eq!(rt; patches.left(), every.left.as_slice());
+            assert_eq!(rt; patches.right(), every.right.as_slice());
         }
     }
     Ok(())

@@ -1,9 +1,10 @@
 use Rattle.std.proofs.Common.{◌≡◌, ◌-◌, ◌≤◌, length, sym, ap, subst, ◌∙◌, arith}
 use Rattle.std.specs.Prelude.{All, count_by}
 use Rattle.mp_tiles.specs.Pairs.{has_pair, IsTileBetween}
+use Rattle.mp_tiles.specs.Tight.{IsTight}
 use Rattle.mp_tiles.specs.Cutting.{tiles_of, both_region, both_tiles, diagonals_between, IsRegion}
 use Rattle.mp_tiles.proofs.TileLemmas.{both_pairs_once}
-use Rattle.mp_tiles.proofs.CutLemmas.{are_tiles, few_tiles, both_is_region}
+use Rattle.mp_tiles.proofs.CutLemmas.{are_tiles, are_tight, few_tiles, both_is_region}
 use Rattle.mp_tiles.proofs.cuts.cut_both.Goals as goal
 
 same : (c : goal.After-from)
@@ -38,6 +39,11 @@ pub returns-clause-each : goal.returns-clause-each
 returns-clause-each c =
     subst (All (IsTileBetween 0 (diagonals_between c.args.wa c.args.wb) c.args.wa)) (sym (same c))
     (are_tiles (both_region c.args.wa c.args.wb c.from.result) (region c))
+
+pub returns-clause-tight : goal.returns-clause-tight
+returns-clause-tight c =
+    subst (All (IsTight (c.args.wa - 1) (diagonals_between c.args.wa c.args.wb))) (sym (same c))
+    (are_tight (both_region c.args.wa c.args.wb c.from.result) (region c))
 
 pub returns-clause-pairs : goal.returns-clause-pairs
 returns-clause-pairs c i j lt lt' =

@@ -1,9 +1,10 @@
 use Rattle.std.proofs.Common.{◌≡◌, ◌+◌, ◌≤◌, length, sym, ap, subst, ◌∙◌, arith}
 use Rattle.std.specs.Prelude.{All, count_by}
 use Rattle.mp_tiles.specs.Pairs.{has_pair, IsTileBetween}
+use Rattle.mp_tiles.specs.Tight.{IsTight}
 use Rattle.mp_tiles.specs.Cutting.{tiles_of, own_region, own_tiles, IsRegion}
 use Rattle.mp_tiles.proofs.TileLemmas.{own_pairs_once}
-use Rattle.mp_tiles.proofs.CutLemmas.{are_tiles, few_tiles, same_tiles, own_is_region}
+use Rattle.mp_tiles.proofs.CutLemmas.{are_tiles, are_tight, few_tiles, same_tiles, own_is_region}
 use Rattle.mp_tiles.proofs.cuts.cut_own.Goals as goal
 
 same : (c : goal.After-from)
@@ -27,6 +28,11 @@ pub returns-clause-each : goal.returns-clause-each
 returns-clause-each c =
     subst (All (IsTileBetween (c.args.excl + 1) c.args.w c.args.w)) (sym (same c))
     (are_tiles (own_region c.args.w c.args.excl c.from.result) (region c))
+
+pub returns-clause-tight : goal.returns-clause-tight
+returns-clause-tight c =
+    subst (All (IsTight 0 c.args.w)) (sym (same c))
+    (are_tight (own_region c.args.w c.args.excl c.from.result) (region c))
 
 pub returns-clause-pairs : goal.returns-clause-pairs
 returns-clause-pairs c i j lt =
