@@ -1,9 +1,9 @@
 -- What holds of arcs, of their curve and of regimes, in the subject's own words.
-use Rattle.std.specs.Prelude.{◌≡◌, ℕ, ◌+◌, ◌<◌, ◌≤◌, ◌↔◌, List, All, length, Option}
+use Rattle.std.specs.Prelude.{◌≡◌, ℕ, ◌+◌, ◌<◌, ◌≤◌, ◌↔◌, List, All, map, length, Option}
 use Rattle.mp_nums.specs.declared.ratios.Ratio.{Ratio}
 use Rattle.mp_arcs.specs.Arcs.{arc_count, arcs_of}
-use Rattle.mp_arcs.specs.Curve.{curve_of}
-use Rattle.mp_arcs.specs.Regimes.{regimes_of, AreRegimes}
+use Rattle.mp_arcs.specs.Curve.{curve_of, parts_of}
+use Rattle.mp_arcs.specs.Regimes.{regimes_of, regimes_in, AreRegimes}
 use Rattle.mp_arcs.specs.Board.{begun_at, ended_at}
 
 -- from place to place, the arcs that begin there come, and those that end there go
@@ -25,3 +25,8 @@ CurveIsAtMostOne = (arcs : List ℕ) (m factor : ℕ)
 abbrev pub RegimesAreDescribed : Type 0
 RegimesAreDescribed = (curve : List Ratio) (zone count : ℕ) (places : List ℕ)
     → AreRegimes curve zone count places ↔ (places ≡ regimes_of curve zone count)
+
+-- the two numbers of each fraction tell the regimes
+abbrev pub RegimesAreOfParts : Type 0
+RegimesAreOfParts = (curve : List Ratio) (zone count : ℕ)
+    → regimes_of curve zone count ≡ regimes_in (map parts_of curve) zone count

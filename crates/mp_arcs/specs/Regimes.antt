@@ -1,5 +1,7 @@
 -- Regimes: the places over which fewest arcs pass, one by one, each shutting out its zone.
-use Rattle.std.specs.Prelude.{◌≡◌, ℕ, nat_lt, if◌then◌else◌, List, map, Option, None, Some}
+use Rattle.std.specs.Prelude.{◌≡◌, ℕ, ◌*◌, nat_lt, if◌then◌else◌, List, map, Option, None, Some}
+use Rattle.std.specs.Ordering.{nat_cmp}
+use Rattle.std.specs.declared.cmp.Ordering.{Ordering}
 use Rattle.mp_nums.specs.declared.ratios.Ratio.{Ratio}
 use Rattle.mp_nums.specs.Ratio.{ratio_cmp}
 use Rattle.mp_picks.specs.declared.candidates.Candidate.{Candidate}
@@ -26,3 +28,17 @@ regimes_of curve zone count = map place_of (picks (by_key ratio_cmp) place_of zo
 abbrev pub AreRegimes : List Ratio → ℕ → ℕ → List ℕ → Type 0
 AreRegimes curve zone count places = (chosen : List (Candidate Ratio)) × (places ≡ map place_of chosen)
     × ArePicked (by_key ratio_cmp) place_of zone count (low_places curve) chosen
+
+-- ---- told by the two numbers of each fraction
+
+abbrev pub parts_cmp : ℕ × ℕ → ℕ × ℕ → Ordering
+parts_cmp a b = nat_cmp (a.0 * b.1) (b.0 * a.1)
+
+abbrev pub parts_below_one : ℕ × ℕ → Option (ℕ × ℕ)
+parts_below_one value = if nat_lt value.0 value.1 then Some value else None
+
+abbrev pub low_parts : List (ℕ × ℕ) → List (Candidate (ℕ × ℕ))
+low_parts curve = candidates (map parts_below_one curve)
+
+abbrev pub regimes_in : List (ℕ × ℕ) → ℕ → ℕ → List ℕ
+regimes_in curve zone count = map place_of (picks (by_key parts_cmp) place_of zone count (low_parts curve))

@@ -1,7 +1,7 @@
 //! Arcs that change one at a time.
 
-ghost use Rattle.std.specs.Prelude.{◌≡◌, ◌+◌, ◌<◌, ◌≤◌, [], ◌∷◌, ◌++◌, length, slice_set, IsOk, OnOk, IfOk, IfSome};
-ghost use Rattle.std.specs.Prelude.{None};
+ghost use Rattle.std.specs.Prelude.{◌≡◌, ◌+◌, ◌<◌, ◌≤◌, ◌↔◌, [], ◌∷◌, ◌++◌, length, slice_get, slice_set, IsOk, OnOk, IfOk, IfSome};
+ghost use Rattle.std.specs.Prelude.{IsTrue, None, Some};
 ghost use Rattle.mp_series.specs.declared.limits.TheConstants.{MAX_SAMPLES};
 ghost use Rattle.mp_arcs.specs.Arcs.{arcs_of};
 
@@ -75,6 +75,15 @@ impl ArcBoard {
         self.ended.push(0).unwrap();
     }
 
+    /// Which window `i` names, if any.
+    #[inline]
+    pub fn get(&self, i: u64) -> Option<u64>
+        requires window { i < length self.now.items }
+        ensures named { slice_get self.now.items i ≡ Some result }
+    {
+        self.indices.as_slice()[i as usize]
+    }
+
     /// Window `i` names another one, or none. It takes no memory.
     pub fn change(&mut self, i: u64, new: Option<u64>)
         requires window { i < length self.old.items }
@@ -112,5 +121,11 @@ impl ArcBoard {
         ensures { result ≡ length self.now.items }
     {
         self.indices.as_slice().len() as u64
+    }
+
+    pub fn is_empty(&self) -> bool
+        ensures { IsTrue result ↔ (length self.now.items ≡ 0) }
+    {
+        self.len() == 0
     }
 }

@@ -5,6 +5,7 @@ ghost use Rattle.mp_arcs.specs.Laws.{
   ArcsAreFew,
   CurveIsAtMostOne,
   RegimesAreDescribed,
+  RegimesAreOfParts,
 };
 
 /// From one place to the next, the arcs whose lesser end is there come, and those whose greater end is there go.
@@ -25,4 +26,9 @@ pub fn curve_is_at_most_one()
 /// One list of places alone is described as that of the regimes: the one that is chosen step by step.
 pub fn regimes_are_described()
     ensures { RegimesAreDescribed }
+{}
+
+/// The two numbers of each fraction tell the regimes.
+pub fn regimes_are_of_parts()
+    ensures { RegimesAreOfParts }
 {}

@@ -1,6 +1,7 @@
 ghost use Rattle.std.specs.Prelude.{◌≡◌, map, IfOk};
 ghost use Rattle.mp_picks.specs.Candidates.{place_of};
-ghost use Rattle.mp_arcs.specs.Regimes.{AreRegimes, below_one, regimes_of};
+ghost use Rattle.mp_arcs.specs.Curve.{parts_of};
+ghost use Rattle.mp_arcs.specs.Regimes.{AreRegimes, below_one, regimes_in, regimes_of};
 
 use mp_nums::{Memory, Places, Ratio};
 use mp_picks::{Candidate, picks};
@@ -12,6 +13,7 @@ use std::alloc::{AllocError, Global};
 pub fn regimes(alloc: Global, curve: &[Ratio], zone: u64, count: u64) -> Result<Places, Memory>
     ensures regimes { IfOk result (λ places. places.items ≡ regimes_of curve.now zone count) }
     ensures described { IfOk result (λ places. AreRegimes curve.now zone count places.items) }
+    ensures by_parts { IfOk result (λ places. places.items ≡ regimes_in (map parts_of curve.now) zone count) }
 {
     let low = low_values(alloc, curve)?;
     let chosen = picks(alloc, low.as_slice(), zone, count)?;

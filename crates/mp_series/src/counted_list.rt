@@ -1,6 +1,6 @@
 //! A list of samples that counts how often they are read.
 
-ghost use Rattle.std.specs.Prelude.{◌≡◌, ◌+◌, ◌*◌, ◌^◌, ◌<◌, ◌≤◌, ◌↔◌, [], ◌∷◌, ◌++◌, length, take, drop, slice_get, Some, IsOk, IsErrOf, IfOk, OnOk, OnErr};
+ghost use Rattle.std.specs.Prelude.{◌≡◌, ◌+◌, ◌*◌, ◌^◌, ◌<◌, ◌≤◌, ◌↔◌, [], ◌∷◌, ◌++◌, length, take, drop, slice_get, Some, IsOk, IsErrOf, IsTrue, IfOk, OnOk, OnErr};
 ghost use Rattle.mp_defs.specs.Series.{series_of};
 ghost use Rattle.mp_defs.specs.Window.{is_free};
 ghost use Rattle.mp_series.specs.Samples.{number_in, numbers_in, gap_in, missing_before, after_reads};
@@ -227,6 +227,13 @@ impl Samples {
         ensures within { result ≤ max_samples }
     {
         self.stored.as_slice().len() as u64
+    }
+
+    /// Whether there is no sample. It is no read.
+    pub fn is_empty(&self) -> bool
+        ensures { IsTrue result ↔ (length self.now.items ≡ 0) }
+    {
+        self.len() == 0
     }
 
     /// How often samples were read.

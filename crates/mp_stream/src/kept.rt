@@ -68,6 +68,8 @@ fn empty_row(alloc: Global, count: u64) -> Result<Items<u128>, Memory>
 fn whole_range(samples: &mut Samples) -> Range
     ensures range { AreWithin result (numbers_in samples.old.items) }
     ensures items { samples.new.items ≡ samples.old.items }
+    ensures reads_rise { samples.old.reads ≤ samples.new.reads }
+    ensures reads { samples.new.reads ≤ samples.old.reads + 2 * length samples.old.items }
 {
     let count = samples.len();
     let (numbers, _) = samples.parts(0, 0, count);
@@ -136,6 +138,9 @@ impl Kept {
         requires workers { workers ≤ MAX_WORKERS }
         ensures kept { IfOk result (IsOf m samples.old.items) }
         ensures items { samples.new.items ≡ samples.old.items }
+        ensures reads_rise { samples.old.reads ≤ samples.new.reads }
+        ensures reads { samples.new.reads
+            ≤ samples.old.reads + length samples.old.items * (length samples.old.items + 2 * (m + 1)) }
     {
         let profile = self_join(rt, alloc, samples.lend(), m, tile, workers, gate)?;
         let count = windows(samples.len(), m);

@@ -126,6 +126,8 @@ pub(crate) fn last_row(
     ensures places { IfOk result (λ row. length row.items ≡ count) }
     ensures row { IfOk result (λ row. IsRow (numbers_in samples.old.items) m (count - 1) row.items) }
     ensures items { samples.new.items ≡ samples.old.items }
+    ensures reads_rise { samples.old.reads ≤ samples.new.reads }
+    ensures reads { samples.new.reads ≤ samples.old.reads + length samples.old.items * (2 * m) }
 {
     let mut row = Items::new(alloc);
     row.reserve(count)?;

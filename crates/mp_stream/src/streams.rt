@@ -1,6 +1,6 @@
 //! A series whose profile grows with it.
 
-ghost use Rattle.std.specs.Prelude.{◌≡◌, ◌+◌, ◌*◌, ◌^◌, ◌<◌, ◌≤◌, ◌↔◌, [], ◌∷◌, ◌++◌, length, IsOk, IsErrOf, IfOk, OnOk, OnErr};
+ghost use Rattle.std.specs.Prelude.{◌≡◌, ◌+◌, ◌*◌, ◌^◌, ◌<◌, ◌≤◌, ◌↔◌, [], ◌∷◌, ◌++◌, length, IsOk, IsErrOf, IsTrue, IfOk, OnOk, OnErr};
 ghost use Rattle.mp_defs.specs.Series.{series_of};
 ghost use Rattle.mp_defs.specs.Window.{is_free, windows};
 ghost use Rattle.mp_defs.specs.Profile.{matrix_profile};
@@ -86,6 +86,9 @@ impl Stream {
         requires workers { workers ≤ MAX_WORKERS }
         ensures items { IfOk result (λ stream. stream.items ≡ samples.items) }
         ensures m { IfOk result (λ stream. stream.m ≡ m) }
+        ensures reads_rise { IfOk result (λ stream. samples.reads ≤ stream.reads) }
+        ensures reads { IfOk result (λ stream. stream.reads
+            ≤ samples.reads + length samples.items * (length samples.items + 2 * (m + 1))) }
     {
         let mut samples = samples;
         let kept = Kept::from(rt, alloc, &mut samples, m, tile, workers, gate)?;
@@ -142,6 +145,13 @@ impl Stream {
         ensures within { result ≤ max_samples }
     {
         self.samples.len()
+    }
+
+    /// Whether there is no sample. It is no read.
+    pub fn is_empty(&self) -> bool
+        ensures { IsTrue result ↔ (length self.now.items ≡ 0) }
+    {
+        self.samples.is_empty()
     }
 
     /// The window length.
