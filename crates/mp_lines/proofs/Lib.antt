@@ -1,2 +1,3 @@
 pub mod ColumnLemmas
 pub mod LoadLemmas
+pub mod RefLemmas

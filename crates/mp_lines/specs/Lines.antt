@@ -1,14 +1,22 @@
 -- What a line that was read asks for.
-use Rattle.std.specs.Prelude.{ℕ, Bool, true, false, List, [], ◌∷◌, codes, if◌then◌else◌, Option, Some, None, unwrap_or, Result, Ok, Err}
+use Rattle.std.specs.Prelude.{ℕ, Bool, true, false, List, [], ◌∷◌, codes, if◌then◌else◌, Option, Some, None, unwrap_or}
+use Rattle.std.specs.Prelude.{Result, Ok, Err}
 use Rattle.mp_bytes.specs.Bytes.{same_text}
 use Rattle.mp_bytes.specs.Fields.{fields_in}
 use Rattle.mp_replies.specs.declared.causes.Cause.{Cause}
 use Rattle.mp_replies.specs.declared.causes.Cause.TheVariants as cause
 use Rattle.mp_replies.specs.Command as asked
-use Rattle.mp_replies.specs.Line.{Asked, Nothing, Asks, Faulty}
-use Rattle.mp_replies.specs.Numbers.{columns}
+use Rattle.mp_replies.specs.Line.{Asked, Nothing, Asks, Faulty, Form}
+use Rattle.mp_replies.specs.Line.{join_form, multi_form, match_form, motifs_form, discords_form, chain_form}
+use Rattle.mp_replies.specs.Line.{chains_form}
+use Rattle.mp_replies.specs.Line.{segments_form, mpdist_form, consensus_form, end_form}
+use Rattle.mp_replies.specs.MotifsCommand.{motif_query}
+use Rattle.mp_replies.specs.Numbers.{columns, refs}
 use Rattle.mp_lines.specs.declared.commands.Command.{Command}
-use Rattle.mp_lines.specs.declared.commands.Command.TheVariants.{Blank, Session, Open, Load, Append, Window, Profile, Entry, End}
+use Rattle.mp_lines.specs.declared.commands.Command.TheVariants.{Blank, Session, Open, Load, Append, Window, Profile}
+use Rattle.mp_lines.specs.declared.commands.Command.TheVariants.{Entry, End}
+use Rattle.mp_lines.specs.declared.commands.Command.TheVariants.{Join, Multi, Match, Motifs, Discords, Chain, Chains}
+use Rattle.mp_lines.specs.declared.commands.Command.TheVariants.{Segments, Mpdist, Consensus}
 use Rattle.mp_lines.specs.declared.commands.LineFault.{LineFault}
 use Rattle.mp_lines.specs.declared.commands.LineFault.TheVariants as fault
 
@@ -28,11 +36,28 @@ asked_by (Append slot items) = Asks (asked.Append slot (fields_in items.now))
 asked_by (Window at start) = Asks (asked.Window at start)
 asked_by (Profile at) = Asks (asked.Profile at)
 asked_by (Entry at start) = Asks (asked.Entry at start)
+asked_by (Join a b) = Asks (asked.Join a b)
+asked_by (Multi slot k) = Asks (asked.Multi slot k)
+asked_by (Match at query start radius max) = Asks (asked.Match at query start radius max)
+asked_by (Motifs at count cutoff radius neighbours matches) =
+    Asks (asked.Motifs at (motif_query count cutoff radius neighbours matches))
+asked_by (Discords at count) = Asks (asked.Discords at count)
+asked_by (Chain at start) = Asks (asked.Chain at start)
+asked_by (Chains at) = Asks (asked.Chains at)
+asked_by (Segments at count factor) = Asks (asked.Segments at count factor)
+asked_by (Mpdist a b) = Asks (asked.Mpdist a b)
+asked_by (Consensus list) = Asks (asked.Consensus (unwrap_or (refs (fields_in list.field.now)) []))
 asked_by End = Asks asked.End
 
 abbrev pub read_as : Result Command LineFault → Asked
 read_as (Ok command) = asked_by command
 read_as (Err fault) = Faulty (cause_of fault)
+
+-- the forms behind that of `entry`
+abbrev pub analyses : List Form
+analyses =
+    join_form ∷ multi_form ∷ match_form ∷ motifs_form ∷ discords_form ∷ chain_form ∷ chains_form ∷ segments_form
+    ∷ mpdist_form ∷ consensus_form ∷ end_form ∷ []
 
 -- what stands behind the columns of a load: nothing, or `header`
 abbrev pub header_of : List (List ℕ) → Option Bool

@@ -2,15 +2,26 @@
 
 ghost use Rattle.std.specs.Prelude.{◌≡◌};
 ghost use Rattle.mp_bytes.specs.Fields.{fields_in};
-ghost use Rattle.mp_replies.specs.Line.{asked_of, asks, by_form, command_by, end_form};
-ghost use Rattle.mp_lines.specs.Lines.{read_as};
+ghost use Rattle.mp_replies.specs.Line.{asked_of, asks, by_form, command_by, command_in, end_form};
+ghost use Rattle.mp_lines.specs.Lines.{analyses, read_as};
 
 use crate::append_line::parse_append;
+use crate::chain_line::parse_chain;
+use crate::chains_line::parse_chains;
+use crate::consensus_line::parse_consensus;
+use crate::discords_line::parse_discords;
 use crate::entry_line::parse_entry;
+use crate::join_line::parse_join;
 use crate::load_line::parse_load;
+use crate::match_line::parse_match;
+use crate::motifs_line::parse_motifs;
+use crate::mpdist_line::parse_mpdist;
+use crate::multi_line::parse_multi;
 use crate::numbers::Columns;
 use crate::open_line::parse_open;
 use crate::profile_line::parse_profile;
+use crate::ref_lists::Refs;
+use crate::segments_line::parse_segments;
 use crate::session_line::parse_session;
 use crate::window_line::parse_window;
 use mp_bytes::{Fields, same_text, without_cr};
@@ -59,6 +70,62 @@ pub enum Command<'a> {
     Entry {
         at: Ref,
         start: u64,
+    },
+    /// Report the AB-join of a channel in another.
+    Join {
+        a: Ref,
+        b: Ref,
+    },
+    /// Report the profile of so many channels of a slot together.
+    Multi {
+        slot: u64,
+        k: u64,
+    },
+    /// Report the windows of a channel that match a window of another.
+    Match {
+        at: Ref,
+        query: Ref,
+        start: u64,
+        radius: u128,
+        max: u64,
+    },
+    /// Report repeated patterns.
+    Motifs {
+        at: Ref,
+        count: u64,
+        cutoff: u128,
+        radius: u128,
+        neighbours: u64,
+        matches: u64,
+    },
+    /// Report so many unusual windows.
+    Discords {
+        at: Ref,
+        count: u64,
+    },
+    /// Report the chain from the window that starts there.
+    Chain {
+        at: Ref,
+        start: u64,
+    },
+    /// Report all chains.
+    Chains {
+        at: Ref,
+    },
+    /// Report so many changes of regime, with zones and margins of so many window lengths.
+    Segments {
+        at: Ref,
+        count: u64,
+        factor: u32,
+    },
+    /// Report MPdist of two channels.
+    Mpdist {
+        a: Ref,
+        b: Ref,
+    },
+    /// Report the window that these channels have in common.
+    Consensus {
+        refs: Refs<'a>,
     },
     /// End the run.
     End,
@@ -114,6 +181,35 @@ fn parse_command<'a>(word: &[u8], fields: Fields<'a>) -> Result<Command<'a>, Lin
         parse_profile(fields)
     } else if same_text(word, b"entry") {
         parse_entry(fields)
+    } else {
+        parse_analysis(word, fields)
+    }
+}
+
+/// The commands behind `entry` in the table.
+fn parse_analysis<'a>(word: &[u8], fields: Fields<'a>) -> Result<Command<'a>, LineFault>
+    ensures { read_as result ≡ asks (command_in analyses word.now (fields_in fields.entry.text.now)) }
+{
+    if same_text(word, b"join") {
+        parse_join(fields)
+    } else if same_text(word, b"multi") {
+        parse_multi(fields)
+    } else if same_text(word, b"match") {
+        parse_match(fields)
+    } else if same_text(word, b"motifs") {
+        parse_motifs(fields)
+    } else if same_text(word, b"discords") {
+        parse_discords(fields)
+    } else if same_text(word, b"chain") {
+        parse_chain(fields)
+    } else if same_text(word, b"chains") {
+        parse_chains(fields)
+    } else if same_text(word, b"segments") {
+        parse_segments(fields)
+    } else if same_text(word, b"mpdist") {
+        parse_mpdist(fields)
+    } else if same_text(word, b"consensus") {
+        parse_consensus(fields)
     } else if same_text(word, b"end") {
         parse_end(fields)
     } else {

@@ -2,12 +2,23 @@
 #![tactic(auto)]
 
 mod append_line;
+mod chain_line;
+mod chains_line;
 mod commands;
+mod consensus_line;
+mod discords_line;
 mod entry_line;
+mod join_line;
 mod load_line;
+mod match_line;
+mod motifs_line;
+mod mpdist_line;
+mod multi_line;
 mod numbers;
 mod open_line;
 mod profile_line;
+mod ref_lists;
+mod segments_line;
 mod session_line;
 #[cfg(test)]
 mod tests;
@@ -17,3 +28,4 @@ pub use commands::{Command, LineFault, parse_line};
 pub use mp_feed::{Fed, Feed};
 pub use mp_replies::Ref;
 pub use numbers::Columns;
+pub use ref_lists::{MAX_REFS, Refs};

@@ -1,7 +1,19 @@
 //! Numbers, refs and lists of columns.
 
 ghost use Rattle.std.specs.Prelude.{◌≡◌, ◌+◌, ◌<◌, [], length, drop, position, is_some, unwrap_or, Some, true, IfOk, IfSome};
-ghost use Rattle.mp_replies.specs.Numbers.{column, columns, is_point, number, ref};
+ghost use Rattle.mp_replies.specs.Numbers.{
+  column,
+  columns,
+  count as count_of,
+  factor,
+  few,
+  is_point,
+  neighbours,
+  number,
+  positive,
+  ref,
+  square,
+};
 
 use mp_bytes::{Values, read_number};
 use mp_nums::Memory;
@@ -10,6 +22,15 @@ use std::alloc::Global;
 
 /// The most digits of a number, leading zeros counted.
 const MAX_DIGITS: usize = 39;
+
+/// The most windows that are asked for, and the most neighbours.
+const MAX_COUNT: u32 = 262_144;
+
+/// The most motifs, and the most matches of one.
+const MAX_MOTIFS: u32 = 1_024;
+
+/// The most window lengths of a regime's zone.
+const MAX_FACTOR: u32 = 100;
 
 /// The greatest column, counted from 0.
 const MAX_COLUMN: u32 = 65_535;
@@ -22,6 +43,47 @@ pub(crate) fn read_u64(field: &[u8]) -> Option<u64>
     ensures { result ≡ number field.now }
 {
     Some(read_number(field, MAX_DIGITS, u128::from(u64::MAX))? as u64)
+}
+
+/// A squared distance.
+pub(crate) fn read_square(field: &[u8]) -> Option<u128>
+    ensures { result ≡ square field.now }
+{
+    read_number(field, MAX_DIGITS, u128::MAX)
+}
+
+/// How many windows are asked for.
+pub(crate) fn read_count(field: &[u8]) -> Option<u64>
+    ensures { result ≡ count_of field.now }
+{
+    unless_zero(read_number(field, MAX_DIGITS, u128::from(MAX_COUNT))? as u64)
+}
+
+/// How many motifs, or matches of one.
+pub(crate) fn read_few(field: &[u8]) -> Option<u64>
+    ensures { result ≡ few field.now }
+{
+    unless_zero(read_number(field, MAX_DIGITS, u128::from(MAX_MOTIFS))? as u64)
+}
+
+fn unless_zero(n: u64) -> Option<u64>
+    ensures { result ≡ positive (Some n) }
+{
+    if n >= 1 { Some(n) } else { None }
+}
+
+/// How many windows must match a motif beside itself.
+pub(crate) fn read_neighbours(field: &[u8]) -> Option<u64>
+    ensures { result ≡ neighbours field.now }
+{
+    Some(read_number(field, MAX_DIGITS, u128::from(MAX_COUNT))? as u64)
+}
+
+/// How many window lengths.
+pub(crate) fn read_factor(field: &[u8]) -> Option<u32>
+    ensures { result ≡ factor field.now }
+{
+    Some(read_number(field, MAX_DIGITS, u128::from(MAX_FACTOR))? as u32)
 }
 
 /// A slot, or a slot and a channel with a point between.

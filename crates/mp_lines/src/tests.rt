@@ -1,7 +1,7 @@
 //! Lines of every command, good and refused, and the lists of columns in them.
 
 use crate::numbers::Columns;
-use crate::{Command, Feed, LineFault, Ref, parse_line};
+use crate::{Command, Feed, LineFault, Ref, Refs, parse_line};
 use std::test::Fail;
 
 fn channel_of(slot: u64, channel: u64) -> Ref {
@@ -44,6 +44,70 @@ fn each_command_is_read(rt: HostRuntime) {
             Command::Entry {
                 at: channel_of(9, 9),
                 start: 7,
+            },
+        ),
+        (
+            b"join 0 1.2",
+            Command::Join {
+                a: channel_of(0, 0),
+                b: channel_of(1, 2),
+            },
+        ),
+        (b"multi 3 2", Command::Multi { slot: 3, k: 2 }),
+        (
+            b"match 1 2.1 7 340282366920938463463374607431768211455 262144",
+            Command::Match {
+                at: channel_of(1, 0),
+                query: channel_of(2, 1),
+                start: 7,
+                radius: u128::MAX,
+                max: 262_144,
+            },
+        ),
+        (
+            b"motifs 0.1 1024 5 18446744073709551616 0 1",
+            Command::Motifs {
+                at: channel_of(0, 1),
+                count: 1_024,
+                cutoff: 5,
+                radius: 18_446_744_073_709_551_616,
+                neighbours: 0,
+                matches: 1,
+            },
+        ),
+        (
+            b"discords 4 1",
+            Command::Discords {
+                at: channel_of(4, 0),
+                count: 1,
+            },
+        ),
+        (
+            b"chain 0 5",
+            Command::Chain {
+                at: channel_of(0, 0),
+                start: 5,
+            },
+        ),
+        (
+            b"chains 6.7",
+            Command::Chains {
+                at: channel_of(6, 7),
+            },
+        ),
+        (
+            b"segments 1 3 100",
+            Command::Segments {
+                at: channel_of(1, 0),
+                count: 3,
+                factor: 100,
+            },
+        ),
+        (
+            b"mpdist 0.1 0",
+            Command::Mpdist {
+                a: channel_of(0, 1),
+                b: channel_of(0, 0),
             },
         ),
         (b"end", Command::End),
@@ -104,6 +168,22 @@ fn each_fault_has_its_word(rt: HostRuntime) {
         (b"profile", LineFault::Fields),
         (b"profile 0 0", LineFault::Fields),
         (b"entry 0", LineFault::Fields),
+        (b"join 0", LineFault::Fields),
+        (b"join x y z", LineFault::Fields),
+        (b"multi 0", LineFault::Fields),
+        (b"match 0 0 0 0", LineFault::Fields),
+        (b"match 0 0 0 0 1 1", LineFault::Fields),
+        (b"motifs 0 0 0 0 0", LineFault::Fields),
+        (b"motifs 0 1 0 0 0 1 1", LineFault::Fields),
+        (b"discords x", LineFault::Fields),
+        (b"chain 0", LineFault::Fields),
+        (b"chains", LineFault::Fields),
+        (b"chains 0 0", LineFault::Fields),
+        (b"segments 0 1", LineFault::Fields),
+        (b"mpdist 0 0 0", LineFault::Fields),
+        (b"consensus", LineFault::Fields),
+        (b"consensus 0", LineFault::Fields),
+        (b"consensus x", LineFault::Fields),
         (b"end 1", LineFault::Fields),
         (b"open x 1", LineFault::Number),
         (b"open 1 -1", LineFault::Number),
@@ -116,6 +196,33 @@ fn each_fault_has_its_word(rt: HostRuntime) {
         (b"profile 0.0.0", LineFault::Number),
         (b"profile 0,1", LineFault::Number),
         (b"entry 0 x", LineFault::Number),
+        (b"join 0 0.", LineFault::Number),
+        (b"multi 0.0 1", LineFault::Number),
+        (b"multi 0 -1", LineFault::Number),
+        (b"match 0 0 0 0 0", LineFault::Number),
+        (b"match 0 0 0 0 262145", LineFault::Number),
+        (
+            b"match 0 0 0 340282366920938463463374607431768211456 1",
+            LineFault::Number,
+        ),
+        (b"match 0 0 0.0 0 1", LineFault::Number),
+        (b"motifs 0 0 0 0 0 1", LineFault::Number),
+        (b"motifs 0 1025 0 0 0 1", LineFault::Number),
+        (b"motifs 0 1 0 0 262145 1", LineFault::Number),
+        (b"motifs 0 1 0 0 0 0", LineFault::Number),
+        (b"motifs 0 1 0 0 0 1025", LineFault::Number),
+        (
+            b"motifs 0 1 340282366920938463463374607431768211456 0 0 1",
+            LineFault::Number,
+        ),
+        (b"discords 0 0", LineFault::Number),
+        (b"discords 0 262145", LineFault::Number),
+        (b"chain 0 x", LineFault::Number),
+        (b"chains 0,1", LineFault::Number),
+        (b"segments 0 0 1", LineFault::Number),
+        (b"segments 0 1 101", LineFault::Number),
+        (b"mpdist 0 1.", LineFault::Number),
+        (b"consensus 0 1 x", LineFault::Number),
     ] {
         assert_eq!(rt; parse_line(line), Err(fault), "{line:?}");
     }
@@ -184,6 +291,29 @@ fn a_load_names_a_slot_a_file_and_columns(rt: HostRuntime) -> Result<(), Fail> {
             header,
         };
         assert_eq!(rt; parse_line(line), Ok(command), "{line:?}");
+    }
+    Ok(())
+}
+
+fn listed(line: &[u8]) -> Option<Refs<'_>> {
+    match parse_line(line) {
+        Ok(Command::Consensus { refs }) => Some(refs),
+        _ => None,
+    }
+}
+
+#[test]
+fn a_consensus_names_two_to_64_refs(rt: HostRuntime) -> Result<(), Fail> {
+    let refs = listed(b"consensus 0\t1.2  7").ok_or("no list of refs")?;
+    assert_eq!(rt; refs.count(), 3);
+    let wanted = [channel_of(0, 0), channel_of(1, 2), channel_of(7, 0)];
+    assert_eq!(rt; refs.read(rt.alloc())?.as_slice(), wanted.as_slice());
+    for (count, taken) in [(1, false), (2, true), (64, true), (65, false)] {
+        let mut line = Vec::from_slice(rt.alloc(), b"consensus")?;
+        for _ in 0..count {
+            line.extend_from_slice(b" 0")?;
+        }
+        assert_eq!(rt; listed(line.as_slice()).is_some(), taken);
     }
     Ok(())
 }

@@ -5,7 +5,7 @@ use Rattle.mp_replies.specs.declared.causes.Cause.{Cause}
 use Rattle.mp_replies.specs.State.{Files, State, opening}
 use Rattle.mp_replies.specs.Answer.{Accepted, Ended, Refused, Report}
 use Rattle.mp_replies.specs.Change.{Change}
-use Rattle.mp_replies.specs.Command.{Command, Session, OpenSlot, Load, Append, Window, Profile, Entry, End}
+use Rattle.mp_replies.specs.Command.{Command, Load, End}
 use Rattle.mp_replies.specs.Conditions.{Condition, first_of}
 use Rattle.mp_replies.specs.LoadCommand.{load_conditions, file_conditions, file_in}
 use Rattle.mp_replies.specs.Line.{Asked, Nothing, Asks, Faulty, asked_of, is_end, ends}
@@ -56,14 +56,8 @@ ends_of : (later state : State) (files : Files) (asked : Asked) → is_end asked
     → (report : Report) × (answer_by later (verdict_of state files asked) ≡ Ended report)
 ends_of later state files Nothing h = absurd (cc h)
 ends_of later state files (Faulty why) h = absurd (cc h)
-ends_of later state files (Asks (Session version)) h = absurd (cc h)
-ends_of later state files (Asks (OpenSlot slot channels)) h = absurd (cc h)
-ends_of later state files (Asks (Load slot file columns header)) h = absurd (cc h)
-ends_of later state files (Asks (Append slot items)) h = absurd (cc h)
-ends_of later state files (Asks (Window at start)) h = absurd (cc h)
-ends_of later state files (Asks (Profile at)) h = absurd (cc h)
-ends_of later state files (Asks (Entry at start)) h = absurd (cc h)
 ends_of later state files (Asks End) h = (report_by later End, refl)
+ends_of later state files (Asks other) h = absurd (cc h)
 
 goes_on : (later : State) (command : Command) (o : Option Cause) (change : Change) (report : Report)
     → is_last command ≡ false
@@ -78,29 +72,9 @@ answered_end : (later state : State) (files : Files) (asked : Asked) (report : R
     → answer_by later (verdict_of state files asked) ≡ Ended report → is_end asked ≡ true
 answered_end later state files Nothing report h = absurd (cc h)
 answered_end later state files (Faulty why) report h = absurd (cc h)
-answered_end later state files (Asks (Session version)) report h =
-    absurd (goes_on later (Session version) (first_of (conditions state files (Session version)))
-    (change_by state files (Session version)) report refl h)
-answered_end later state files (Asks (OpenSlot slot channels)) report h =
-    absurd (goes_on later (OpenSlot slot channels) (first_of (conditions state files (OpenSlot slot channels)))
-    (change_by state files (OpenSlot slot channels)) report refl h)
-answered_end later state files (Asks (Load slot file columns header)) report h =
-    absurd (goes_on later (Load slot file columns header)
-    (first_of (conditions state files (Load slot file columns header)))
-    (change_by state files (Load slot file columns header)) report refl h)
-answered_end later state files (Asks (Append slot items)) report h =
-    absurd (goes_on later (Append slot items) (first_of (conditions state files (Append slot items)))
-    (change_by state files (Append slot items)) report refl h)
-answered_end later state files (Asks (Window at start)) report h =
-    absurd (goes_on later (Window at start) (first_of (conditions state files (Window at start)))
-    (change_by state files (Window at start)) report refl h)
-answered_end later state files (Asks (Profile at)) report h =
-    absurd (goes_on later (Profile at) (first_of (conditions state files (Profile at)))
-    (change_by state files (Profile at)) report refl h)
-answered_end later state files (Asks (Entry at start)) report h =
-    absurd (goes_on later (Entry at start) (first_of (conditions state files (Entry at start)))
-    (change_by state files (Entry at start)) report refl h)
 answered_end later state files (Asks End) report h = refl
+answered_end later state files (Asks other) report h =
+    absurd (goes_on later other (first_of (conditions state files other)) (change_by state files other) report refl h)
 
 pub ends_answered : EndsAreAnswered
 unfolding ends answer after verdict
@@ -141,16 +115,10 @@ same_verdict : (state : State) (files others : Files) (asked : Asked) → fetche
     → verdict_of state files asked ≡ verdict_of state others asked
 same_verdict state files others Nothing h = refl
 same_verdict state files others (Faulty why) h = refl
-same_verdict state files others (Asks (Session version)) h = refl
-same_verdict state files others (Asks (OpenSlot slot channels)) h = refl
 same_verdict state files others (Asks (Load slot file columns header)) h =
     load_refused state files others slot file columns header
     (first_of (load_conditions state.stores slot columns)) refl h
-same_verdict state files others (Asks (Append slot items)) h = refl
-same_verdict state files others (Asks (Window at start)) h = refl
-same_verdict state files others (Asks (Profile at)) h = refl
-same_verdict state files others (Asks (Entry at start)) h = refl
-same_verdict state files others (Asks End) h = refl
+same_verdict state files others (Asks other) h = refl
 
 pub no_file_read : OtherLinesReadNoFile
 unfolding fetches reply answer after verdict

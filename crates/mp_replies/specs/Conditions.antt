@@ -1,5 +1,5 @@
 -- Why a command is refused: of some conditions, in their order, the first that holds.
-use Rattle.std.specs.Prelude.{ℕ, Bool, nat_le, List, [], ◌∷◌, length, if◌then◌else◌, Option, Some, None}
+use Rattle.std.specs.Prelude.{ℕ, Bool, ◌||◌, false, nat_le, List, [], ◌∷◌, length, if◌then◌else◌, Option, Some, None}
 use Rattle.mp_defs.specs.Window.{windows}
 use Rattle.mp_replies.specs.declared.causes.Cause.{Cause}
 use Rattle.mp_replies.specs.declared.causes.Cause.TheVariants.{Slot, Channel, Index}
@@ -27,6 +27,23 @@ no_slot stores slot = when (is_closed (store_at stores slot)) Slot
 -- the slot has no such channel
 abbrev pub no_channel : List Store → Ref → Condition
 no_channel stores at = when (nat_le (length (channels_at stores at.slot)) at.channel) Channel
+
+-- one of these slots is above the last one, or isn't open
+abbrev pub some_closed : List Store → List Ref → Bool
+some_closed stores [] = false
+some_closed stores (at ∷ others) = is_closed (store_at stores at.slot) || some_closed stores others
+
+abbrev pub no_slots : List Store → List Ref → Condition
+no_slots stores refs = when (some_closed stores refs) Slot
+
+-- one of these refs names a channel that its slot hasn't
+abbrev pub some_absent : List Store → List Ref → Bool
+some_absent stores [] = false
+some_absent stores (at ∷ others) =
+    nat_le (length (channels_at stores at.slot)) at.channel || some_absent stores others
+
+abbrev pub no_channels : List Store → List Ref → Condition
+no_channels stores refs = when (some_absent stores refs) Channel
 
 -- the series has no window that starts there
 abbrev pub no_window : ℕ → List Store → Ref → ℕ → Condition

@@ -1,14 +1,18 @@
 -- Inputs whose lines and reports were written down by hand.
-use Rattle.std.specs.Prelude.{◌≡◌, ℕ, pos, true, false, List, [], ◌∷◌, ◌++◌, length, replicate, codes, Some, None, Ok, Err}
+use Rattle.std.specs.Prelude.{◌≡◌, ℕ, pos, true, false, List, [], ◌∷◌, ◌++◌, length, replicate, codes, Some, None, Ok}
+use Rattle.std.specs.Prelude.{Err}
 use Rattle.mp_defs.specs.Series.{Series}
 use Rattle.mp_replies.specs.declared.causes.Cause.TheVariants as cause
 use Rattle.mp_bytes.specs.Fields.{fields}
 use Rattle.mp_bytes.specs.Lines.{lines, ended_lines}
 use Rattle.mp_replies.specs.AppendCommand.{item_of}
+use Rattle.mp_replies.specs.declared.refs.Ref.{Ref}
 use Rattle.mp_replies.specs.Command.{Session, OpenSlot, Load, Append, Profile, End}
+use Rattle.mp_replies.specs.Command.{Join, Multi, Match, Motifs, Discords, Chain, Chains, Segments, Mpdist, Consensus}
 use Rattle.mp_replies.specs.Conditions.{first_of}
 use Rattle.mp_replies.specs.Line.{Nothing, Asks, Faulty, asked_of}
 use Rattle.mp_replies.specs.LoadCommand.{file_conditions, file_in, table_in}
+use Rattle.mp_replies.specs.MotifsCommand.{motif_query}
 use Rattle.mp_replies.specs.Words.{job}
 use Rattle.mp_replies.specs.State.{Files, State, opening, Closed, Open}
 use Rattle.mp_replies.specs.Step.{cause}
@@ -48,6 +52,9 @@ pub record SpelledWords : Type 0 where
   pub signed_window : job (codes "--window" ∷ codes "+3" ∷ []) ≡ None
   pub no_words : job [] ≡ None
 
+abbrev channel : ℕ → ℕ → Ref
+channel s c = record { slot = s; channel = c }
+
 -- what lines ask for, and why they are refused whatever the state
 pub record AskedLines : Type 0 where
   pub session : asked_of (codes "session 01") ≡ Asks (Session 1)
@@ -65,10 +72,29 @@ pub record AskedLines : Type 0 where
   pub many_columns : asked_of (codes "load 1 day.csv 1,2,3,4,5,6,7,8,9") ≡ Faulty cause.Number
   pub great_column : asked_of (codes "load 1 day.csv 65536") ≡ Faulty cause.Number
   pub slot_alone : asked_of (codes "profile 7") ≡ Asks (Profile record { slot = 7; channel = 0 })
-  pub channel : asked_of (codes "profile 7.1") ≡ Asks (Profile record { slot = 7; channel = 1 })
+  pub one_channel : asked_of (codes "profile 7.1") ≡ Asks (Profile record { slot = 7; channel = 1 })
   pub no_channel : asked_of (codes "profile 7.") ≡ Faulty cause.Number
   pub two_points : asked_of (codes "profile 7.1.1") ≡ Faulty cause.Number
   pub great_number : asked_of (codes "entry 0 18446744073709551616") ≡ Faulty cause.Number
+  pub join : asked_of (codes "join 0 1.2") ≡ Asks (Join (channel 0 0) (channel 1 2))
+  pub mpdist : asked_of (codes "mpdist 0 0") ≡ Asks (Mpdist (channel 0 0) (channel 0 0))
+  pub multi : asked_of (codes "multi 1 2") ≡ Asks (Multi 1 2)
+  pub multi_ref : asked_of (codes "multi 0.0 1") ≡ Faulty cause.Number
+  pub match : asked_of (codes "match 0 1 2 6 10") ≡ Asks (Match (channel 0 0) (channel 1 0) 2 6 10)
+  pub no_matches : asked_of (codes "match 0 1 2 6 0") ≡ Faulty cause.Number
+  pub great_radius : asked_of (codes "match 0 1 2 340282366920938463463374607431768211455 1")
+      ≡ Asks (Match (channel 0 0) (channel 1 0) 2 340282366920938463463374607431768211455 1)
+  pub greater_radius : asked_of (codes "match 0 1 2 340282366920938463463374607431768211456 1") ≡ Faulty cause.Number
+  pub motifs : asked_of (codes "motifs 0 2 7 6 0 1024") ≡ Asks (Motifs (channel 0 0) (motif_query 2 7 6 0 1024))
+  pub many_motifs : asked_of (codes "motifs 0 1025 7 6 0 1") ≡ Faulty cause.Number
+  pub discords : asked_of (codes "discords 0 262144") ≡ Asks (Discords (channel 0 0) 262144)
+  pub many_discords : asked_of (codes "discords 0 262145") ≡ Faulty cause.Number
+  pub chain : asked_of (codes "chain 0 7") ≡ Asks (Chain (channel 0 0) 7)
+  pub chains : asked_of (codes "chains 0") ≡ Asks (Chains (channel 0 0))
+  pub segments : asked_of (codes "segments 0 1 100") ≡ Asks (Segments (channel 0 0) 1 100)
+  pub great_factor : asked_of (codes "segments 0 1 101") ≡ Faulty cause.Number
+  pub consensus : asked_of (codes "consensus 2 0 2") ≡ Asks (Consensus (channel 2 0 ∷ channel 0 0 ∷ channel 2 0 ∷ []))
+  pub consensus_of_one : asked_of (codes "consensus 2") ≡ Faulty cause.Fields
   pub end : asked_of (codes "end") ≡ Asks End
   pub end_with_more : asked_of (codes "end 1") ≡ Faulty cause.Fields
   pub comment : asked_of (codes "  #end") ≡ Nothing
@@ -166,3 +192,47 @@ OpenOutput =
     (files : Files) → output words files
     (codes "append 0 4 5\nopen 0 2\nappend 0 1,? ,2\nappend 0 1\nopen 1 1\nprofile 0.1\nprofile 1.1\n")
     ≡ codes "ok 1 2\nok 2 0\nok 3 2\nrefused 4 sample 1\nok 5 0\nprofile 6 0\nrefused 7 channel\n"
+
+-- a series joined with itself: no window is too near
+abbrev pub JoinOutput : Type 0
+JoinOutput =
+    (files : Files) → output words files
+    (codes "open 1 1\nappend 0 1 2 3 4\nappend 1 1 2 3 4\njoin 0 1\nmpdist 0 1\njoin 0 0\n")
+    ≡ codes "ok 1 0\nok 2 4\nok 3 4\njoin 4 2\n0 0 0\n1 0 1\nmpdist 5 0\njoin 6 2\n0 0 0\n1 0 1\n"
+
+-- the windows that match one, repeated patterns, and why a match is refused
+abbrev pub PatternOutput : Type 0
+PatternOutput =
+    (files : Files) → output words files
+    (codes "append 0 1 2 3 1 2 3\nmatch 0 0 0 6 10\nmotifs 0 2 6 6 1 10\nmotifs 0 2 6 6 2 10\n"
+    ++ codes "match 0 0 4 6 10\nappend 0 ?\nmatch 0 0 4 6 10\n")
+    ≡ codes "ok 1 6\nmatch 2 2\n0 0\n0 3\nmotifs 3 1\nmotif 0 2\n0 0\n0 3\nmotifs 4 0\n"
+    ++ codes "refused 5 index\nok 6 7\nrefused 7 missing\n"
+
+-- where all windows are equally near
+abbrev pub ChainOutput : Type 0
+ChainOutput =
+    (files : Files) → output words files (codes "append 0 5 5 5 5 5 5\nchains 0\nchain 0 2\ndiscords 0 1\n")
+    ≡ codes "ok 1 6\nchains 2 3 0\n0 2\n1\n3\nchain 3 1\n2\ndiscords 4 1\n0 0 2\n"
+
+abbrev pub SegmentsOutput : Type 0
+SegmentsOutput =
+    (files : Files) → output words files (codes "append 0 1 2 3 1 2 3\nsegments 0 2 0\nsegments 0 2 5\n")
+    ≡ codes "ok 1 6\nsegments 2 1\n3 0/6\nsegments 3 0\n"
+
+-- the channels of a slot together, of which one has a missing sample
+abbrev pub MultiOutput : Type 0
+MultiOutput =
+    (files : Files) → output words files
+    (codes "open 1 2\nappend 1 1,1 2,? 3,3 1,1 2,2 3,3 1,1\nmulti 1 1\nmulti 1 2\nmulti 1 3\n")
+    ≡ codes "ok 1 0\nok 2 7\nmulti 3 5\n0 0 3\n1 0 4\n2 6 0\n3 0 0\n4 0 1\n"
+    ++ codes "multi 4 5\n0 - -\n1 - -\n2 12 4\n3 - -\n4 12 2\nrefused 5 channel\n"
+
+-- what three channels have in common, and nothing where one of them is empty
+abbrev pub ConsensusOutput : Type 0
+ConsensusOutput =
+    (files : Files) → output words files
+    (codes "open 1 1\nopen 2 1\nappend 0 1 2 3 4\nappend 1 9 1 2 3\nappend 2 2 3 4 9\nconsensus 0 1 2\n"
+    ++ codes "open 2 1\nconsensus 0 1 2\n")
+    ≡ codes "ok 1 0\nok 2 0\nok 3 4\nok 4 4\nok 5 4\nconsensus 6 3 0 0\n0 0 0\n1 0 1\n2 3 0\n"
+    ++ codes "ok 7 0\nconsensus 8 -\n"

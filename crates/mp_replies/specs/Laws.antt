@@ -1,5 +1,6 @@
 -- What holds of every line and of every run.
-use Rattle.std.specs.Prelude.{◌≡◌, ℕ, ◌+◌, ◌-◌, ◌<◌, ◌≤◌, ◌↔◌, ◌||◌, true, false, IsTrue, IsOk, List, [], ◌∷◌, All, length, map}
+use Rattle.std.specs.Prelude.{◌≡◌, ℕ, ◌+◌, ◌-◌, ◌<◌, ◌≤◌, ◌↔◌, ◌||◌, true, false, IsTrue, IsOk, List, [], ◌∷◌, All}
+use Rattle.std.specs.Prelude.{length, map}
 use Rattle.std.specs.Prelude.{slice_index_or, Some, None, Ok, Err, flat_map}
 use Rattle.mp_bytes.specs.Fields.{is_blank_line, is_comment}
 use Rattle.mp_bytes.specs.Lines.{max_line, cut}
@@ -9,7 +10,8 @@ use Rattle.mp_replies.specs.declared.causes.Cause.TheVariants as words
 use Rattle.mp_replies.specs.Words.{Setup}
 use Rattle.mp_replies.specs.State.{Files, State, channels_at}
 use Rattle.mp_replies.specs.Answer.{Silent, Refused, Ended, Report}
-use Rattle.mp_replies.specs.Command.{Command, Append}
+use Rattle.mp_replies.specs.Command.{Command, Append, Match, Motifs, Discords, Segments, Consensus}
+use Rattle.mp_replies.specs.Limits.{max_factor, max_refs, min_refs}
 use Rattle.mp_replies.specs.Conditions.{Condition}
 use Rattle.mp_replies.specs.AppendCommand.{item_of, read_items}
 use Rattle.mp_replies.specs.Line.{Asks, asked_of, ends}
@@ -86,6 +88,7 @@ rank words.FileSize = 10
 rank (words.Record number) = 11
 rank words.Rows = 12
 rank words.Index = 13
+rank words.Missing = 14
 
 -- the word of each stands before that of the next
 abbrev pub StandInOrder : List Condition → Type 0
@@ -139,3 +142,17 @@ AppendsAddUp =
     → (cause state whole files ≡ None)
     × (channels_at (state_after state files (first ∷ lines)).stores slot
     ≡ channels_at (after state whole files).stores slot)
+
+-- ---- limits
+
+-- the numbers that a command names lie within their limits
+abbrev pub IsWithin : Command → Type 0
+IsWithin (Match at query start radius max) = 1 ≤ max
+IsWithin (Motifs at query) = (1 ≤ query.count) × (1 ≤ query.max_matches)
+IsWithin (Discords at count) = 1 ≤ count
+IsWithin (Segments at count factor) = (1 ≤ count) × (factor ≤ max_factor)
+IsWithin (Consensus refs) = (min_refs ≤ length refs) × (length refs ≤ max_refs)
+IsWithin other = Unit {0}
+
+abbrev pub LimitsAreKept : Type 0
+LimitsAreKept = (line : List ℕ) (command : Command) → asked_of line ≡ Asks command → IsWithin command

@@ -45,6 +45,29 @@ max_number = 18446744073709551615
 abbrev pub max_column : ℕ
 max_column = 65535
 
+-- the greatest squared distance, of 128 bits
+abbrev pub max_square : ℕ
+max_square = 340282366920938463463374607431768211455
+
+-- the most windows that are asked for, and the most neighbours
+abbrev pub max_count : ℕ
+max_count = 262144
+
+-- the most motifs, and the most matches of one
+abbrev pub max_motifs : ℕ
+max_motifs = 1024
+
+-- the most window lengths of a regime's zone
+abbrev pub max_factor : ℕ
+max_factor = 100
+
+-- the fewest and the most channels that are compared
+abbrev pub min_refs : ℕ
+min_refs = 2
+
+abbrev pub max_refs : ℕ
+max_refs = 64
+
 -- ---- slots and files
 
 -- slots, counted from 0

@@ -1,5 +1,6 @@
 -- What a line asks for.
-use Rattle.std.specs.Prelude.{ℕ, ◌+◌, ◌==◌, Bool, true, false, nat_le, nat_lt, List, [], ◌∷◌, length, codes, slice_index, if◌then◌else◌, Option, Some, None, Result, Ok, Err}
+use Rattle.std.specs.Prelude.{ℕ, ◌+◌, ◌==◌, Bool, true, false, nat_le, nat_lt, List, [], ◌∷◌, length, codes}
+use Rattle.std.specs.Prelude.{slice_index, if◌then◌else◌, Option, Some, None, Result, Ok, Err}
 use Rattle.mp_bytes.specs.Bytes.{number_sign, same_text}
 use Rattle.mp_bytes.specs.Fields.{fields}
 use Rattle.mp_bytes.specs.Lines.{max_line}
@@ -13,6 +14,16 @@ use Rattle.mp_replies.specs.AppendCommand.{append_of}
 use Rattle.mp_replies.specs.WindowCommand.{window_of}
 use Rattle.mp_replies.specs.ProfileCommand.{profile_of}
 use Rattle.mp_replies.specs.EntryCommand.{entry_of}
+use Rattle.mp_replies.specs.JoinCommand.{join_of}
+use Rattle.mp_replies.specs.MultiCommand.{multi_of}
+use Rattle.mp_replies.specs.MatchCommand.{match_of}
+use Rattle.mp_replies.specs.MotifsCommand.{motifs_of}
+use Rattle.mp_replies.specs.DiscordsCommand.{discords_of}
+use Rattle.mp_replies.specs.ChainCommand.{chain_of}
+use Rattle.mp_replies.specs.ChainsCommand.{chains_of}
+use Rattle.mp_replies.specs.SegmentsCommand.{segments_of}
+use Rattle.mp_replies.specs.MpdistCommand.{mpdist_command_of}
+use Rattle.mp_replies.specs.ConsensusCommand.{consensus_fits, consensus_of}
 
 pub data Asked : Type 0 where
   -- nothing: a blank line or a comment
@@ -55,12 +66,44 @@ profile_form = record { word = codes "profile"; fits = in_all 2; read = profile_
 abbrev pub entry_form : Form
 entry_form = record { word = codes "entry"; fits = in_all 3; read = entry_of }
 
+abbrev pub join_form : Form
+join_form = record { word = codes "join"; fits = in_all 3; read = join_of }
+
+abbrev pub multi_form : Form
+multi_form = record { word = codes "multi"; fits = in_all 3; read = multi_of }
+
+abbrev pub match_form : Form
+match_form = record { word = codes "match"; fits = in_all 6; read = match_of }
+
+abbrev pub motifs_form : Form
+motifs_form = record { word = codes "motifs"; fits = in_all 7; read = motifs_of }
+
+abbrev pub discords_form : Form
+discords_form = record { word = codes "discords"; fits = in_all 3; read = discords_of }
+
+abbrev pub chain_form : Form
+chain_form = record { word = codes "chain"; fits = in_all 3; read = chain_of }
+
+abbrev pub chains_form : Form
+chains_form = record { word = codes "chains"; fits = in_all 2; read = chains_of }
+
+abbrev pub segments_form : Form
+segments_form = record { word = codes "segments"; fits = in_all 4; read = segments_of }
+
+abbrev pub mpdist_form : Form
+mpdist_form = record { word = codes "mpdist"; fits = in_all 3; read = mpdist_command_of }
+
+abbrev pub consensus_form : Form
+consensus_form = record { word = codes "consensus"; fits = consensus_fits; read = consensus_of }
+
 abbrev pub end_form : Form
 end_form = record { word = codes "end"; fits = in_all 1; read = λ _. Some End }
 
 abbrev pub forms : List Form
 forms =
-    open_form ∷ load_form ∷ append_form ∷ window_form ∷ profile_form ∷ entry_form ∷ end_form ∷ []
+    open_form ∷ load_form ∷ append_form ∷ window_form ∷ profile_form ∷ entry_form ∷ join_form ∷ multi_form
+    ∷ match_form ∷ motifs_form ∷ discords_form ∷ chain_form ∷ chains_form ∷ segments_form ∷ mpdist_form
+    ∷ consensus_form ∷ end_form ∷ []
 
 -- ---- what a line asks for, by its fields
 

@@ -1,13 +1,44 @@
 -- How the fields of a line are read: numbers, refs and lists of columns.
-use Rattle.std.specs.Prelude.{ℕ, ◌+◌, ◌==◌, Bool, nat_le, take, drop, position, List, [], ◌∷◌, length, map, if◌then◌else◌, Option, Some, None, option_map, option_and_then}
+use Rattle.std.specs.Prelude.{ℕ, ◌+◌, ◌==◌, Bool, nat_le, take, drop, position, List, [], ◌∷◌, length, map}
+use Rattle.std.specs.Prelude.{if◌then◌else◌, Option, Some, None, option_map, option_and_then}
 use Rattle.mp_bytes.specs.Bytes.{point}
 use Rattle.mp_bytes.specs.Digits.{number_of}
 use Rattle.mp_bytes.specs.Values.{values_in}
-use Rattle.mp_replies.specs.Limits.{max_digits, max_number, max_column, max_channels}
+use Rattle.mp_replies.specs.Limits.{max_digits, max_number, max_column, max_channels, max_square, max_count, max_motifs}
+use Rattle.mp_replies.specs.Limits.{max_factor}
 use Rattle.mp_replies.specs.declared.refs.Ref.{Ref}
 
 abbrev pub number : List ℕ → Option ℕ
 number field = number_of max_digits max_number field
+
+-- a squared distance
+abbrev pub square : List ℕ → Option ℕ
+square field = number_of max_digits max_square field
+
+-- a number that isn't 0
+abbrev pub positive : Option ℕ → Option ℕ
+positive read = option_and_then (λ (n : ℕ). if nat_le 1 n then Some n else None) read
+
+-- how many windows are asked for
+abbrev pub count : List ℕ → Option ℕ
+count field = positive (number_of max_digits max_count field)
+
+-- how many motifs, or matches of one
+abbrev pub few : List ℕ → Option ℕ
+few field = positive (number_of max_digits max_motifs field)
+
+abbrev pub neighbours : List ℕ → Option ℕ
+neighbours field = number_of max_digits max_count field
+
+-- how many window lengths
+abbrev pub factor : List ℕ → Option ℕ
+factor field = number_of max_digits max_factor field
+
+-- what is made of one more value, where all are there
+abbrev pub with_next : {A B : Type 0} → Option (A → B) → Option A → Option B
+with_next None next = None
+with_next (Some make) None = None
+with_next (Some make) (Some next) = Some (make next)
 
 -- ---- refs: a slot, or a slot and a channel with a point between
 
@@ -30,7 +61,11 @@ ref_at field (Some at) = ref_with (number (take at field)) (number (drop (at + 1
 abbrev pub ref : List ℕ → Option Ref
 ref field = ref_at field (position is_point field)
 
--- ---- columns: numbers with commas between
+-- what is made of two refs
+abbrev pub with_refs : {A : Type 0} → (Ref → Ref → A) → List ℕ → List ℕ → Option A
+with_refs make first second = with_next (option_map make (ref first)) (ref second)
+
+-- ---- lists
 
 -- one more in front of others, where there are both
 abbrev pub onto_some : {A : Type 0} → Option A → Option (List A) → Option (List A)
@@ -42,6 +77,11 @@ onto_some (Some x) (Some xs) = Some (x ∷ xs)
 abbrev pub all_some : {A : Type 0} → List (Option A) → Option (List A)
 all_some [] = Some []
 all_some (x ∷ xs) = onto_some x (all_some xs)
+
+abbrev pub refs : List (List ℕ) → Option (List Ref)
+refs fields = all_some (map ref fields)
+
+-- ---- columns: numbers with commas between
 
 abbrev pub column : List ℕ → Option ℕ
 column text = number_of max_digits max_column text

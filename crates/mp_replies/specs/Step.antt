@@ -4,6 +4,7 @@ use Rattle.mp_replies.specs.declared.causes.Cause.{Cause}
 use Rattle.mp_replies.specs.State.{Files, State, channels_at, samples_in}
 use Rattle.mp_replies.specs.Change.{Change, Keep, changed}
 use Rattle.mp_replies.specs.Command.{Command, Session, OpenSlot, Load, Append, Window, Profile, Entry, End}
+use Rattle.mp_replies.specs.Command.{Join, Multi, Match, Motifs, Discords, Chain, Chains, Segments, Mpdist, Consensus}
 use Rattle.mp_replies.specs.Conditions.{Condition, first_of}
 use Rattle.mp_replies.specs.SessionCommand.{session_conditions}
 use Rattle.mp_replies.specs.OpenCommand.{open_conditions, open_change}
@@ -12,7 +13,18 @@ use Rattle.mp_replies.specs.AppendCommand.{append_conditions, append_change}
 use Rattle.mp_replies.specs.WindowCommand.{window_conditions, window_report}
 use Rattle.mp_replies.specs.ProfileCommand.{profile_conditions, profile_report}
 use Rattle.mp_replies.specs.EntryCommand.{entry_conditions, entry_report}
-use Rattle.mp_replies.specs.Answer.{Report, SessionReport, OpenReport, LoadReport, AppendReport, EndReport, Answer, Silent, Refused, Accepted, Ended}
+use Rattle.mp_replies.specs.JoinCommand.{join_conditions, join_report}
+use Rattle.mp_replies.specs.MultiCommand.{multi_conditions, multi_report}
+use Rattle.mp_replies.specs.MatchCommand.{match_conditions, match_report}
+use Rattle.mp_replies.specs.MotifsCommand.{motifs_conditions, motifs_report}
+use Rattle.mp_replies.specs.DiscordsCommand.{discords_conditions, discords_report}
+use Rattle.mp_replies.specs.ChainCommand.{chain_conditions, chain_report}
+use Rattle.mp_replies.specs.ChainsCommand.{chains_conditions, chains_report}
+use Rattle.mp_replies.specs.SegmentsCommand.{segments_conditions, segments_report}
+use Rattle.mp_replies.specs.MpdistCommand.{mpdist_conditions, mpdist_report}
+use Rattle.mp_replies.specs.ConsensusCommand.{consensus_conditions, consensus_report}
+use Rattle.mp_replies.specs.Answer.{Report, SessionReport, OpenReport, LoadReport, AppendReport, EndReport, Answer}
+use Rattle.mp_replies.specs.Answer.{Silent, Refused, Accepted, Ended}
 use Rattle.mp_replies.specs.Line.{Asked, Nothing, Asks, Faulty, asked_of}
 
 -- ---- each command
@@ -26,6 +38,17 @@ state_conditions state (Append slot items) = append_conditions state.scale state
 state_conditions state (Window at start) = window_conditions state.window state.stores at start
 state_conditions state (Profile at) = profile_conditions state.stores at
 state_conditions state (Entry at start) = entry_conditions state.window state.stores at start
+state_conditions state (Join a b) = join_conditions state.stores a b
+state_conditions state (Multi slot k) = multi_conditions state.stores slot k
+state_conditions state (Match at query start radius max) =
+    match_conditions state.window state.stores at query start
+state_conditions state (Motifs at query) = motifs_conditions state.stores at
+state_conditions state (Discords at count) = discords_conditions state.stores at
+state_conditions state (Chain at start) = chain_conditions state.window state.stores at start
+state_conditions state (Chains at) = chains_conditions state.stores at
+state_conditions state (Segments at count factor) = segments_conditions state.stores at
+state_conditions state (Mpdist a b) = mpdist_conditions state.stores a b
+state_conditions state (Consensus refs) = consensus_conditions state.stores refs
 state_conditions state End = []
 
 -- and what is tested of a file, behind them
@@ -50,6 +73,16 @@ report_by state (Append slot items) = AppendReport (samples_in (channels_at stat
 report_by state (Window at start) = window_report state at start
 report_by state (Profile at) = profile_report state at
 report_by state (Entry at start) = entry_report state at start
+report_by state (Join a b) = join_report state a b
+report_by state (Multi slot k) = multi_report state slot k
+report_by state (Match at query start radius max) = match_report state at query start radius max
+report_by state (Motifs at query) = motifs_report state at query
+report_by state (Discords at count) = discords_report state at count
+report_by state (Chain at start) = chain_report state at start
+report_by state (Chains at) = chains_report state at
+report_by state (Segments at count factor) = segments_report state at count factor
+report_by state (Mpdist a b) = mpdist_report state a b
+report_by state (Consensus refs) = consensus_report state refs
 report_by state End = EndReport
 
 -- whether no line behind an accepted command is run

@@ -1,5 +1,6 @@
 -- Texts that several reports share.
-use Rattle.std.specs.Prelude.{ℕ, List, [], ◌++◌, codes, decimal, Option, Some, None}
+use Rattle.std.specs.Prelude.{ℕ, List, [], ◌++◌, length, codes, decimal, flat_map, Option, Some, None}
+use Rattle.std.specs.List.{enumerate_from}
 use Rattle.mp_nums.specs.declared.nearest.Near.{Near}
 use Rattle.mp_replies.specs.declared.causes.Cause.{Cause}
 use Rattle.mp_replies.specs.declared.causes.Cause.TheVariants as cause
@@ -19,6 +20,7 @@ word_of cause.FileSize = codes "file-size"
 word_of (cause.Record number) = codes "record " ++ decimal number
 word_of cause.Rows = codes "rows"
 word_of cause.Index = codes "index"
+word_of cause.Missing = codes "missing"
 
 abbrev pub refused_text : ℕ → Cause → List ℕ
 refused_text line cause = codes "refused " ++ decimal line ++ codes " " ++ word_of cause ++ codes "\n"
@@ -36,6 +38,10 @@ abbrev pub slot_text : Option Near → List ℕ
 slot_text None = codes "- -"
 slot_text (Some near) = decimal near.dist.0 ++ codes " " ++ decimal near.index
 
+-- a window that was found, on a line of its own: its distance and its start
+abbrev pub near_text : Near → List ℕ
+near_text near = slot_text (Some near) ++ codes "\n"
+
 abbrev pub index_text : Option Near → List ℕ
 index_text None = codes "-"
 index_text (Some near) = decimal near.index
@@ -45,3 +51,13 @@ abbrev pub row_text : ℕ → Option Near → Option Near → Option Near → Li
 row_text start all left right =
     decimal start ++ codes " " ++ slot_text all ++ codes " " ++ index_text left ++ codes " " ++ index_text right
     ++ codes "\n"
+
+-- ---- a column: what was found for each window
+
+abbrev pub entry_line : ℕ × Option Near → List ℕ
+entry_line (start, slot) = decimal start ++ codes " " ++ slot_text slot ++ codes "\n"
+
+-- behind the word: the line, how many windows there are, and a line for each
+abbrev pub column_text : ℕ → List (Option Near) → List ℕ
+column_text line slots =
+    decimal line ++ codes " " ++ decimal (length slots) ++ codes "\n" ++ flat_map entry_line (enumerate_from 0 slots)

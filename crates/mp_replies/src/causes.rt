@@ -31,4 +31,6 @@ pub enum Cause {
     Rows,
     /// The series has no window that starts there.
     Index,
+    /// The window has a missing sample.
+    Missing,
 }

@@ -17,6 +17,12 @@ ghost use Rattle.mp_replies.specs.Examples.{
   LoadOutput,
   OpenOutput,
   EndOutput,
+  JoinOutput,
+  PatternOutput,
+  ChainOutput,
+  SegmentsOutput,
+  MultiOutput,
+  ConsensusOutput,
 };
 
 /// Lines and fields, with and without the last line's end.
@@ -97,4 +103,34 @@ pub fn load_output()
 /// Two channels in place of one, and a channel that isn't there.
 pub fn open_output()
     ensures { OpenOutput }
+{}
+
+/// Joins, also of a series with itself.
+pub fn join_output()
+    ensures { JoinOutput }
+{}
+
+/// Matches and repeated patterns.
+pub fn pattern_output()
+    ensures { PatternOutput }
+{}
+
+/// Chains and unusual windows where all are equally near.
+pub fn chain_output()
+    ensures { ChainOutput }
+{}
+
+/// A change of regime, and none within the margins.
+pub fn segments_output()
+    ensures { SegmentsOutput }
+{}
+
+/// Two channels together, where one of them has a missing sample.
+pub fn multi_output()
+    ensures { MultiOutput }
+{}
+
+/// What three channels have in common.
+pub fn consensus_output()
+    ensures { ConsensusOutput }
 {}

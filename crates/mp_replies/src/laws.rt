@@ -12,6 +12,7 @@ ghost use Rattle.mp_replies.specs.Laws.{
   TileAndWorkersChangeNothing,
   BadItemsAreTheFirst,
   AppendsAddUp,
+  LimitsAreKept,
 };
 
 /// A refused line changes nothing but the number of lines run, and its report names why.
@@ -65,4 +66,9 @@ pub fn bad_items_are_the_first()
 /// Several appends to a slot give the channels of one, however their samples are cut into lines.
 pub fn appends_add_up()
     ensures { AppendsAddUp }
+{}
+
+/// The numbers that a line names lie within their limits.
+pub fn limits_are_kept()
+    ensures { LimitsAreKept }
 {}

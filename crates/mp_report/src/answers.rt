@@ -52,6 +52,7 @@ fn push_word(text: &mut Vec<u8>, cause: Cause) -> Result<(), Memory>
         Cause::Record(number) => push_numbered(text, b"record ", number)?,
         Cause::Rows => text.extend_from_slice(b"rows")?,
         Cause::Index => text.extend_from_slice(b"index")?,
+        Cause::Missing => text.extend_from_slice(b"missing")?,
     }
     Ok(())
 }

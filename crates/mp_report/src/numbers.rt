@@ -1,10 +1,22 @@
 //! Numbers and slots in texts.
 
-ghost use Rattle.std.specs.Prelude.{◌≡◌, ◌++◌, decimal, OnOk};
-ghost use Rattle.mp_replies.specs.Text.{index_text, row_text, slot_text};
+ghost use Rattle.std.specs.Prelude.{◌≡◌, ◌++◌, codes, decimal, OnOk};
+ghost use Rattle.mp_replies.specs.Text.{index_text, near_text, row_text, slot_text};
 
 use itoa::Buffer;
-use mp_nums::{Memory, Slot};
+use mp_nums::{Memory, Near, Slot};
+
+/// A number, and how many lines follow.
+pub(crate) fn push_head(text: &mut Vec<u8>, number: u64, count: u64) -> Result<(), Memory>
+    ensures { OnOk result (text.new.items
+        ≡ text.old.items ++ (decimal number ++ codes " " ++ decimal count ++ codes "\n")) }
+{
+    push_number(text, number)?;
+    text.extend_from_slice(b" ")?;
+    push_number(text, count)?;
+    text.extend_from_slice(b"\n")?;
+    Ok(())
+}
 
 /// A window's start, the distance and the start of its nearest window, and the starts of its nearest windows to the
 /// left and right.
@@ -43,6 +55,15 @@ pub(crate) fn push_slot(text: &mut Vec<u8>, slot: Slot) -> Result<(), Memory>
     Ok(())
 }
 
+/// The distance and the start of a window that was found, on a line of its own.
+pub(crate) fn push_near(text: &mut Vec<u8>, near: Near) -> Result<(), Memory>
+    ensures { OnOk result (text.new.items ≡ text.old.items ++ near_text near) }
+{
+    push_slot(text, Some(near))?;
+    text.extend_from_slice(b"\n")?;
+    Ok(())
+}
+
 /// The start alone.
 fn push_index(text: &mut Vec<u8>, slot: Slot) -> Result<(), Memory>
     ensures { OnOk result (text.new.items ≡ text.old.items ++ index_text slot) }
@@ -61,7 +82,7 @@ pub(crate) fn push_number(text: &mut Vec<u8>, n: u64) -> Result<(), Memory>
     Ok(())
 }
 
-fn push_distance(text: &mut Vec<u8>, dist: u128) -> Result<(), Memory>
+pub(crate) fn push_distance(text: &mut Vec<u8>, dist: u128) -> Result<(), Memory>
     ensures { OnOk result (text.new.items ≡ text.old.items ++ decimal dist) }
 {
     text.extend_from_slice(Buffer::new().format(dist).as_bytes())?;

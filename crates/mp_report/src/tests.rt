@@ -1,7 +1,13 @@
 //! The texts of the reports, as bytes.
 
-use crate::{Cause, entry_text, ok_text, profile_text, refused_text, window_text};
-use mp_nums::{Memory, Sample, Sq, Text};
+use crate::{
+    Cause, SlotsName, chain_text, chains_text, consensus_text, discords_text, entry_text,
+    match_text, motifs_text, mpdist_text, ok_text, profile_text, refused_text, segments_text,
+    slots_text, window_text,
+};
+use mp_nums::{
+    Centre, Discord, Items, Memory, Motif, Near, NearList, Places, Ratio, Sample, Slot, Sq, Text,
+};
 use mp_partial::{Part, Profile};
 use std::alloc::Global;
 use std::process::Abort;
@@ -52,6 +58,7 @@ fn refused_lines_have_words(rt: HostRuntime) -> Result<(), Fail> {
         (2, Cause::Record(4), b"refused 2 record 4\n"),
         (1, Cause::Rows, b"refused 1 rows\n"),
         (4, Cause::Index, b"refused 4 index\n"),
+        (8, Cause::Missing, b"refused 8 missing\n"),
     ] {
         same(&rt, &refused_text(rt.alloc(), line, cause)?, bytes);
     }
@@ -115,5 +122,112 @@ fn a_window_has_its_samples_at_their_scale(rt: HostRuntime) -> Result<(), Fail> 
             bytes,
         );
     }
+    Ok(())
+}
+
+fn near(dist: u128, index: u64) -> Near {
+    Near {
+        dist: Sq(dist),
+        index,
+    }
+}
+
+fn nears(alloc: Global, found: &[Near]) -> Result<NearList, Memory> {
+    Ok(Items::from(Vec::from_slice(alloc, found)?))
+}
+
+fn places(alloc: Global, numbers: &[u64]) -> Result<Places, Memory> {
+    Ok(Items::from(Vec::from_slice(alloc, numbers)?))
+}
+
+#[test]
+fn slots_have_a_line_for_each_window(rt: HostRuntime) -> Result<(), Fail> {
+    let alloc = rt.alloc();
+    let joined: [Slot; 2] = [Some(near(0, 0)), Some(near(0, 1))];
+    let text = slots_text(alloc, 4, SlotsName::Join, &joined)?;
+    same(&rt, &text, b"join 4 2\n0 0 0\n1 0 1\n");
+    let together: [Slot; 5] = [
+        Some(near(0, 3)),
+        Some(near(0, 4)),
+        Some(near(6, 0)),
+        Some(near(0, 0)),
+        Some(near(0, 1)),
+    ];
+    let text = slots_text(alloc, 3, SlotsName::Multi, &together)?;
+    same(
+        &rt,
+        &text,
+        b"multi 3 5\n0 0 3\n1 0 4\n2 6 0\n3 0 0\n4 0 1\n",
+    );
+    let none: [Slot; 1] = [None];
+    let text = slots_text(alloc, 2, SlotsName::Join, &none)?;
+    same(&rt, &text, b"join 2 1\n0 - -\n");
+    Ok(())
+}
+
+#[test]
+fn matches_motifs_and_discords_are_listed(rt: HostRuntime) -> Result<(), Fail> {
+    let alloc = rt.alloc();
+    let found = [near(0, 0), near(0, 3)];
+    same(
+        &rt,
+        &match_text(alloc, 2, &found)?,
+        b"match 2 2\n0 0\n0 3\n",
+    );
+    let motif = Motif {
+        start: 0,
+        matches: nears(alloc, &found)?,
+    };
+    let text = motifs_text(alloc, 3, &[motif])?;
+    same(&rt, &text, b"motifs 3 1\nmotif 0 2\n0 0\n0 3\n");
+    same(&rt, &motifs_text(alloc, 4, &[])?, b"motifs 4 0\n");
+    let discord = Discord {
+        start: 4,
+        near: near(600, 6),
+    };
+    let text = discords_text(alloc, 4, &[discord])?;
+    same(&rt, &text, b"discords 4 1\n4 600 6\n");
+    Ok(())
+}
+
+#[test]
+fn chains_are_listed_by_their_starts(rt: HostRuntime) -> Result<(), Fail> {
+    let alloc = rt.alloc();
+    same(&rt, &chain_text(alloc, 4, &[0, 3])?, b"chain 4 2\n0\n3\n");
+    let chains = [
+        places(alloc, &[0, 2])?,
+        places(alloc, &[1])?,
+        places(alloc, &[3])?,
+    ];
+    let text = chains_text(alloc, 3, &chains, Some(0))?;
+    same(&rt, &text, b"chains 3 3 0\n0 2\n1\n3\n");
+    same(&rt, &chains_text(alloc, 1, &[], None)?, b"chains 1 0 -\n");
+    Ok(())
+}
+
+#[test]
+fn segments_have_fractions_as_they_stand(rt: HostRuntime) -> Result<(), Fail> {
+    let whole = Ratio::new(1, 1);
+    let curve = [whole, whole, whole, Ratio::new(0, 6)];
+    let text = segments_text(rt.alloc(), 2, &[3], &curve)?;
+    same(&rt, &text, b"segments 2 1\n3 0/6\n");
+    Ok(())
+}
+
+#[test]
+fn channels_are_compared(rt: HostRuntime) -> Result<(), Fail> {
+    let alloc = rt.alloc();
+    same(&rt, &mpdist_text(alloc, 5, Some(Sq(0)))?, b"mpdist 5 0\n");
+    same(&rt, &mpdist_text(alloc, 5, None)?, b"mpdist 5 -\n");
+    let centre = Centre {
+        radius: Sq(3),
+        series: 0,
+        start: 0,
+        nearest: nears(alloc, &[near(0, 0), near(0, 1), near(3, 0)])?,
+    };
+    let text = consensus_text(alloc, 6, Some(&centre))?;
+    same(&rt, &text, b"consensus 6 3 0 0\n0 0 0\n1 0 1\n2 3 0\n");
+    let text = consensus_text(alloc, 8, None)?;
+    same(&rt, &text, b"consensus 8 -\n");
     Ok(())
 }

@@ -1,11 +1,6 @@
-pub mod AppendLemmas
-pub mod ChannelLemmas
 pub mod EndLemmas
-pub mod LoadLemmas
-pub mod OpenLemmas
-pub mod RefLemmas
+pub mod ReadLemmas
 pub mod RunLemmas
 pub mod ServeLemmas
 pub mod StepLemmas
 pub mod UnderWay
-pub mod WordLemmas

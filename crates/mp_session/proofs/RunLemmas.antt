@@ -12,7 +12,8 @@ use Rattle.mp_replies.specs.State.{Files, State}
 use Rattle.mp_replies.specs.Step.{cause, after, fetches}
 use Rattle.mp_replies.specs.Output.{reply, replies, state_after, some_refused, some_ends, until_end}
 use Rattle.mp_replies.specs.Line.{asked_of, ends}
-use Rattle.mp_session.specs.Sessions.{Held, StandsFor, ToldFor, ToldForAll, some_fetch}
+use Rattle.mp_commands.specs.Preparing.{ToldFor}
+use Rattle.mp_session.specs.Sessions.{Held, StandsFor, ToldForAll, some_fetch}
 use Rattle.mp_session.specs.Running.{HaveRun, Course, WereRun}
 
 pub not_both : {P : Type 0} {b : Bool} → b ≡ true → b ≡ false → P

@@ -1,11 +1,13 @@
 -- What a session holds, and the states that it stands for.
-use Rattle.std.specs.Prelude.{◌≡◌, ℕ, Bool, true, false, ◌||◌, List, [], ◌∷◌, Option, Some}
-use Rattle.mp_replies.specs.Line.{Asked}
+use Rattle.std.specs.Prelude.{◌≡◌, ℕ, ◌+◌, Bool, true, false, ◌||◌, List, [], ◌∷◌, All, length, Option, Some}
+use Rattle.mp_replies.specs.Change as replies
 use Rattle.mp_replies.specs.State.{Files, State}
-use Rattle.mp_replies.specs.Step.{after, fetches, fetches_by}
+use Rattle.mp_replies.specs.Step.{after, fetches}
 use Rattle.mp_replies.specs.Words.{Setup}
-use Rattle.mp_slots.specs.Slots as slots
-use Rattle.mp_slots.specs.Slots.{stores_of}
+use Rattle.mp_slots.specs.Slots.{Stored, lists_in, stores_of}
+use Rattle.mp_commands.specs.declared.prepared.Change.{Change}
+use Rattle.mp_commands.specs.declared.prepared.Change.TheVariants.{Keep, PutChannels, AddSamples}
+use Rattle.mp_commands.specs.Preparing.{changed_by}
 
 pub record Held : Type 0 where
   pub settings : Setup
@@ -14,7 +16,7 @@ pub record Held : Type 0 where
   -- whether a command was accepted
   pub begun : Bool
   -- the eight slots
-  pub slots : List slots.Held
+  pub slots : Stored
 
 pub record StandsFor (session : Held) (state : State) : Type 0 where
   pub window_is : state.window ≡ session.settings.window
@@ -23,9 +25,22 @@ pub record StandsFor (session : Held) (state : State) : Type 0 where
   pub begun_is : state.begun ≡ session.begun
   pub stores_is : state.stores ≡ stores_of session.slots
 
--- where a line asks for a file, the shelf tells these files
-abbrev pub ToldFor : Option Files → State → Asked → Files → Type 0
-ToldFor told state asked files = fetches_by state asked ≡ true → told ≡ Some files
+-- ---- the change of a line
+
+-- the line is counted, and its change made. Reads and room are left open
+pub record HasCommitted (old new : Held) (change : Change) (accepted : Bool) : Type 0 where
+  pub settings_are : new.settings ≡ old.settings
+  pub lines_is : new.lines ≡ old.lines + 1
+  pub begun_is : new.begun ≡ (old.begun || accepted)
+  pub stores_are : stores_of new.slots ≡ replies.changed (stores_of old.slots) (changed_by change)
+
+-- so many samples are added to each channel of this slot
+abbrev pub AddsEach : Change → ℕ → ℕ → Type 0
+AddsEach Keep slot count = ⊥
+AddsEach (PutChannels at channels) slot count = ⊥
+AddsEach (AddSamples at added) slot count = (at ≡ slot) × All (λ samples. length samples ≡ count) (lists_in added.items)
+
+-- ---- files
 
 -- whether one of these lines, run one behind the other, asks for a file
 abbrev pub some_fetch : State → Files → List (List ℕ) → Bool

@@ -10,7 +10,8 @@ ghost use Rattle.mp_session.specs.Serving.{RanAll, RanEnded, RanInto, RanSome, R
 ghost use Rattle.mp_session.specs.Sessions.{StandsFor};
 
 use crate::halts::Halt;
-use crate::sessions::{Session, Stop};
+use crate::sessions::Session;
+use mp_commands::Stop;
 use mp_feed::{LineReader, Next, write_report};
 use mp_outside::{Failed, Gate, Shelf, Sink, Source};
 use std::alloc::Global;

@@ -14,10 +14,9 @@ ghost use Rattle.mp_session.specs.Statuses.{status_by};
 use crate::halts::Halt;
 use crate::runs::run_lines;
 use crate::sessions::Session;
-use crate::settings::Settings;
-use crate::words::read_words;
 use mp_feed::write_report;
 use mp_outside::{Failed, Gate, Shelf, Sink, Source};
+use mp_words::{Settings, read_words};
 use std::alloc::Global;
 use std::thread::Threads;
 
@@ -212,6 +211,6 @@ fn run_session<R: Threads + Sync, H: Shelf, S: Source, K: Sink, G: Gate>(
         → some_fetch (opening settings.window settings.scale) files (lines_run bytes) ≡ false → IsErrOf result Halt.ShelfFault → ⊥ }
     ensures files { H.files shelf.new ≡ H.files shelf.old }
 {
-    let mut session = Session::new(alloc, settings)?;
+    let mut session = Session::new(rt, alloc, settings)?;
     run_lines(&mut session, rt, alloc, shelf, input, out, gate, limit)
 }

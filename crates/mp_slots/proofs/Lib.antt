@@ -1,2 +1,4 @@
-pub mod ChannelLemmas
+pub mod ArcLemmas
+pub mod CopyLemmas
+pub mod GroupLemmas
 pub mod SlotLemmas

@@ -1,20 +1,24 @@
-//! The channels of one slot, and what is computed of one of them.
+//! One channel of a slot.
 
-ghost use Rattle.std.specs.Prelude.{◌≡◌, ◌+◌, ◌-◌, ◌*◌, ◌^◌, ◌<◌, ◌≤◌, ◌++◌, All, length, map, min, take, drop, OnOk, IfOk};
+ghost use Rattle.std.specs.Prelude.{◌≡◌, ◌+◌, ◌*◌, ◌<◌, ◌≤◌, ◌++◌, ◌∷◌, [], length, take, drop, OnOk, IfOk};
+ghost use Rattle.mp_arcs.specs.Arcs.{arcs_of, indices_of};
 ghost use Rattle.mp_defs.specs.Limits.{max_samples, max_window, min_window};
-ghost use Rattle.mp_replies.specs.Limits.{max_tile, max_workers};
 ghost use Rattle.mp_defs.specs.Profile.{matrix_profile};
 ghost use Rattle.mp_defs.specs.Series.{series_of};
-ghost use Rattle.mp_replies.specs.Change.{extended};
+ghost use Rattle.mp_defs.specs.Window.{is_free, windows};
+ghost use Rattle.mp_replies.specs.Limits.{max_tile, max_workers};
 ghost use Rattle.mp_report.specs.Profiles.{columns_in};
-ghost use Rattle.mp_slots.specs.Slots.{HaveRoom, RoomWasMade, items_in, lists_in, reads_in};
+ghost use Rattle.mp_slots.specs.Channels.{HasGrown};
 
-use mp_nums::{Memory, Sample};
-use mp_outside::Gate;
+use crate::arcs::follow;
+use mp_arcs::ArcBoard;
+use mp_nums::{Memory, Places, Sample};
+use mp_outside::{Gate, OpenGate};
 use mp_partial::Profile;
-use mp_series::Samples;
-use mp_workers::self_join;
+use mp_series::{Bundle, Samples, windows};
+use mp_stream::Stream;
 use std::alloc::Global;
+use std::marker::Model;
 use std::thread::Threads;
 
 /// How the profile of a channel is computed.
@@ -33,89 +37,169 @@ pub struct Plan {
     ghost most_workers: { workers ≤ max_workers },
 }
 
-/// How often samples were read, of all channels together. The count stays at its greatest value.
-pub(crate) fn reads_of(channels: &[Samples]) -> u128
-    ensures { result ≡ min (reads_in channels.now) (2 ^ 128 - 1) }
-{
-    let mut reads: u128 = 0;
-    for channel in channels {
-        reads = reads.saturating_add(channel.reads());
+/// A series with its profile and with the arcs between its windows and their nearest ones, which are kept as samples are
+/// appended. It is seen as its samples, its window length, how often samples were read, and how many more samples it can
+/// take without memory.
+#[derive(Debug, Drop)]
+pub struct Channel {
+    stream: Stream,
+    board: ArcBoard,
+}
+
+impl Model for Channel {
+    ghost use Rattle.std.specs.Prelude.{min};
+    ghost use Rattle.mp_slots.specs.Channels.{NameNearest};
+    ghost use Rattle.mp_stream.specs.Streams.{Streamed};
+
+    ghost Value = { Streamed };
+
+    ghost view = { λ c. record c.stream { spare = min c.stream.spare c.board.spare } };
+
+    ghost invariant = { λ c. NameNearest c.stream.m c.stream.items c.board.items };
+}
+
+impl Channel {
+    /// A copy of the series, whose profile workers compute as the plan says.
+    pub fn of<R: Threads + Sync, G: Gate>(
+        rt: &R,
+        alloc: Global,
+        series: &[Sample],
+        plan: Plan,
+        gate: &G,
+    ) -> Result<Channel, Memory>
+        requires { length series.now ≤ max_samples }
+        ensures items { IfOk result (λ channel. channel.items ≡ series.now) }
+        ensures m { IfOk result (λ channel. channel.m ≡ plan.m) }
+        ensures empty { IfOk result (λ channel. series.now ≡ [] → channel.reads ≡ 0) }
+        ensures reads { IfOk result (λ channel. channel.reads
+            ≤ length series.now * (length series.now + 2 * (plan.m + 1))) }
+    {
+        let Ok(samples) = Samples::of(alloc, series) else {
+            return Err(Memory);
+        };
+        let stream = Stream::from(rt, alloc, samples, plan.m, plan.tile, plan.workers, gate)?;
+        Channel::over(alloc, stream)
     }
-    reads
-}
 
-/// The profile, for which the samples are lent once.
-pub(crate) fn profile_of<R: Threads + Sync, G: Gate>(
-    rt: &R,
-    alloc: Global,
-    series: &mut Samples,
-    plan: Plan,
-    gate: &G,
-) -> Result<Profile, Memory>
-    ensures profile { IfOk result (λ profile. columns_in profile ≡ matrix_profile plan.m (series_of series.old.items)) }
-    ensures items { series.new.items ≡ series.old.items }
-    ensures reads_rise { series.old.reads ≤ series.new.reads }
-    ensures reads { series.new.reads ≤ series.old.reads + length series.old.items * length series.old.items }
-{
-    self_join(
-        rt,
-        alloc,
-        series.lend(),
-        plan.m,
-        plan.tile,
-        plan.workers,
-        gate,
-    )
-}
-
-/// A copy of the samples of a window, for which they are lent once.
-pub(crate) fn window_of(
-    alloc: Global,
-    series: &mut Samples,
-    start: u64,
-    m: u32,
-) -> Result<Vec<Sample>, Memory>
-    requires { start + m ≤ length series.old.items }
-    ensures window { IfOk result (λ window. window.items ≡ take m (drop start series.old.items)) }
-    ensures items { series.new.items ≡ series.old.items }
-    ensures reads_rise { series.old.reads ≤ series.new.reads }
-    ensures reads { series.new.reads ≤ series.old.reads + length series.old.items * length series.old.items }
-{
-    let first = start as usize;
-    let window = Vec::from_slice(alloc, &series.lend()[first..first + m as usize])?;
-    Ok(window)
-}
-
-/// Makes room for so many more samples in each channel.
-pub(crate) fn reserve_all(channels: &mut [Samples], more: u64) -> Result<(), Memory>
-    ensures ok { OnOk result (All (λ channel. more ≤ channel.spare) channels.new) }
-    ensures same { RoomWasMade channels.old channels.new }
-{
-    for k in 0..channels.len() {
-        channels[k].reserve(more)?;
+    /// No samples, at window length `m`.
+    pub fn empty<R: Threads + Sync>(rt: &R, alloc: Global, m: u32) -> Result<Channel, Memory>
+        requires shortest { min_window ≤ m }
+        requires longest { m ≤ max_window }
+        ensures items { IfOk result (λ channel. channel.items ≡ []) }
+        ensures m { IfOk result (λ channel. channel.m ≡ m) }
+        ensures reads { IfOk result (λ channel. channel.reads ≡ 0) }
+    {
+        let samples = Samples::new(alloc);
+        let stream = Stream::from(rt, alloc, samples, m, 1, 1, &OpenGate)?;
+        Channel::over(alloc, stream)
     }
-    Ok(())
-}
 
-/// Appends to each channel its samples, for which there is room.
-pub(crate) fn add_all(channels: &mut [Samples], added: &[Vec<Sample>])
-    requires { HaveRoom channels.old (lists_in added.now) }
-    ensures items { items_in channels.new ≡ extended (items_in channels.old) (lists_in added.now) }
-    ensures reads { map (λ channel. channel.reads) channels.new ≡ map (λ channel. channel.reads) channels.old }
-{
-    for k in 0..channels.len() {
-        add_samples(&mut channels[k], added[k].as_slice());
+    /// The stream, with the arcs of its profile.
+    fn over(alloc: Global, stream: Stream) -> Result<Channel, Memory>
+        ensures items { IfOk result (λ channel. channel.items ≡ stream.items) }
+        ensures m { IfOk result (λ channel. channel.m ≡ stream.m) }
+        ensures reads { IfOk result (λ channel. channel.reads ≡ stream.reads) }
+    {
+        let mut board = ArcBoard::new(alloc);
+        board.reserve(windows(stream.len(), stream.window()))?;
+        follow(&mut board, stream.profile().all());
+        Ok(Channel { stream, board })
+    }
+
+    /// Makes room for so many more samples.
+    pub(crate) fn reserve(&mut self, more: u64) -> Result<(), Memory>
+        ensures ok { OnOk result (more ≤ self.new.spare) }
+        ensures items { self.new.items ≡ self.old.items }
+        ensures m { self.new.m ≡ self.old.m }
+        ensures reads { self.new.reads ≡ self.old.reads }
+    {
+        self.stream.reserve(more)?;
+        self.board.reserve(more)
+    }
+
+    /// Appends the samples, for which there is room.
+    pub(crate) fn add(&mut self, samples: &[Sample])
+        requires room { length samples.now ≤ self.old.spare }
+        requires fits { length self.old.items + length samples.now ≤ max_samples }
+        ensures { HasGrown samples.now self.old self.new }
+    {
+        append_each(&mut self.stream, samples);
+        follow(&mut self.board, self.stream.profile().all());
+    }
+
+    /// The matrix profile of the samples.
+    pub(crate) fn profile(&self) -> &Profile
+        ensures { columns_in result.now ≡ matrix_profile self.now.m (series_of self.now.items) }
+    {
+        self.stream.profile()
+    }
+
+    /// How many of the arcs from each window to its nearest one pass over each place.
+    pub(crate) fn arcs(&self) -> Result<Places, Memory>
+        ensures { IfOk result (λ counts. counts.items
+            ≡ arcs_of (indices_of (matrix_profile self.now.m (series_of self.now.items)).all)) }
+    {
+        self.board.counts()
+    }
+
+    /// Whether no sample of window `i` is missing. It is no read.
+    pub(crate) fn is_free(&self, i: u64) -> bool
+        requires { i < windows (length self.now.items) self.now.m }
+        ensures { result ≡ is_free self.now.m (series_of self.now.items) i }
+    {
+        self.stream.free(i)
+    }
+
+    /// A copy of the samples of the window from `start` on, for which all are lent once.
+    pub(crate) fn window(&mut self, alloc: Global, start: u64) -> Result<Vec<Sample>, Memory>
+        requires { start + self.old.m ≤ length self.old.items }
+        ensures window { IfOk result (λ window. window.items ≡ take self.old.m (drop start self.old.items)) }
+        ensures items { self.new.items ≡ self.old.items }
+        ensures m { self.new.m ≡ self.old.m }
+        ensures reads_rise { self.old.reads ≤ self.new.reads }
+        ensures reads { self.new.reads ≤ self.old.reads + length self.old.items * length self.old.items }
+    {
+        let first = start as usize;
+        let m = self.stream.window() as usize;
+        let window = Vec::from_slice(alloc, &self.stream.lend()[first..first + m])?;
+        Ok(window)
+    }
+
+    /// Adds a copy of the samples to a bundle, for which they are lent once.
+    pub(crate) fn copy_to(&mut self, bundle: &mut Bundle) -> Result<(), Memory>
+        ensures ok { OnOk result (bundle.new ≡ bundle.old ++ self.old.items ∷ []) }
+        ensures within { length self.old.items ≤ max_samples }
+        ensures items { self.new.items ≡ self.old.items }
+        ensures m { self.new.m ≡ self.old.m }
+        ensures reads_rise { self.old.reads ≤ self.new.reads }
+        ensures reads { self.new.reads ≤ self.old.reads + length self.old.items * length self.old.items }
+    {
+        bundle.add(self.stream.lend())
+    }
+
+    /// How many samples there are.
+    pub(crate) fn len(&self) -> u64
+        ensures length { result ≡ length self.now.items }
+        ensures within { result ≤ max_samples }
+    {
+        self.stream.len()
+    }
+
+    /// How often samples were read.
+    pub(crate) fn reads(&self) -> u128
+        ensures { result ≡ self.now.reads }
+    {
+        self.stream.reads()
     }
 }
 
 /// Appends the samples, for which there is room.
-fn add_samples(series: &mut Samples, samples: &[Sample])
-    requires room { length samples.now ≤ series.old.spare }
-    requires fits { length series.old.items + length samples.now ≤ max_samples }
-    ensures items { series.new.items ≡ series.old.items ++ samples.now }
-    ensures reads { series.new.reads ≡ series.old.reads }
+fn append_each(stream: &mut Stream, samples: &[Sample])
+    requires room { length samples.now ≤ stream.old.spare }
+    requires fits { length stream.old.items + length samples.now ≤ max_samples }
+    ensures { HasGrown samples.now stream.old stream.new }
 {
     for sample in samples {
-        series.push(*sample).unwrap();
+        stream.append(*sample).unwrap();
     }
 }

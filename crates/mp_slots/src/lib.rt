@@ -1,10 +1,13 @@
-//! The slots of a session: each closed, or open with 1 to 8 channels of the same length.
+//! The slots of a session: each closed, or open with 1 to 8 channels of the same length, whose profiles and arcs grow
+//! with them.
 #![tactic(auto)]
 
+mod arcs;
 mod channels;
+mod groups;
 mod slots;
 #[cfg(test)]
 mod tests;
 
-pub use channels::Plan;
+pub use channels::{Channel, Plan};
 pub use slots::{MAX_CHANNELS, SLOTS, Slots};

@@ -27,10 +27,24 @@ pub(crate) fn check<R: Abort + AllocGlobal + Threads + Sync>(
     rt: &R,
     run: &Run<'_>,
 ) -> Result<(), Fail> {
+    let input = run.input.to_vec(rt.alloc())?;
+    let (out, status) = serve_calmly(rt, run.words, run.file, input)?;
+    assert_eq!(rt; str::from_utf8(out.bytes())?, run.output);
+    assert_eq!(rt; status, run.status, "{}", run.output);
+    Ok(())
+}
+
+/// Serves the input, and answers what was written and how the run ended.
+pub(crate) fn serve_calmly<R: Abort + AllocGlobal + Threads + Sync>(
+    rt: &R,
+    words: &str,
+    file: &[u8],
+    input: Vec<u8>,
+) -> Result<(CalmSink, Status), Fail> {
     let alloc = rt.alloc();
-    let words = split_words(alloc, run.words)?;
-    let mut shelf = shelf_with(alloc, run.file)?;
-    let mut input = CalmSource::new(run.input.to_vec(alloc)?, 65_536);
+    let words = split_words(alloc, words)?;
+    let mut shelf = shelf_with(alloc, file)?;
+    let mut input = CalmSource::new(input, 65_536);
     let mut out = CalmSink::new(alloc, ROOM)?;
     let status = serve(
         rt,
@@ -41,9 +55,7 @@ pub(crate) fn check<R: Abort + AllocGlobal + Threads + Sync>(
         &mut out,
         &OpenGate,
     );
-    assert_eq!(rt; str::from_utf8(out.bytes())?, run.output);
-    assert_eq!(rt; status, run.status, "{}", run.output);
-    Ok(())
+    Ok((out, status))
 }
 
 /// The words of a text, with one space between two.

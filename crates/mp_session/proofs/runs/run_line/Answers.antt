@@ -3,7 +3,7 @@ use Rattle.std.proofs.lemmas.Bool.{cases_Bool}
 use Rattle.mp_feed.specs.Writing.{none}
 use Rattle.mp_feed.specs.WritingLaws.{wrote_one}
 use Rattle.mp_replies.specs.Step.{fetches}
-use Rattle.mp_session.specs.Answers.{is_refused}
+use Rattle.mp_commands.specs.Answers.{is_refused}
 use Rattle.mp_session.proofs.RunLemmas.{have_run_one, have_run_stopped, told_line}
 use Rattle.mp_session.proofs.StepLemmas.{refused_kind}
 use Rattle.mp_session.proofs.runs.run_line.Goals as goal

@@ -1,10 +1,12 @@
-use Rattle.std.proofs.Common.{◌≡◌, ◌∙◌, List, length, map, set, subst, sym, ap, arith}
+use Rattle.std.proofs.Common.{◌≡◌, ◌+◌, ◌≤◌, ◌∙◌, length, set, subst, sym, ap}
 use Rattle.std.specs.Vec.{with_items}
 use Rattle.std.proofs.lemmas.List.{with_items_is}
-use Rattle.mp_series.specs.Samples.{Counted}
-use Rattle.mp_replies.specs.Change.{extended}
-use Rattle.mp_slots.specs.Slots.{AreChannels, HaveRoom, Held, items_in, lists_in, reads_in, slot_at, stores_of}
-use Rattle.mp_slots.proofs.SlotLemmas.{added_channels, added_stores, reads_everywhere, same_reads, stored_at, stored_is, stored_long, stored_slots, view, view_set}
+use Rattle.mp_slots.specs.Channels.{HaveGrown}
+use Rattle.mp_slots.specs.Slots.{AreSlots, HaveRoom, Held, Stored, lists_in, reads_in, reads_to_add}
+use Rattle.mp_slots.specs.Slots.{slot_at, stores_of}
+use Rattle.mp_slots.proofs.GroupLemmas.{HaveRisen, extended_from}
+use Rattle.mp_slots.proofs.SlotLemmas.{AreOf, IsSlotOf, added_are, added_long, added_risen, added_stores, slot_other}
+use Rattle.mp_slots.proofs.SlotLemmas.{slot_set, slots_set, stored_set, stored_slot, view, with_slot}
 use Rattle.mp_slots.proofs.slots.Slots.add.Goals as goal
 
 -- the vector that was lent keeps its length
@@ -15,57 +17,83 @@ same_channels c =
     (c.add_all.auto.channels ∙ (ap length c.as_mut_slice.ensures.value ∙ sym c.index_mut.result.now.ok.0))
 
 abbrev seen : (c : goal.After-self-1)
-    → view (set c.self.inside.stored.items c.args.slot (with_items c.index_mut.result.now c.add_all.new.channels))
-    ≡ set c.args.self.now c.args.slot c.add_all.new.channels
+    → view c.self.inside.m
+    (set c.self.inside.stored.items c.args.slot (with_items c.index_mut.result.now c.add_all.new.channels))
+    ≡ with_slot c.args.self.now c.args.slot c.add_all.new.channels
 seen c =
-    view_set c.self.inside.stored.items c.args.slot (with_items c.index_mut.result.now c.add_all.new.channels)
-    ∙ (ap (λ (h : Held). set (view c.self.inside.stored.items) c.args.slot h) (same_channels c)
-    ∙ ap (λ (s : List Held). set s c.args.slot c.add_all.new.channels) c.self.view_is)
-
-abbrev held : (c : goal.After-self-1) → c.as_mut_slice.result.now ≡ slot_at c.args.self.now c.args.slot
-held c =
-    let long = stored_long c.self.inside.stored.items c.self.invariant in
-    c.as_mut_slice.ensures.value
-    ∙ (stored_at c.self.inside.stored.items c.args.slot c.index_mut.result.now (omega (arith, long, c.requires.slot))
-    c.index_mut.ensures.value
-    ∙ ap (λ (s : List Held). slot_at s c.args.slot) c.self.view_is)
-
-abbrev items_are : (c : goal.After-self-1)
-    → items_in c.add_all.new.channels
-    ≡ extended (items_in (slot_at c.args.self.now c.args.slot)) (lists_in c.args.added.now)
-items_are c = c.add_all.ensures.items ∙ ap (λ (h : Held). extended (items_in h) (lists_in c.args.added.now)) (held c)
+    stored_set c.self.inside.m c.self.inside.stored.items c.args.self.now c.args.slot
+    (with_items c.index_mut.result.now c.add_all.new.channels) c.self.view_is
+    ∙ ap (λ (h : Held). with_slot c.args.self.now c.args.slot h) (same_channels c)
 
 pub add_all-requires : goal.add_all-requires
 add_all-requires c =
-    let long = stored_long c.self.inside.stored.items c.self.invariant in
-    let is =
-    c.as_mut_slice.ensures.value
-    ∙ (stored_at c.self.inside.stored.items c.args.slot c.index_mut.result.now
-    (omega (arith, long, c.requires.slot)) c.index_mut.ensures.value
-    ∙ ap (λ (s : List Held). slot_at s c.args.slot) c.self.view_is) in
-    subst (λ (h : Held). HaveRoom h (lists_in c.args.added.now)) (sym is) c.requires.room
+    let held =
+    stored_slot c.self.inside.m c.self.inside.stored.items c.args.self.now c.args.slot c.index_mut.result.now
+    c.self.view_is c.self.invariant c.requires.slot c.index_mut.ensures.value in
+    subst (λ (h : Held). HaveRoom h (lists_in c.args.added.now)) (sym (c.as_mut_slice.ensures.value ∙ held.is))
+    c.requires.room
+
+abbrev held : (c : goal.After-self-1) → IsSlotOf c.args.self.now c.args.slot c.index_mut.result.now
+held c =
+    stored_slot c.self.inside.m c.self.inside.stored.items c.args.self.now c.args.slot c.index_mut.result.now
+    c.self.view_is c.self.invariant c.requires.slot c.index_mut.ensures.value
+
+abbrev are : (c : goal.After-self-1) → AreSlots c.args.self.now
+are c = subst AreSlots c.self.view_is c.self.invariant
+
+abbrev before : (c : goal.After-self-1) → AreOf c.args.self.now.m (slot_at c.args.self.now c.args.slot)
+before c = subst (AreOf c.args.self.now.m) (held c).is (held c).are
+
+abbrev grown : (c : goal.After-self-1)
+    → HaveGrown (lists_in c.args.added.now) (slot_at c.args.self.now c.args.slot) c.add_all.new.channels
+grown c =
+    subst (λ (h : Held). HaveGrown (lists_in c.args.added.now) h c.add_all.new.channels)
+    (c.as_mut_slice.ensures.value ∙ (held c).is) c.add_all.ensures
 
 pub invariant_of-self : goal.invariant_of-self
 invariant_of-self c =
-    let are =
-    subst AreChannels (sym c.as_mut_slice.ensures.value ∙ held c)
-    (stored_is c.self.inside.stored.items c.args.slot c.index_mut.result.now c.self.invariant c.requires.slot
-    c.index_mut.ensures.value) in
-    stored_slots c.self.inside.stored.items c.args.slot (with_items c.index_mut.result.now c.add_all.new.channels)
-    c.self.invariant
-    (subst AreChannels (sym (same_channels c))
-    (added_channels (slot_at c.args.self.now c.args.slot) c.add_all.new.channels (lists_in c.args.added.now)
-    c.requires.room c.requires.same are (items_are c)))
+    subst AreSlots (sym (seen c))
+    (slots_set c.args.self.now c.args.slot c.add_all.new.channels (are c)
+    (added_are c.args.self.now.m (slot_at c.args.self.now c.args.slot) c.add_all.new.channels
+    (lists_in c.args.added.now) c.requires.room c.requires.same (before c) (grown c)))
 
 pub returns-clause-stores : goal.returns-clause-stores
 returns-clause-stores c =
+    let old = slot_at c.args.self.now c.args.slot in
+    let lists = lists_in c.args.added.now in
     ap stores_of (seen c)
-    ∙ added_stores c.args.self.now c.args.slot c.add_all.new.channels (lists_in c.args.added.now) c.requires.open
-    (c.add_all.auto.channels ∙ ap length (held c)) (items_are c)
+    ∙ added_stores c.args.self.now c.args.slot c.add_all.new.channels lists c.requires.open (grown c).count
+    (extended_from old c.add_all.new.channels lists (added_long old lists c.requires.room) (grown c))
+
+abbrev new_slot : (c : goal.After-self-1)
+    → slot_at (view c.self.inside.m
+    (set c.self.inside.stored.items c.args.slot (with_items c.index_mut.result.now c.add_all.new.channels)))
+    c.args.slot
+    ≡ c.add_all.new.channels
+new_slot c =
+    ap (λ (s : Stored). slot_at s c.args.slot) (seen c)
+    ∙ slot_set c.args.self.now c.args.slot c.add_all.new.channels (are c) c.requires.slot
+
+abbrev risen : (c : goal.After-self-1)
+    → HaveRisen (slot_at c.args.self.now c.args.slot) c.add_all.new.channels
+    (reads_to_add c.args.self.now c.args.slot (lists_in c.args.added.now))
+risen c =
+    added_risen c.args.self.now c.args.slot c.add_all.new.channels (lists_in c.args.added.now) c.requires.room
+    c.requires.same (before c) (grown c)
+
+pub returns-clause-reads_rise : goal.returns-clause-reads_rise
+returns-clause-reads_rise c =
+    subst (λ (h : Held). reads_in (slot_at c.args.self.now c.args.slot) ≤ reads_in h) (sym (new_slot c)) (risen c).rise
 
 pub returns-clause-reads : goal.returns-clause-reads
-returns-clause-reads c = λ other.
-    ap (λ (s : List Held). reads_in (slot_at s other)) (seen c)
-    ∙ reads_everywhere c.args.self.now c.args.slot other c.add_all.new.channels
-    (same_reads (slot_at c.args.self.now c.args.slot) c.add_all.new.channels
-    (c.add_all.ensures.reads ∙ ap (λ (h : Held). map (λ (x : Counted). x.reads) h) (held c)))
+returns-clause-reads c =
+    subst (λ (h : Held).
+    reads_in h
+    ≤ reads_in (slot_at c.args.self.now c.args.slot)
+    + reads_to_add c.args.self.now c.args.slot (lists_in c.args.added.now))
+    (sym (new_slot c)) (risen c).most_reads
+
+pub returns-clause-others : goal.returns-clause-others
+returns-clause-others c = λ other apart.
+    ap (λ (s : Stored). slot_at s other) (seen c)
+    ∙ slot_other c.args.self.now c.args.slot other c.add_all.new.channels apart

@@ -1,61 +1,70 @@
-use Rattle.std.proofs.Common.{◌≡◌, ◌<◌, ◌≤◌, ◌+◌, ◌∙◌, ◌*◌, List, length, set, subst, sym, ap, arith}
-use Rattle.std.proofs.lemmas.List.{length-map}
-use Rattle.mp_defs.specs.Series.{reading_of}
-use Rattle.mp_series.specs.Samples.{Counted}
-use Rattle.mp_slots.specs.Slots.{Held, WasRead, channel_at, slot_at}
-use Rattle.mp_slots.proofs.SlotLemmas.{copied, channels_like, items_kept, stored_at, stored_channel, stored_is, stored_long, stored_slots, view, view_set, was_lent}
+use Rattle.std.proofs.Common.{◌*◌, arith, length, refl, set, subst, sym}
+use Rattle.mp_stream.specs.Streams.{Streamed}
+use Rattle.mp_slots.specs.Slots.{AreSlots, Stored, WasRead, channel_at, slot_at}
+use Rattle.mp_slots.proofs.SlotLemmas.{IsChannelOf, IsRead, IsSlotOf, copied, read_is, seen_read, slots_set}
+use Rattle.mp_slots.proofs.SlotLemmas.{stored_channel, stored_slot, was_read}
 use Rattle.mp_slots.proofs.slots.Slots.window.Goals as goal
+
+abbrev held : (c : goal.After-self-1) → IsSlotOf c.args.self.now c.args.at.slot c.index_mut.result.now
+held c =
+    stored_slot c.self.inside.m c.self.inside.stored.items c.args.self.now c.args.at.slot c.index_mut.result.now
+    c.self.view_is c.self.invariant c.requires.slot c.index_mut.ensures.value
+
+abbrev channel : (c : goal.After-self-1) → IsChannelOf c.args.self.now c.args.at c.index_mut-channel.result.now
+channel c =
+    stored_channel c.args.self.now c.args.at c.index_mut.result.now c.index_mut-channel.result.now (held c)
+    c.requires.channel c.index_mut-channel.ensures.value
+
+abbrev are : (c : goal.After-self-1) → AreSlots c.args.self.now
+are c = subst AreSlots c.self.view_is c.self.invariant
+
+abbrev read : (c : goal.After-self-1) → IsRead (channel_at c.args.self.now c.args.at) c.window.new.self
+    (length (channel_at c.args.self.now c.args.at).items * length (channel_at c.args.self.now c.args.at).items)
+read c =
+    subst (λ (x : Streamed). IsRead x c.window.new.self (length x.items * length x.items)) (channel c).is
+    (record {
+      items_are = c.window.ensures.items;
+      window_is = c.window.ensures.m;
+      rise = c.window.ensures.reads_rise;
+      most_reads = c.window.ensures.reads;
+    })
 
 pub invariant_of-self : goal.invariant_of-self
 invariant_of-self c =
-    let v = c.index_mut.result.now in
-    let k = c.args.at.channel in
-    stored_slots c.self.inside.stored.items c.args.at.slot _ c.self.invariant
-    (channels_like v.items (set v.items k c.window_of.new.series)
-    (items_kept v.items k c.window_of.new.series c.index_mut-series.result.now
-    (c.window_of.ensures.items ∙ ap (λ (s : Counted). s.items) c.index_mut-series.ensures.value))
-    (stored_is c.self.inside.stored.items c.args.at.slot v c.self.invariant c.requires.slot
-    c.index_mut.ensures.value))
+    let seen =
+    seen_read c.self.inside.m c.self.inside.stored.items c.args.self.now c.args.at c.index_mut.result.now _
+    c.window.new.self c.self.view_is (held c) refl in
+    subst AreSlots (sym seen)
+    (slots_set c.args.self.now c.args.at.slot
+    (set (slot_at c.args.self.now c.args.at.slot) c.args.at.channel c.window.new.self)
+    (are c)
+    (read_is c.args.self.now c.args.at c.window.new.self
+    (length (channel_at c.args.self.now c.args.at).items * length (channel_at c.args.self.now c.args.at).items)
+    (are c) c.requires.slot c.requires.channel (read c)))
 
 pub returns-clause-read : goal.returns-clause-read
 returns-clause-read c =
-    let stored = c.self.inside.stored.items in
-    let v = c.index_mut.result.now in
-    let at = c.args.at in
-    let new = c.window_of.new.series in
-    let long = stored_long stored c.self.invariant in
-    let is : v.items ≡ slot_at c.args.self.now at.slot =
-    stored_at stored at.slot v (omega (arith, long, c.requires.slot)) c.index_mut.ensures.value
-    ∙ ap (λ (s : List Held). slot_at s at.slot) c.self.view_is in
-    let e : view (set stored at.slot _) ≡ set c.args.self.now at.slot (set v.items at.channel new) =
-    view_set stored at.slot _ ∙ ap (λ (s : List Held). set s at.slot (set v.items at.channel new)) c.self.view_is in
-    let within : at.slot < length c.args.self.now =
-    omega (arith, ap length c.self.view_is, c.self.invariant.count, c.requires.slot) in
-    subst (λ (s : List Held).
-    WasRead c.args.self.now s at.slot
-    (length (channel_at c.args.self.now at).items * length (channel_at c.args.self.now at).items))
-    (sym e)
-    (was_lent c.args.self.now v.items at new c.index_mut-series.result.now is within
-    (omega (arith, ap length is, c.requires.channel))
-    (c.window_of.ensures.items ∙ ap (λ (s : Counted). s.items) c.index_mut-series.ensures.value)
-    (subst (λ (s : Counted). s.reads ≤ new.reads) c.index_mut-series.ensures.value
-    c.window_of.ensures.reads_rise)
-    (subst (λ (s : Counted). new.reads ≤ s.reads + length s.items * length s.items)
-    c.index_mut-series.ensures.value c.window_of.ensures.reads))
+    let seen =
+    seen_read c.self.inside.m c.self.inside.stored.items c.args.self.now c.args.at c.index_mut.result.now _
+    c.window.new.self c.self.view_is (held c) refl in
+    subst (λ (s : Stored).
+    WasRead c.args.self.now s c.args.at.slot
+    (length (channel_at c.args.self.now c.args.at).items * length (channel_at c.args.self.now c.args.at).items))
+    (sym seen)
+    (was_read c.args.self.now c.args.at c.window.new.self
+    (length (channel_at c.args.self.now c.args.at).items * length (channel_at c.args.self.now c.args.at).items)
+    (are c) c.requires.slot c.requires.channel (read c))
+
+pub window-requires : goal.window-requires
+window-requires c =
+    let here =
+    stored_channel c.args.self.now c.args.at c.index_mut.result.now c.index_mut-channel.result.now
+    (stored_slot c.self.inside.m c.self.inside.stored.items c.args.self.now c.args.at.slot c.index_mut.result.now
+    c.self.view_is c.self.invariant c.requires.slot c.index_mut.ensures.value)
+    c.requires.channel c.index_mut-channel.ensures.value in
+    omega (arith, c.requires.window, here.window, here.long)
 
 pub returns-clause-window : goal.returns-clause-window
 returns-clause-window c =
-    let series =
-    stored_channel c.self.inside.stored.items c.args.self.now c.args.at c.index_mut.result.now
-    c.index_mut-series.result.now c.self.view_is c.self.invariant c.requires.slot c.index_mut.ensures.value
-    c.requires.channel c.index_mut-series.ensures.value in
-    copied c.window_of.result c.args.start c.args.m c.index_mut-series.result.now.items _ series
-    c.window_of.ensures.window
-
-pub window_of-requires : goal.window_of-requires
-window_of-requires c =
-    let series =
-    stored_channel c.self.inside.stored.items c.args.self.now c.args.at c.index_mut.result.now
-    c.index_mut-series.result.now c.self.view_is c.self.invariant c.requires.slot c.index_mut.ensures.value
-    c.requires.channel c.index_mut-series.ensures.value in
-    omega (arith, c.requires.window, ap length series, length-map c.index_mut-series.result.now.items reading_of)
+    copied c.window.result c.args.start c.index_mut-channel.result.now.m c.args.self.now.m
+    c.index_mut-channel.result.now.items _ (channel c).window (channel c).series c.window.ensures.window

@@ -1,0 +1,94 @@
+-- Channels that are put into a slot.
+use Rattle.std.proofs.Common.{◌≡◌, ℕ, ◌+◌, ◌<◌, ◌≤◌, List, [], ◌∷◌, length, map, replicate, refl, ap, ◌∙◌, sym, arith, subst}
+use Rattle.std.specs.Prelude.{All, Some, slice_get, take, drop}
+use Rattle.std.proofs.lemmas.List.{length-map, take-map, drop-map}
+use Rattle.std.proofs.lemmas.List.Elements.{All-nil, All-cons, All-head, All-tail}
+use Rattle.mp_nums.specs.declared.samples.Sample.{Sample}
+use Rattle.mp_defs.specs.Limits.{max_samples}
+use Rattle.mp_defs.specs.Series.{Series, reading_of, series_of}
+use Rattle.mp_slots.specs.Slots as slots
+use Rattle.mp_slots.specs.Slots.{AreChannels, HaveWindow, count_of, items_in, series_in}
+use Rattle.mp_commands.specs.Preparing.{AreEmpty, CanPut, IsEmpty}
+
+pub empty_series : (channels : slots.Held) → AreEmpty channels → series_in channels ≡ replicate (length channels) []
+empty_series [] h = refl
+empty_series (channel ∷ channels) h =
+    ap (λ (s : Series). s ∷ series_in channels) (ap series_of (All-head IsEmpty channel channels h).items_are)
+    ∙ ap (λ (ss : List Series). [] ∷ ss) (empty_series channels (All-tail IsEmpty channel channels h))
+
+empty_items : (channels : slots.Held) → AreEmpty channels → All (λ samples. length samples ≡ 0) (items_in channels)
+empty_items [] h = All-nil (λ (samples : List Sample). length samples ≡ 0)
+empty_items (channel ∷ channels) h =
+    All-cons (λ (samples : List Sample). length samples ≡ 0) channel.items (items_in channels)
+    (ap length (All-head IsEmpty channel channels h).items_are)
+    (empty_items channels (All-tail IsEmpty channel channels h))
+
+empty_count : (channels : slots.Held) → AreEmpty channels → count_of (items_in channels) ≡ 0
+empty_count [] h = refl
+empty_count (channel ∷ channels) h = ap length (All-head IsEmpty channel channels h).items_are
+
+items_long : (channels : slots.Held) → length (items_in channels) ≡ length channels
+items_long channels = length-map channels (λ channel. channel.items)
+
+pub can_put_empty : (m slot : ℕ) (channels : slots.Held) → slot < 8 → 1 ≤ length channels → length channels ≤ 8
+    → AreEmpty channels → HaveWindow m channels → CanPut m slot channels
+can_put_empty m slot channels within some few empty window = record {
+  within = within;
+  some = some;
+  alike = record {
+    few = omega (arith, few, items_long channels);
+    same =
+        subst (λ (n : ℕ). All (λ samples. length samples ≡ n) (items_in channels)) (sym (empty_count channels empty))
+        (empty_items channels empty);
+  };
+  window = window;
+}
+
+-- ---- copies of channels
+
+first_of_all : (samples : List Sample) (list : List (List Sample)) (s : Series) (others : List Series)
+    → series_of samples ∷ map series_of list ≡ s ∷ others → series_of samples ≡ s
+first_of_all samples list s others h = cc
+
+rest_of_all : (samples : List Sample) (list : List (List Sample)) (s : Series) (others : List Series)
+    → series_of samples ∷ map series_of list ≡ s ∷ others → map series_of list ≡ others
+rest_of_all samples list s others h = cc
+
+-- the first copy is that of the first channel
+pub first_copy : (list : List (List Sample)) (copy : List Sample) (s : Series) (others : List Series)
+    → map series_of list ≡ s ∷ others → slice_get list 0 ≡ Some copy → series_of copy ≡ s
+first_copy [] copy s others h got = absurd (cc h)
+first_copy (samples ∷ list) copy s others h got =
+    let same : copy ≡ samples = cc in
+    ap series_of same ∙ first_of_all samples list s others h
+
+-- and the second that of the second
+pub second_copy : (list : List (List Sample)) (copy : List Sample) (s t : Series) (others : List Series)
+    → map series_of list ≡ s ∷ t ∷ others → slice_get list 1 ≡ Some copy → series_of copy ≡ t
+second_copy [] copy s t others h got = absurd (cc h)
+second_copy (samples ∷ list) copy s t others h got =
+    first_copy list copy t others (rest_of_all samples list s (t ∷ others) h) got
+
+-- none has more samples than a series may have
+abbrev IsSmall : List Sample → Type 0
+IsSmall samples = length samples ≤ max_samples
+
+pub first_small : (list : List (List Sample)) (copy : List Sample) → All IsSmall list
+    → slice_get list 0 ≡ Some copy → length copy ≤ max_samples
+first_small [] copy small got = absurd (cc got)
+first_small (samples ∷ list) copy small got =
+    let same : samples ≡ copy = cc in
+    subst IsSmall same (All-head IsSmall samples list small)
+
+pub second_small : (list : List (List Sample)) (copy : List Sample) → All IsSmall list
+    → slice_get list 1 ≡ Some copy → length copy ≤ max_samples
+second_small [] copy small got = absurd (cc got)
+second_small (samples ∷ list) copy small got =
+    first_small list copy (All-tail IsSmall samples list small) got
+
+-- a part of the samples has that part of their series
+pub part_of_series : (start m : ℕ) (samples : List Sample)
+    → series_of (take m (drop start samples)) ≡ take m (drop start (series_of samples))
+part_of_series start m samples =
+    sym (take-map reading_of m (drop start samples))
+    ∙ ap (take m) (sym (drop-map reading_of start samples))

@@ -1,0 +1,10 @@
+pub mod AppendLemmas
+pub mod ArcLemmas
+pub mod ChannelLemmas
+pub mod ColumnLemmas
+pub mod EndLemmas
+pub mod LoadLemmas
+pub mod OpenLemmas
+pub mod PreparingLemmas
+pub mod ReportLemmas
+pub mod StepLemmas

@@ -1,0 +1,84 @@
+use Rattle.std.proofs.Common.{◌≡◌, ◌+◌, ◌∙◌, ℕ, map, refl, ap, sym, arith}
+use Rattle.std.proofs.lemmas.List.{length-map}
+use Rattle.std.proofs.lemmas.List.Elements.{All-same}
+use Rattle.mp_defs.specs.Series.{series_of}
+use Rattle.mp_multi.specs.Multi.{multi_of}
+use Rattle.mp_replies.specs.Command as asked
+use Rattle.mp_replies.specs.MultiCommand.{multi_text}
+use Rattle.mp_replies.specs.State.{channels_at}
+use Rattle.mp_slots.specs.Slots.{IsChannel, slot_at, stores_of}
+use Rattle.mp_slots.specs.StoreLaws.{count_at}
+use Rattle.mp_stream.specs.Streams.{Streamed}
+use Rattle.mp_commands.specs.Preparing.{state_over}
+use Rattle.mp_commands.specs.Reads.{refs_of}
+use Rattle.mp_commands.proofs.ReportLemmas.{copied_channels, copies_long, each_channel, have_one_length}
+use Rattle.mp_commands.proofs.StepLemmas.{answer_accepted}
+use Rattle.mp_commands.proofs.multi_command.report_multi.Goals as goal
+
+pub copies-requires : goal.copies-requires
+copies-requires g c =
+    let held = c.args.slots.now in
+    All-same (IsChannel held) c.as_slice.result.now (refs_of held c.args.slot)
+    (c.as_slice.ensures.value ∙ c.in_ok-refs.ensures) (each_channel held c.args.slot c.in_default.ensures.slot)
+
+pub profile_of-requires-clause-one : goal.profile_of-requires-clause-one
+profile_of-requires-clause-one g c κs within =
+    let held = c.args.slots.now in
+    let copied =
+    copied_channels held c.args.slot _ _ c.in_ok-channels.channels c.as_slice.ensures.value c.in_ok-refs.ensures
+    c.in_ok-channels.ensures.series in
+    omega (arith, copies_long c.in_ok-channels.channels _ copied, count_at held c.args.slot, c.in_default.ensures.open)
+
+pub profile_of-requires-clause-few : goal.profile_of-requires-clause-few
+profile_of-requires-clause-few g c κs within =
+    let held = c.args.slots.now in
+    let copied =
+    copied_channels held c.args.slot _ _ c.in_ok-channels.channels c.as_slice.ensures.value c.in_ok-refs.ensures
+    c.in_ok-channels.ensures.series in
+    omega (
+      arith,
+      copies_long c.in_ok-channels.channels _ copied,
+      count_at held c.args.slot,
+      c.in_default.ensures.alike.few,
+      length-map (slot_at held c.args.slot) (λ (channel : Streamed). channel.items),
+    )
+
+pub profile_of-requires-clause-one_length : goal.profile_of-requires-clause-one_length
+profile_of-requires-clause-one_length g c κs within =
+    let held = c.args.slots.now in
+    have_one_length held c.args.slot c.in_ok-channels.channels c.in_default.ensures.alike
+    (copied_channels held c.args.slot _ _ c.in_ok-channels.channels c.as_slice.ensures.value c.in_ok-refs.ensures
+    c.in_ok-channels.ensures.series)
+
+pub profile_of-requires-clause-present : goal.profile_of-requires-clause-present
+profile_of-requires-clause-present g c κs within =
+    let held = c.args.slots.now in
+    let copied =
+    copied_channels held c.args.slot _ _ c.in_ok-channels.channels c.as_slice.ensures.value c.in_ok-refs.ensures
+    c.in_ok-channels.ensures.series in
+    omega (
+      arith,
+      copies_long c.in_ok-channels.channels _ copied,
+      count_at held c.args.slot,
+      c.in_default.ensures.present,
+    )
+
+pub returns-clause-ok : goal.returns-clause-ok
+returns-clause-ok g c = λ files.
+    let held = c.args.slots.now in
+    let slot = c.args.slot in
+    let k = c.args.k in
+    let line = c.args.context.lines + 1 in
+    let copied : map series_of c.in_ok-channels.channels ≡ channels_at (stores_of held) slot =
+    copied_channels held slot _ _ c.in_ok-channels.channels c.as_slice.ensures.value c.in_ok-refs.ensures
+    c.in_ok-channels.ensures.series in
+    let window : c.plan.result.m ≡ held.m = c.plan.ensures ∙ (c.window_len.ensures.m ∙ c.copies.ensures.m) in
+    let found : c.as_slice-2.result.now ≡ multi_of held.m k (channels_at (stores_of held) slot) =
+    c.as_slice-2.ensures
+    ∙ (c.in_ok-profile.ensures
+    ∙ (ap (λ (n : ℕ). multi_of n k (map series_of c.in_ok-channels.channels)) window
+    ∙ ap (multi_of held.m k) copied)) in
+    answer_accepted (state_over c.args.context held) files (asked.Multi slot k) c.in_ok-text.text
+    (sym c.in_default.ensures.cause) refl
+    (c.in_ok-text.ensures
+    ∙ (ap (λ (n : ℕ). multi_text n c.as_slice-2.result.now) c.line.ensures ∙ ap (multi_text line) found))

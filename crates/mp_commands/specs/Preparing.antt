@@ -1,0 +1,154 @@
+-- What is prepared for a line before anything changes, and the change.
+use Rattle.std.specs.Prelude.{◌≡◌, ℕ, ◌+◌, ◌<◌, ◌≤◌, ◌==◌, Bool, true, false, List, [], All, length, map, unwrap_or}
+use Rattle.std.specs.Prelude.{Option, Some, None}
+use Rattle.mp_nums.specs.declared.samples.Sample.{Sample}
+use Rattle.mp_defs.specs.Series.{series_of}
+use Rattle.mp_stream.specs.Streams.{Streamed}
+use Rattle.mp_text.specs.Table.{Fault, BadField, NoField, TooManyRows}
+use Rattle.mp_replies.specs.declared.causes.Cause.{Cause}
+use Rattle.mp_replies.specs.declared.causes.Cause.TheVariants as causes
+use Rattle.mp_replies.specs.Answer as replies
+use Rattle.mp_replies.specs.Change as change
+use Rattle.mp_replies.specs.Command as asked
+use Rattle.mp_replies.specs.Numbers.{columns}
+use Rattle.mp_replies.specs.Conditions.{first_of}
+use Rattle.mp_replies.specs.Laws.{IsWithin}
+use Rattle.mp_replies.specs.Limits.{slot_count}
+use Rattle.mp_replies.specs.Line.{Asked, Nothing, Asks, Faulty}
+use Rattle.mp_replies.specs.Report.{text_of}
+use Rattle.mp_replies.specs.State.{Files, State}
+use Rattle.mp_replies.specs.Step.{after_by, answer_by, change_in, fetches_by, state_conditions, verdict_of}
+use Rattle.mp_lines.specs.declared.commands.Command.{Command}
+use Rattle.mp_lines.specs.declared.commands.Command.TheVariants.{Blank, Open, Load, Append}
+use Rattle.mp_slots.specs.Slots.{Held, Stored, AreChannels, AreEven, HaveRoom, HaveWindow, lists_in, series_in, slot_at}
+use Rattle.mp_slots.specs.Slots.{stores_of}
+use Rattle.mp_commands.specs.declared.answers.Answer.{Answer}
+use Rattle.mp_commands.specs.declared.context.Context.{Context}
+use Rattle.mp_commands.specs.declared.load_command.Load as loads
+use Rattle.mp_commands.specs.declared.prepared.Change.{Change}
+use Rattle.mp_commands.specs.declared.prepared.Change.TheVariants.{Keep, PutChannels, AddSamples}
+use Rattle.mp_commands.specs.declared.prepared.Prepared.{Prepared}
+use Rattle.mp_commands.specs.Answers.{shown, kind_by, kind_of, is_accepted}
+
+-- the state that slots and what is known beside them stand for
+abbrev pub state_over : Context → Stored → State
+state_over context held = record {
+  window = held.m;
+  scale = context.settings.scale;
+  lines = context.lines;
+  begun = context.begun;
+  stores = stores_of held;
+}
+
+-- ---- the answer
+
+-- what the definitions answer
+abbrev pub answer_in : State → Files → Asked → replies.Answer
+answer_in state files asked = answer_by (after_by state (verdict_of state files asked)) (verdict_of state files asked)
+
+-- the program's answer is theirs, by its text and what becomes of the line
+pub record IsAnswer (state : State) (files : Files) (asked : Asked) (answer : Answer) : Type 0 where
+  pub text_is : shown (state.lines + 1) answer ≡ text_of (state.lines + 1) (answer_in state files asked)
+  pub kind_is : kind_by answer ≡ kind_of (answer_in state files asked)
+
+-- a command that nothing refuses without a file
+abbrev pub IsUnrefused : State → Asked → Type 0
+IsUnrefused state Nothing = ⊥
+IsUnrefused state (Faulty cause) = ⊥
+IsUnrefused state (Asks command) = first_of (state_conditions state command) ≡ None
+
+-- where a line asks for a file, the shelf tells these files
+abbrev pub ToldFor : Option Files → State → Asked → Files → Type 0
+ToldFor told state asked files = fetches_by state asked ≡ true → told ≡ Some files
+
+-- ---- the change
+
+abbrev pub changed_by : Change → change.Change
+changed_by Keep = change.Keep
+changed_by (PutChannels slot channels) = change.PutChannels slot (series_in channels.items)
+changed_by (AddSamples slot added) = change.AddSamples slot (map series_of (lists_in added.items))
+
+-- what was prepared for a line: its answer, and its change
+pub record IsPrepared (state : State) (files : Files) (asked : Asked) (prepared : Prepared) : Type 0 where
+  pub answer_is : IsAnswer state files asked prepared.answer
+  pub change_is : changed_by prepared.change ≡ change_in (verdict_of state files asked)
+
+-- whether a change puts channels into a slot
+abbrev pub puts : Change → ℕ → Bool
+puts Keep slot = false
+puts (PutChannels at channels) slot = slot == at
+puts (AddSamples at added) slot = false
+
+-- whether it adds samples to a slot
+abbrev pub adds : Change → ℕ → Bool
+adds Keep slot = false
+adds (PutChannels at channels) slot = false
+adds (AddSamples at added) slot = slot == at
+
+-- samples are added by an append alone, as many to each channel as it has items
+abbrev pub AddsAsAsked : Asked → Change → Type 0
+AddsAsAsked line Keep = Unit {0}
+AddsAsAsked line (PutChannels slot channels) = Unit {0}
+AddsAsAsked (Asks (asked.Append at items)) (AddSamples slot added) =
+    (slot ≡ at) × All (λ samples. length samples ≡ length items) (lists_in added.items)
+AddsAsAsked other (AddSamples slot added) = ⊥
+
+-- nothing is changed where the line isn't accepted
+abbrev pub KeepsUnlessAccepted : Prepared → Type 0
+KeepsUnlessAccepted prepared = is_accepted (kind_by prepared.answer) ≡ false → prepared.change ≡ Keep
+
+-- ---- commands that only report
+
+abbrev pub OnlyReports : Command → Type 0
+OnlyReports Blank = ⊥
+OnlyReports (Open slot channels) = ⊥
+OnlyReports (Load slot file columns header) = ⊥
+OnlyReports (Append slot items) = ⊥
+OnlyReports other = Unit {0}
+
+-- the numbers of a command lie within their limits
+abbrev pub IsWithinLimits : Asked → Type 0
+IsWithinLimits Nothing = Unit {0}
+IsWithinLimits (Faulty cause) = Unit {0}
+IsWithinLimits (Asks command) = IsWithin command
+
+-- ---- a load
+
+-- why a table with this fault is refused
+abbrev pub cause_by : Fault → Cause
+cause_by (BadField number column fault) = causes.Record number
+cause_by (NoField number column) = causes.Record number
+cause_by TooManyRows = causes.Rows
+
+abbrev pub asks_for : loads.Load → Asked
+asks_for load = Asks (asked.Load load.slot load.file.now (unwrap_or (columns load.columns.field.now) []) load.header)
+
+-- ---- what is there for the change
+
+-- channels without a sample, of which nothing was read
+pub record IsEmpty (channel : Streamed) : Type 0 where
+  pub items_are : channel.items ≡ []
+  pub unread : channel.reads ≡ 0
+
+abbrev pub AreEmpty : Held → Type 0
+AreEmpty channels = All IsEmpty channels
+
+-- channels of the same length, with profiles at this window length
+pub record CanPut (m slot : ℕ) (channels : Held) : Type 0 where
+  pub within : slot < slot_count
+  pub some : 1 ≤ length channels
+  pub alike : AreChannels channels
+  pub window : HaveWindow m channels
+
+-- as many samples for each channel, for which there is room
+pub record CanAdd (held : Stored) (slot : ℕ) (added : List (List Sample)) : Type 0 where
+  pub within : slot < slot_count
+  pub is_open : 0 < length (slot_at held slot)
+  pub room : HaveRoom (slot_at held slot) added
+  pub even : AreEven added
+
+-- the change needs no memory
+abbrev pub CanMake : Stored → Change → Type 0
+CanMake held Keep = Unit {0}
+CanMake held (PutChannels slot channels) = CanPut held.m slot channels.items
+CanMake held (AddSamples slot added) = CanAdd held slot (lists_in added.items)

@@ -1,0 +1,79 @@
+-- How often a line reads samples.
+use Rattle.std.specs.Prelude.{◌≡◌, ℕ, ◌+◌, ◌*◌, ◌==◌, ◌≤◌, Bool, true, false, List, [], ◌∷◌, length, map, sum_by}
+use Rattle.std.specs.Prelude.{if◌then◌else◌}
+use Rattle.std.specs.List.{range_with_len}
+use Rattle.mp_defs.specs.Window.{windows}
+use Rattle.mp_replies.specs.declared.refs.Ref.{Ref}
+use Rattle.mp_replies.specs.Command.{OpenSlot, Load, Append, Window, Join, Multi, Match, Motifs, Mpdist, Consensus}
+use Rattle.mp_replies.specs.Line.{Asked, Asks}
+use Rattle.mp_slots.specs.Slots.{Stored, count_in, lent_once, reads_in, slot_at}
+
+-- all channels of a slot
+abbrev pub refs_of : Stored → ℕ → List Ref
+refs_of held slot =
+    map (λ channel. record { slot = slot; channel = channel }) (range_with_len 0 (length (slot_at held slot)))
+
+-- the channels whose samples a line has lent once each, for each time that it names them
+abbrev pub lends : Stored → Asked → List Ref
+lends held (Asks (Window at start)) = at ∷ []
+lends held (Asks (Join a b)) = a ∷ b ∷ []
+lends held (Asks (Mpdist a b)) = a ∷ b ∷ []
+lends held (Asks (Match at query start radius max)) = at ∷ query ∷ []
+lends held (Asks (Motifs at query)) = at ∷ []
+lends held (Asks (Multi slot k)) = refs_of held slot
+lends held (Asks (Consensus refs)) = refs
+lends held other = []
+
+-- the most reads of these channels' samples in one slot
+abbrev pub lent_in : Stored → List Ref → ℕ → ℕ
+lent_in held refs slot = sum_by (λ at. lent_once held at slot) refs
+
+-- the most reads of an append of so many items to each of a slot's channels
+abbrev pub append_reads : Stored → ℕ → ℕ → ℕ
+append_reads held slot items =
+    length (slot_at held slot) * (items * (4 * (windows (count_in (slot_at held slot) + items) held.m + held.m)))
+
+-- the most reads of a slot's samples that are made before anything changes
+abbrev pub most_lent : Stored → Asked → ℕ → ℕ
+most_lent held asked slot = lent_in held (lends held asked) slot
+
+-- and when samples are added
+abbrev pub most_added : Stored → Asked → ℕ → ℕ
+most_added held (Asks (Append at items)) slot = if slot == at then append_reads held at (length items) else 0
+most_added held other slot = 0
+
+-- the most by which a line may raise the count of reads of a slot that it puts no other channels into
+abbrev pub most_reads : Stored → Asked → ℕ → ℕ
+most_reads held asked slot = most_lent held asked slot + most_added held asked slot
+
+-- whether a line puts other channels into a slot, where it is accepted
+abbrev pub renews : Asked → ℕ → Bool
+renews (Asks (OpenSlot at channels)) slot = slot == at
+renews (Asks (Load at file columns header)) slot = slot == at
+renews other slot = false
+
+abbrev pub reads_at : Stored → ℕ → ℕ
+reads_at held slot = reads_in (slot_at held slot)
+
+-- no slot's count of reads was changed
+abbrev pub AreUnread : Stored → Stored → Type 0
+AreUnread old new = (slot : ℕ) → reads_at new slot ≡ reads_at old slot
+
+-- each slot's count of reads rose, by no more than so much
+pub record WereRead (most : ℕ → ℕ) (old new : Stored) : Type 0 where
+  pub rise : (slot : ℕ) → reads_at old slot ≤ reads_at new slot
+  pub within : (slot : ℕ) → reads_at new slot ≤ reads_at old slot + most slot
+
+-- a line that asks for nothing or is refused by itself, and one whose report stands in a profile or shows no samples
+abbrev pub is_unread : Asked → Bool
+is_unread (Asks (OpenSlot slot channels)) = false
+is_unread (Asks (Load slot file columns header)) = false
+is_unread (Asks (Append slot items)) = false
+is_unread (Asks (Window at start)) = false
+is_unread (Asks (Join a b)) = false
+is_unread (Asks (Multi slot k)) = false
+is_unread (Asks (Match at query start radius max)) = false
+is_unread (Asks (Motifs at query)) = false
+is_unread (Asks (Mpdist a b)) = false
+is_unread (Asks (Consensus refs)) = false
+is_unread other = true

@@ -1,0 +1,164 @@
+//! `append S ITEM ITEM ..`: samples behind those of each channel of a slot.
+
+ghost use Rattle.std.specs.Prelude.{◌≡◌, ◌+◌, ℕ, ◌<◌, ◌≤◌, ◌==◌, ◌∷◌, [], length, map, replicate, is_ok, Ok, Some, None, IfOk, IfErr, OnOk, OnErr, true, false};
+ghost use Rattle.mp_bytes.specs.Fields.{fields_in};
+ghost use Rattle.mp_defs.specs.Limits.{max_samples};
+ghost use Rattle.mp_defs.specs.Series.{series_of};
+ghost use Rattle.mp_replies.specs.AppendCommand.{append_conditions, bad_in, item_of, read_items as items_read, rows_in};
+ghost use Rattle.mp_replies.specs.Change.{extended};
+ghost use Rattle.mp_replies.specs.Command as asked;
+ghost use Rattle.mp_replies.specs.Conditions.{first_of};
+ghost use Rattle.mp_replies.specs.Limits.{max_scale};
+ghost use Rattle.mp_replies.specs.Line.{Asks};
+ghost use Rattle.mp_replies.specs.State.{Files, channels_at, is_closed, samples_in, store_at};
+ghost use Rattle.mp_commands.specs.Preparing.{AddsAsAsked, CanMake, IsPrepared, IsUnrefused, KeepsUnlessAccepted, puts, state_over};
+ghost use Rattle.mp_commands.specs.Reads.{AreUnread};
+ghost use Rattle.mp_slots.specs.Slots.{lists_in, stores_of};
+ghost use Rattle.mp_text.specs.Rows.{Row, columns_of};
+
+use crate::answers::Answer;
+use crate::context::Context;
+use crate::prepared::{Change, Prepared};
+use mp_bytes::{Fields, Values};
+use mp_nums::{Memory, Sample};
+use mp_replies::Cause;
+use mp_report::ok_text;
+use mp_series::MAX_SAMPLES;
+use mp_slots::Slots;
+use mp_text::read_sample;
+use std::alloc::Global;
+
+/// Takes the room for the items and reads them, where none is bad and all fit. Want of memory comes only where nothing
+/// refuses the line.
+pub(crate) fn prepare_append(
+    alloc: Global,
+    slots: &mut Slots,
+    context: Context,
+    slot: u64,
+    items: &[u8],
+) -> Result<Prepared, Memory>
+    ensures ok { (files : Files) → IfOk result (IsPrepared (state_over context slots.old) files (Asks (asked.Append slot (fields_in items.now)))) }
+    ensures memory { OnErr result (IsUnrefused (state_over context slots.old) (Asks (asked.Append slot (fields_in items.now)))) }
+    ensures can { IfOk result (λ prepared. CanMake slots.new prepared.change) }
+    ensures kept { IfOk result KeepsUnlessAccepted }
+    ensures puts { IfOk result (λ prepared. (other : ℕ) → puts prepared.change other ≡ false) }
+    ensures adds { IfOk result (λ prepared. AddsAsAsked (Asks (asked.Append slot (fields_in items.now))) prepared.change) }
+    ensures stores { stores_of slots.new ≡ stores_of slots.old }
+    ensures m { slots.new.m ≡ slots.old.m }
+    ensures unread { AreUnread slots.old slots.new }
+{
+    let form = Form {
+        scale: context.settings.scale(),
+        channels: slots.count(slot),
+    };
+    let more = match count_items(slots, form, slot, items) {
+        Ok(more) => more,
+        Err(cause) => return Ok(Prepared::refused(cause)),
+    };
+    let added = read_items(alloc, items, form, more)?;
+    slots.reserve(slot, more)?;
+    let text = ok_text(alloc, context.line(), Some(slots.len(slot) + more))?;
+    Ok(Prepared {
+        answer: Answer::Accepted(text),
+        change: Change::AddSamples { slot, added },
+    })
+}
+
+/// How the items for a slot are read.
+#[derive(Clone, Copy)]
+struct Form {
+    scale: u8,
+    /// How many values an item has.
+    channels: u64,
+}
+
+/// How many items there are, where none is bad and all fit behind the samples of the slot, or why the line is refused.
+/// It takes no memory.
+#[tactic(auto, using(mp_bytes::specs::FieldLaws::fields_within))]
+fn count_items(slots: &Slots, form: Form, slot: u64, items: &[u8]) -> Result<u64, Cause>
+    requires places { form.scale ≤ max_scale }
+    requires channels { form.channels ≡ length (channels_at (stores_of slots.now) slot) }
+    requires closed { is_closed (store_at (stores_of slots.now) slot) ≡ (form.channels == 0) }
+    ensures refused { IfErr result (λ cause. first_of (append_conditions form.scale (stores_of slots.now) slot (fields_in items.now)) ≡ Some cause) }
+    ensures fine { OnOk result (first_of (append_conditions form.scale (stores_of slots.now) slot (fields_in items.now)) ≡ None) }
+    ensures good { OnOk result (bad_in (items_read form.scale form.channels (fields_in items.now)) ≡ None) }
+    ensures count { IfOk result (λ count. count ≡ length (fields_in items.now)) }
+    ensures fits { IfOk result (λ count. samples_in (channels_at (stores_of slots.now) slot) + count ≤ max_samples) }
+    ensures open { OnOk result (0 < form.channels) }
+{
+    if form.channels == 0 {
+        return Err(Cause::Slot);
+    }
+    let mut count = 0;
+    for item in (Fields { text: items }) {
+        if !is_good(item, form) {
+            return Err(Cause::Sample(count + 1));
+        }
+        count += 1;
+    }
+    if MAX_SAMPLES - slots.len(slot) < count {
+        return Err(Cause::Full);
+    }
+    Ok(count)
+}
+
+/// Whether an item has a value for each channel, and each spells a sample.
+#[tactic(auto, using(crate::proofs::AppendLemmas::values_within))]
+fn is_good(item: &[u8], form: Form) -> bool
+    requires { form.scale ≤ max_scale }
+    ensures { (number : ℕ) → result ≡ is_ok (item_of form.scale form.channels number item.now) }
+{
+    let mut count = 0;
+    for value in Values::of(item) {
+        if read_sample(value, form.scale).is_err() {
+            return false;
+        }
+        count += 1;
+    }
+    count == form.channels
+}
+
+/// The samples of each channel, of so many items, each of which is good.
+fn read_items(
+    alloc: Global,
+    items: &[u8],
+    form: Form,
+    count: u64,
+) -> Result<Vec<Vec<Sample>>, Memory>
+    requires places { form.scale ≤ max_scale }
+    requires good { bad_in (items_read form.scale form.channels (fields_in items.now)) ≡ None }
+    ensures { IfOk result (λ added. map series_of (lists_in added.items)
+        ≡ columns_of form.channels (rows_in (items_read form.scale form.channels (fields_in items.now)))) }
+{
+    let mut added = empty_lists(alloc, form.channels, count)?;
+    for item in (Fields { text: items }) {
+        read_item(&mut added, item, form)?;
+    }
+    Ok(added)
+}
+
+/// A list without a sample for each channel, with room for `count` samples.
+fn empty_lists(alloc: Global, channels: u64, count: u64) -> Result<Vec<Vec<Sample>>, Memory>
+    ensures { IfOk result (λ lists. lists_in lists.items ≡ replicate channels []) }
+{
+    let mut lists = Vec::with_capacity(alloc, channels as usize)?;
+    for _ in 0..channels {
+        lists.push(Vec::with_capacity(alloc, count as usize)?)?;
+    }
+    Ok(lists)
+}
+
+/// Puts the samples of a good item behind the lists, one behind each.
+fn read_item(added: &mut [Vec<Sample>], item: &[u8], form: Form) -> Result<(), Memory>
+    requires places { form.scale ≤ max_scale }
+    requires lists { length added.old ≡ form.channels }
+    requires good { is_ok (item_of form.scale form.channels 0 item.now) ≡ true }
+    ensures { OnOk result ((row : Row) → item_of form.scale form.channels 0 item.now ≡ Ok row
+        → map series_of (lists_in added.new)
+        ≡ extended (map series_of (lists_in added.old)) (columns_of form.channels (row ∷ []))) }
+{
+    for (k, value) in Values::of(item).enumerate() {
+        added[k].push(read_sample(value, form.scale).unwrap())?;
+    }
+    Ok(())
+}

@@ -1,0 +1,77 @@
+//! `consensus R R ..`: the window that several channels have in common.
+
+ghost use Rattle.std.specs.Prelude.{◌≡◌, ◌≤◌, [], All, length, map, IfOk, OnErr, false, option_map, unwrap_or};
+ghost use Rattle.mp_consensus.specs.Consensus.{central, centre_of};
+ghost use Rattle.mp_defs.specs.Limits.{max_samples};
+ghost use Rattle.mp_defs.specs.Series.{series_of};
+ghost use Rattle.mp_replies.specs.Command as asked;
+ghost use Rattle.mp_replies.specs.Limits.{max_refs, min_refs};
+ghost use Rattle.mp_replies.specs.Line.{Asks};
+ghost use Rattle.mp_replies.specs.State.{Files};
+ghost use Rattle.mp_bytes.specs.Fields.{fields_in};
+ghost use Rattle.mp_replies.specs.Numbers.{refs as refs_in};
+ghost use Rattle.mp_commands.specs.Answers.{is_accepted, kind_by};
+ghost use Rattle.mp_commands.specs.Preparing.{IsAnswer, IsUnrefused, state_over};
+ghost use Rattle.mp_commands.specs.Reads.{AreUnread, WereRead, most_lent};
+ghost use Rattle.mp_slots.specs.Slots.{stores_of};
+
+use crate::answers::Answer;
+use crate::conditions::refs_cause;
+use crate::context::Context;
+use mp_consensus::consensus;
+use mp_lines::{MAX_REFS, Refs};
+use mp_nums::{Centre, Memory};
+use mp_outside::Gate;
+use mp_replies::Ref;
+use mp_report::consensus_text;
+use mp_series::Bundle;
+use mp_slots::{Plan, Slots};
+use std::alloc::Global;
+use std::thread::Threads;
+
+/// A channel may be named more than once.
+pub(crate) fn report_consensus<R: Threads + Sync, G: Gate>(
+    rt: &R,
+    alloc: Global,
+    slots: &mut Slots,
+    context: Context,
+    refs: Refs<'_>,
+    gate: &G,
+) -> Result<Answer, Memory>
+    ensures ok { (files : Files) → IfOk result (IsAnswer (state_over context slots.old) files (Asks (asked.Consensus (unwrap_or (refs_in (fields_in refs.entry.field.now)) [])))) }
+    ensures memory { OnErr result (IsUnrefused (state_over context slots.old) (Asks (asked.Consensus (unwrap_or (refs_in (fields_in refs.entry.field.now)) [])))) }
+    ensures stores { stores_of slots.new ≡ stores_of slots.old }
+    ensures m { slots.new.m ≡ slots.old.m }
+    ensures read { WereRead (most_lent slots.old (Asks (asked.Consensus (unwrap_or (refs_in (fields_in refs.entry.field.now)) [])))) slots.old slots.new }
+    ensures unread { IfOk result (λ answer. is_accepted (kind_by answer) ≡ false → AreUnread slots.old slots.new) }
+{
+    let mut room = [Ref {
+        slot: 0,
+        channel: 0,
+    }; MAX_REFS];
+    let count = refs.gather(&mut room);
+    let named = &room[..count];
+    if let Some(cause) = refs_cause(slots, named) {
+        return Ok(Answer::Refused(cause));
+    }
+    let list = slots.copies(alloc, named)?;
+    let centre = centre_of(rt, alloc, &list, context.plan(slots.window_len()), gate)?;
+    let text = consensus_text(alloc, context.line(), centre.as_ref())?;
+    Ok(Answer::Accepted(text))
+}
+
+/// Their centre.
+fn centre_of<R: Threads + Sync, G: Gate>(
+    rt: &R,
+    alloc: Global,
+    list: &Bundle,
+    plan: Plan,
+    gate: &G,
+) -> Result<Option<Centre>, Memory>
+    requires two { min_refs ≤ length list.now }
+    requires few { length list.now ≤ max_refs }
+    requires samples { All (λ samples. length samples ≤ max_samples) list.now }
+    ensures { IfOk result (λ found. option_map central found ≡ centre_of plan.m (map series_of list.now)) }
+{
+    consensus(rt, alloc, list, plan.m, plan.workers, gate)
+}

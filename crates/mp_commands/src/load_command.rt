@@ -1,0 +1,157 @@
+//! `load S FILE COL,COL`, or with `header` behind: columns of a file in place of what stood in a slot.
+
+ghost use Rattle.std.specs.Prelude.{◌≡◌, ◌==◌, ℕ, ◌<◌, ◌≤◌, [], All, length, option_map, unwrap_or, Some, None, true, false, IfOk, OnErr, IsErrOf};
+ghost use Rattle.mp_defs.specs.Limits.{max_samples};
+ghost use Rattle.mp_outside.specs.Counts.{Rose};
+ghost use Rattle.mp_replies.specs.Conditions.{first_of};
+ghost use Rattle.mp_replies.specs.Limits.{max_file, slot_count};
+ghost use Rattle.mp_replies.specs.LoadCommand.{file_in, load_conditions};
+ghost use Rattle.mp_replies.specs.Numbers.{columns as columns_of};
+ghost use Rattle.mp_replies.specs.State.{Files};
+ghost use Rattle.mp_replies.specs.Step.{fetches_by};
+ghost use Rattle.mp_commands.specs.Answers.{is_ended, kind_by};
+ghost use Rattle.mp_commands.specs.Preparing.{AddsAsAsked, CanMake, asks_for, IsPrepared, IsUnrefused, KeepsUnlessAccepted, ToldFor, cause_by, puts, state_over};
+ghost use Rattle.mp_text.specs.Table.{told};
+ghost use Rattle.mp_slots.specs.Slots.{HaveWindow, items_in, stores_of};
+
+use crate::answers::Answer;
+use crate::conditions::load_cause;
+use crate::context::Context;
+use crate::prepared::{Change, Prepared};
+use crate::replies::Stop;
+use mp_lines::Columns;
+use mp_nums::Memory;
+use mp_outside::{Gate, Shelf, ShelfAnswer};
+use mp_replies::Cause;
+use mp_report::ok_text;
+use mp_series::Bundle;
+use mp_slots::{Channel, Plan, Slots};
+use mp_text::{TableFault, read_table};
+use std::alloc::Global;
+use std::thread::Threads;
+
+/// The most bytes of a file.
+const MAX_FILE: u64 = 67_108_864;
+
+/// What a load asks for.
+#[derive(Clone, Copy, Debug)]
+pub(crate) struct Load<'a> {
+    pub(crate) slot: u64,
+    pub(crate) file: &'a [u8],
+    pub(crate) columns: Columns<'a>,
+    pub(crate) header: bool,
+}
+
+/// Fetches the file and makes its columns into channels, where the line isn't refused. The file is fetched once, and
+/// only where nothing refuses the line without it.
+pub(crate) fn prepare_load<R: Threads + Sync, H: Shelf, G: Gate>(
+    rt: &R,
+    alloc: Global,
+    slots: &Slots,
+    context: Context,
+    load: Load<'_>,
+    shelf: &mut H,
+    gate: &G,
+) -> Result<Prepared, Stop>
+    ensures ok { (files : Files) → ToldFor (H.files shelf.old) (state_over context slots.now) (asks_for load.entry) files
+        → IfOk result (IsPrepared (state_over context slots.now) files (asks_for load.entry)) }
+    ensures stop { OnErr result (IsUnrefused (state_over context slots.now) (asks_for load.entry)) }
+    ensures can { IfOk result (λ prepared. CanMake slots.now prepared.change) }
+    ensures kept { IfOk result KeepsUnlessAccepted }
+    ensures puts { IfOk result (λ prepared. (other : ℕ) → puts prepared.change other ≡ true → (other == load.entry.slot) ≡ true) }
+    ensures adds { IfOk result (λ prepared. AddsAsAsked (asks_for load.entry) prepared.change) }
+    ensures goes_on { IfOk result (λ prepared. is_ended (kind_by prepared.answer) ≡ false) }
+    ensures files { H.files shelf.new ≡ H.files shelf.old }
+    ensures fault { IsErrOf result Stop.ShelfFault → Rose (H.faults shelf.old) (H.faults shelf.new) }
+    ensures calm { ¬ IsErrOf result Stop.ShelfFault → H.faults shelf.new ≡ H.faults shelf.old }
+    ensures unfetched { fetches_by (state_over context slots.now) (asks_for load.entry) ≡ false → shelf.new ≡ shelf.old }
+    ensures no_fault { fetches_by (state_over context slots.now) (asks_for load.entry) ≡ false
+        → IsErrOf result Stop.ShelfFault → ⊥ }
+{
+    if let Some(cause) = load_cause(slots, load.slot, load.columns) {
+        return Ok(Prepared::refused(cause));
+    }
+    match shelf.fetch(alloc, load.file, MAX_FILE) {
+        Ok(bytes) => prepare_table(rt, alloc, slots, context, load, bytes.as_slice(), gate),
+        Err(ShelfAnswer::Absent) => Ok(Prepared::refused(Cause::File)),
+        Err(ShelfAnswer::TooLarge) => Ok(Prepared::refused(Cause::FileSize)),
+        Err(ShelfAnswer::Failed) => Err(Stop::ShelfFault),
+        Err(ShelfAnswer::Memory) => Err(Stop::Memory),
+    }
+}
+
+/// Makes the columns of a file's bytes into channels, where none of its records is bad.
+fn prepare_table<R: Threads + Sync, G: Gate>(
+    rt: &R,
+    alloc: Global,
+    slots: &Slots,
+    context: Context,
+    load: Load<'_>,
+    bytes: &[u8],
+    gate: &G,
+) -> Result<Prepared, Stop>
+    requires slot { load.slot < slot_count }
+    requires within { length bytes.now ≤ max_file }
+    requires unrefused { first_of (load_conditions (stores_of slots.now) load.slot (unwrap_or (columns_of load.columns.field.now) [])) ≡ None }
+    ensures ok { (files : Files) → file_in files load.entry.file.now ≡ Some bytes.now
+        → IfOk result (IsPrepared (state_over context slots.now) files (asks_for load.entry)) }
+    ensures can { IfOk result (λ prepared. CanMake slots.now prepared.change) }
+    ensures kept { IfOk result KeepsUnlessAccepted }
+    ensures puts { IfOk result (λ prepared. (other : ℕ) → puts prepared.change other ≡ true → (other == load.entry.slot) ≡ true) }
+    ensures adds { IfOk result (λ prepared. AddsAsAsked (asks_for load.entry) prepared.change) }
+    ensures goes_on { IfOk result (λ prepared. is_ended (kind_by prepared.answer) ≡ false) }
+    ensures calm { IsErrOf result Stop.ShelfFault → ⊥ }
+{
+    let columns = load.columns.read(alloc)?;
+    let scale = context.settings.scale();
+    let bundle = match read_table(alloc, bytes, columns.as_slice(), load.header, scale) {
+        Ok(bundle) => bundle,
+        Err(fault) => {
+            return match table_cause(fault) {
+                Some(cause) => Ok(Prepared::refused(cause)),
+                None => Err(Stop::Memory),
+            };
+        }
+    };
+    let channels = channels_of(rt, alloc, &bundle, context.plan(slots.window_len()), gate)?;
+    let text = ok_text(alloc, context.line(), Some(bundle.series(0).len() as u64))?;
+    Ok(Prepared {
+        answer: Answer::Accepted(text),
+        change: Change::PutChannels {
+            slot: load.slot,
+            channels,
+        },
+    })
+}
+
+/// Why a table is refused, none where there was no memory.
+fn table_cause(fault: TableFault) -> Option<Cause>
+    ensures { result ≡ option_map cause_by (told fault) }
+{
+    match fault {
+        TableFault::Record { number, .. } | TableFault::NoField { number, .. } => {
+            Some(Cause::Record(number))
+        }
+        TableFault::Rows => Some(Cause::Rows),
+        TableFault::Memory => None,
+    }
+}
+
+/// A channel for each series, with its profile.
+fn channels_of<R: Threads + Sync, G: Gate>(
+    rt: &R,
+    alloc: Global,
+    columns: &Bundle,
+    plan: Plan,
+    gate: &G,
+) -> Result<Vec<Channel>, Memory>
+    requires { All (λ series. length series ≤ max_samples) columns.now }
+    ensures items { IfOk result (λ channels. items_in channels.items ≡ columns.now) }
+    ensures window { IfOk result (λ channels. HaveWindow plan.m channels.items) }
+{
+    let mut channels = Vec::new(alloc);
+    for k in 0..columns.count() {
+        channels.push(Channel::of(rt, alloc, columns.series(k), plan, gate)?)?;
+    }
+    Ok(channels)
+}

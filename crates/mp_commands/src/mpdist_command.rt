@@ -1,0 +1,71 @@
+//! `mpdist R Q`: MPdist of two channels.
+
+ghost use Rattle.std.specs.Prelude.{◌≡◌, IfOk, OnErr, false};
+ghost use Rattle.mp_replies.specs.Command as asked;
+ghost use Rattle.mp_replies.specs.Line.{Asks};
+ghost use Rattle.mp_replies.specs.State.{Files};
+ghost use Rattle.mp_commands.specs.Answers.{is_accepted, kind_by};
+ghost use Rattle.mp_commands.specs.Preparing.{IsAnswer, IsUnrefused, state_over};
+ghost use Rattle.mp_commands.specs.Reads.{AreUnread, WereRead, most_lent};
+ghost use Rattle.mp_slots.specs.Slots.{stores_of};
+
+use crate::answers::Answer;
+use crate::conditions::pair_cause;
+use crate::context::Context;
+use mp_mpdist::mpdist;
+use mp_nums::Memory;
+use mp_outside::Gate;
+use mp_replies::Ref;
+use mp_report::mpdist_text;
+use mp_slots::Slots;
+use mp_workers::ab_join;
+use std::alloc::Global;
+use std::thread::Threads;
+
+/// By the joins in both directions. Both may be the same channel.
+pub(crate) fn report_mpdist<R: Threads + Sync, G: Gate>(
+    rt: &R,
+    alloc: Global,
+    slots: &mut Slots,
+    context: Context,
+    a: Ref,
+    b: Ref,
+    gate: &G,
+) -> Result<Answer, Memory>
+    ensures ok { (files : Files) → IfOk result (IsAnswer (state_over context slots.old) files (Asks (asked.Mpdist a b))) }
+    ensures memory { OnErr result (IsUnrefused (state_over context slots.old) (Asks (asked.Mpdist a b))) }
+    ensures stores { stores_of slots.new ≡ stores_of slots.old }
+    ensures m { slots.new.m ≡ slots.old.m }
+    ensures read { WereRead (most_lent slots.old (Asks (asked.Mpdist a b))) slots.old slots.new }
+    ensures unread { IfOk result (λ answer. is_accepted (kind_by answer) ≡ false → AreUnread slots.old slots.new) }
+{
+    if let Some(cause) = pair_cause(slots, a, b) {
+        return Ok(Answer::Refused(cause));
+    }
+    let list = slots.copies(alloc, &[a, b])?;
+    let plan = context.plan(slots.window_len());
+    let (first, second) = (list.series(0), list.series(1));
+    let there = ab_join(
+        rt,
+        alloc,
+        first,
+        second,
+        plan.m,
+        plan.tile,
+        plan.workers,
+        gate,
+    )?;
+    let back = ab_join(
+        rt,
+        alloc,
+        second,
+        first,
+        plan.m,
+        plan.tile,
+        plan.workers,
+        gate,
+    )?;
+    let (na, nb) = (first.len() as u64, second.len() as u64);
+    let dist = mpdist(alloc, there.as_slice(), back.as_slice(), na, nb)?;
+    Ok(Answer::Accepted(mpdist_text(alloc, context.line(), dist)?))
+}

@@ -1,0 +1,101 @@
+//! `multi S K`: the multidimensional profile of a slot's channels, K of them together.
+
+ghost use Rattle.std.specs.Prelude.{◌≡◌, ◌≤◌, All, length, map, IfOk, OnErr, false};
+ghost use Rattle.mp_defs.specs.Limits.{max_samples};
+ghost use Rattle.mp_defs.specs.Series.{series_of};
+ghost use Rattle.mp_multi.specs.Conditions.{HaveOneLength};
+ghost use Rattle.mp_multi.specs.Multi.{multi_of};
+ghost use Rattle.mp_replies.specs.Command as asked;
+ghost use Rattle.mp_replies.specs.Limits.{max_channels};
+ghost use Rattle.mp_replies.specs.Line.{Asks};
+ghost use Rattle.mp_replies.specs.State.{Files};
+ghost use Rattle.mp_commands.specs.Answers.{is_accepted, kind_by};
+ghost use Rattle.mp_commands.specs.Preparing.{IsAnswer, IsUnrefused, state_over};
+ghost use Rattle.mp_commands.specs.Reads.{AreUnread, WereRead, most_lent, refs_of};
+ghost use Rattle.mp_slots.specs.Slots.{stores_of};
+
+use crate::answers::Answer;
+use crate::conditions::multi_cause;
+use crate::context::Context;
+use mp_multi::multi;
+use mp_nums::{Memory, Slots as SlotList};
+use mp_outside::Gate;
+use mp_replies::Ref;
+use mp_report::{SlotsName, slots_text};
+use mp_series::Bundle;
+use mp_slots::{Plan, Slots};
+use std::alloc::Global;
+use std::thread::Threads;
+
+pub(crate) fn report_multi<R: Threads + Sync, G: Gate>(
+    rt: &R,
+    alloc: Global,
+    slots: &mut Slots,
+    context: Context,
+    slot: u64,
+    k: u64,
+    gate: &G,
+) -> Result<Answer, Memory>
+    ensures ok { (files : Files) → IfOk result (IsAnswer (state_over context slots.old) files (Asks (asked.Multi slot k))) }
+    ensures memory { OnErr result (IsUnrefused (state_over context slots.old) (Asks (asked.Multi slot k))) }
+    ensures stores { stores_of slots.new ≡ stores_of slots.old }
+    ensures m { slots.new.m ≡ slots.old.m }
+    ensures read { WereRead (most_lent slots.old (Asks (asked.Multi slot k))) slots.old slots.new }
+    ensures unread { IfOk result (λ answer. is_accepted (kind_by answer) ≡ false → AreUnread slots.old slots.new) }
+{
+    if let Some(cause) = multi_cause(slots, slot, k) {
+        return Ok(Answer::Refused(cause));
+    }
+    let refs = channels_of(alloc, slots, slot)?;
+    let channels = slots.copies(alloc, refs.as_slice())?;
+    let profile = profile_of(
+        rt,
+        alloc,
+        &channels,
+        context.plan(slots.window_len()),
+        k,
+        gate,
+    )?;
+    let text = slots_text(alloc, context.line(), SlotsName::Multi, profile.as_slice())?;
+    Ok(Answer::Accepted(text))
+}
+
+/// The profile of all of them, K together.
+fn profile_of<R: Threads + Sync, G: Gate>(
+    rt: &R,
+    alloc: Global,
+    channels: &Bundle,
+    plan: Plan,
+    k: u64,
+    gate: &G,
+) -> Result<SlotList, Memory>
+    requires one { 1 ≤ length channels.now }
+    requires few { length channels.now ≤ max_channels }
+    requires one_length { HaveOneLength channels.now }
+    requires samples { All (λ samples. length samples ≤ max_samples) channels.now }
+    requires some { 1 ≤ k }
+    requires present { k ≤ length channels.now }
+    ensures { IfOk result (λ found. found.items ≡ multi_of plan.m k (map series_of channels.now)) }
+{
+    multi(
+        rt,
+        alloc,
+        channels,
+        plan.m,
+        k,
+        plan.tile,
+        plan.workers,
+        gate,
+    )
+}
+
+/// All channels of a slot.
+fn channels_of(alloc: Global, slots: &Slots, slot: u64) -> Result<Vec<Ref>, Memory>
+    ensures { IfOk result (λ refs. refs.items ≡ refs_of slots.now slot) }
+{
+    let mut refs = Vec::new(alloc);
+    for channel in 0..slots.count(slot) {
+        refs.push(Ref { slot, channel })?;
+    }
+    Ok(refs)
+}

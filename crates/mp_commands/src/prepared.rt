@@ -1,0 +1,46 @@
+//! What is prepared for a line before it changes anything.
+
+ghost use Rattle.std.specs.Prelude.{◌≡◌};
+
+use crate::answers::Answer;
+use mp_nums::Sample;
+use mp_replies::Cause;
+use mp_slots::Channel;
+
+/// What an accepted line changes in the slots. All memory for it is there.
+#[derive(Debug, Drop)]
+pub enum Change {
+    Keep,
+    /// Channels in place of what stood in a slot.
+    PutChannels { slot: u64, channels: Vec<Channel> },
+    /// Samples behind those of each channel of a slot.
+    AddSamples { slot: u64, added: Vec<Vec<Sample>> },
+}
+
+/// The answer to a line, and its change.
+#[derive(Debug, Drop)]
+pub struct Prepared {
+    pub answer: Answer,
+    pub change: Change,
+}
+
+impl Prepared {
+    /// An answer that changes no slot.
+    pub(crate) fn keeping(answer: Answer) -> Prepared
+        ensures answer { result.answer ≡ answer }
+        ensures change { result.change ≡ Change.Keep }
+    {
+        Prepared {
+            answer,
+            change: Change::Keep,
+        }
+    }
+
+    /// The refusal of a line.
+    pub(crate) fn refused(cause: Cause) -> Prepared
+        ensures answer { result.answer ≡ Answer.Refused cause }
+        ensures change { result.change ≡ Change.Keep }
+    {
+        Prepared::keeping(Answer::Refused(cause))
+    }
+}

@@ -1,0 +1,24 @@
+//! `chain R J`: the chain from one window of a channel.
+
+ghost use Rattle.std.specs.Prelude.{◌≡◌};
+ghost use Rattle.mp_bytes.specs.Fields.{fields_in};
+ghost use Rattle.mp_replies.specs.Line.{asks, by_form, chain_form};
+ghost use Rattle.mp_lines.specs.Lines.{read_as};
+
+use crate::commands::{Command, LineFault};
+use crate::numbers::{read_ref, read_u64};
+use mp_bytes::Fields;
+
+/// Reads what stands behind the word.
+pub(crate) fn parse_chain(mut fields: Fields<'_>) -> Result<Command<'_>, LineFault>
+    ensures { read_as result ≡ asks (by_form chain_form (fields_in fields.entry.text.now)) }
+{
+    let at = fields.next().ok_or(LineFault::Fields)?;
+    let start = fields.next().ok_or(LineFault::Fields)?;
+    if fields.next().is_some() {
+        return Err(LineFault::Fields);
+    }
+    let at = read_ref(at).ok_or(LineFault::Number)?;
+    let start = read_u64(start).ok_or(LineFault::Number)?;
+    Ok(Command::Chain { at, start })
+}

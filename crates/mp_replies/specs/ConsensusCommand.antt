@@ -1,0 +1,43 @@
+-- `consensus R R ..`: the window that several channels have in common.
+use Rattle.std.specs.Prelude.{ℕ, ◌+◌, Bool, ◌&&◌, nat_le, List, [], ◌∷◌, ◌++◌, length, map, codes, decimal, flat_map}
+use Rattle.std.specs.Prelude.{Option, Some, None, option_map}
+use Rattle.std.specs.List.{enumerate_from}
+use Rattle.mp_nums.specs.declared.nearest.Near.{Near}
+use Rattle.mp_consensus.specs.Consensus.{Central, centre_of}
+use Rattle.mp_replies.specs.Answer.{Report, ConsensusReport}
+use Rattle.mp_replies.specs.Command.{Command, Consensus}
+use Rattle.mp_replies.specs.Conditions.{Condition, no_slots, no_channels}
+use Rattle.mp_replies.specs.Limits.{min_refs, max_refs}
+use Rattle.mp_replies.specs.Numbers.{refs}
+use Rattle.mp_replies.specs.declared.refs.Ref.{Ref}
+use Rattle.mp_replies.specs.State.{State, Store, series_at}
+use Rattle.mp_replies.specs.Text.{near_text}
+
+-- 2 to 64 refs behind the word
+abbrev pub consensus_fits : List (List ℕ) → Bool
+consensus_fits others = nat_le min_refs (length others) && nat_le (length others) max_refs
+
+-- what the fields behind the word ask for
+abbrev pub consensus_of : List (List ℕ) → Option Command
+consensus_of others = option_map (λ (list : List Ref). Consensus list) (refs others)
+
+abbrev pub consensus_conditions : List Store → List Ref → List Condition
+consensus_conditions stores list = no_slots stores list ∷ no_channels stores list ∷ []
+
+-- ---- the report
+
+abbrev pub consensus_report : State → List Ref → Report
+consensus_report state list = ConsensusReport (centre_of state.window (map (series_at state.stores) list))
+
+-- at a place of the list, counted from 0, the nearest window there
+abbrev pub place_near_text : ℕ × Near → List ℕ
+place_near_text (place, near) = decimal place ++ codes " " ++ near_text near
+
+abbrev pub centre_text : Option Central → List ℕ
+centre_text None = codes "-\n"
+centre_text (Some centre) =
+    decimal centre.radius ++ codes " " ++ decimal centre.series ++ codes " " ++ decimal centre.start ++ codes "\n"
+    ++ flat_map place_near_text (enumerate_from 0 centre.nearest)
+
+abbrev pub consensus_text : ℕ → Option Central → List ℕ
+consensus_text line centre = codes "consensus " ++ decimal line ++ codes " " ++ centre_text centre

@@ -1,0 +1,55 @@
+-- `segments R COUNT FACTOR`: the places where a channel changes its regime.
+use Rattle.std.specs.Prelude.{ℕ, ◌*◌, List, [], ◌∷◌, ◌++◌, length, slice_index_or, codes, decimal, flat_map}
+use Rattle.std.specs.Prelude.{Option, None, option_map}
+use Rattle.mp_nums.specs.declared.nearest.Near.{Near}
+use Rattle.mp_arcs.specs.Arcs.{arcs_of, indices_of}
+use Rattle.mp_arcs.specs.Curve.{curve_of, whole}
+use Rattle.mp_arcs.specs.Regimes.{regimes_in}
+use Rattle.mp_defs.specs.Profile.{matrix_profile}
+use Rattle.mp_replies.specs.Answer.{Report, SegmentsReport}
+use Rattle.mp_replies.specs.Command.{Command, Segments}
+use Rattle.mp_replies.specs.Conditions.{Condition, no_slot, no_channel}
+use Rattle.mp_replies.specs.Numbers.{count, factor, ref, with_next}
+use Rattle.mp_replies.specs.declared.refs.Ref.{Ref}
+use Rattle.mp_replies.specs.State.{State, Store, series_at}
+
+abbrev pub segments_by : Ref → ℕ → ℕ → Command
+segments_by at most lengths = Segments at most lengths
+
+-- what three fields behind the word ask for
+abbrev pub segments_of : List (List ℕ) → Option Command
+segments_of (at ∷ most ∷ lengths ∷ []) =
+    with_next (with_next (option_map segments_by (ref at)) (count most)) (factor lengths)
+segments_of others = None
+
+abbrev pub segments_conditions : List Store → Ref → List Condition
+segments_conditions stores at = no_slot stores at.slot ∷ no_channel stores at ∷ []
+
+-- ---- the report
+
+-- the corrected curve of the arcs of a column, with a margin of so many window lengths
+abbrev pub curve_in : ℕ → List (Option Near) → ℕ → List (ℕ × ℕ)
+curve_in m column lengths = curve_of (arcs_of (indices_of column)) m lengths
+
+-- the regimes of a curve, each with a zone of so many window lengths, and the curve that they lie on
+abbrev pub segments_in : ℕ → List (ℕ × ℕ) → ℕ → ℕ → Report
+segments_in m curve most lengths = SegmentsReport (regimes_in curve (lengths * m) most) curve
+
+abbrev pub segments_report : State → Ref → ℕ → ℕ → Report
+segments_report state at most lengths =
+    segments_in state.window
+    (curve_in state.window (matrix_profile state.window (series_at state.stores at)).all lengths) most lengths
+
+-- a fraction by its two numbers, as it stands
+abbrev pub fraction_text : ℕ × ℕ → List ℕ
+fraction_text (num, den) = decimal num ++ codes "/" ++ decimal den
+
+-- a place, with what the curve is there
+abbrev pub segment_text : List (ℕ × ℕ) → ℕ → List ℕ
+segment_text curve place =
+    decimal place ++ codes " " ++ fraction_text (slice_index_or curve place whole) ++ codes "\n"
+
+abbrev pub segments_text : ℕ → List ℕ → List (ℕ × ℕ) → List ℕ
+segments_text line places curve =
+    codes "segments " ++ decimal line ++ codes " " ++ decimal (length places) ++ codes "\n"
+    ++ flat_map (segment_text curve) places

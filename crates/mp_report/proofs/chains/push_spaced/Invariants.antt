@@ -1,0 +1,8 @@
+use Rattle.std.proofs.Common.{◌≡◌, ◌++◌, take}
+use Rattle.std.specs.Prelude.{flat_map, codes, decimal}
+use Rattle.mp_report.proofs.chains.push_spaced.Given as goal
+
+abbrev pub invariant-loop-number : goal.invariant-loop-number
+invariant-loop-number l =
+    l.text.items ≡ l.initial.text.items
+    ++ flat_map (λ number. codes " " ++ decimal number) (take l.number-index l.numbers)

@@ -1,0 +1,33 @@
+-- What a channel keeps of its arcs, and what it becomes as samples are added.
+use Rattle.std.specs.Prelude.{◌≡◌, ℕ, ◌+◌, ◌*◌, ◌<◌, ◌≤◌, List, [], ◌++◌, length, slice_index_or, Option}
+use Rattle.mp_nums.specs.declared.samples.Sample.{Sample}
+use Rattle.mp_defs.specs.Limits.{max_samples, min_window}
+use Rattle.mp_defs.specs.Series.{series_of}
+use Rattle.mp_defs.specs.Window.{windows}
+use Rattle.mp_defs.specs.Profile.{matrix_profile}
+use Rattle.mp_arcs.specs.Arcs.{indices_of}
+use Rattle.mp_slots.specs.Slots.{Held, nothing}
+use Rattle.mp_stream.specs.Streams.{Streamed}
+
+-- each window names its nearest one in the profile of the samples, of which there are not too many
+pub record NameNearest (m : ℕ) (items : List Sample) (indices : List (Option ℕ)) : Type 0 where
+  pub shortest : min_window ≤ m
+  pub within : length items ≤ max_samples
+  pub named : indices ≡ indices_of (matrix_profile m (series_of items)).all
+
+-- the most reads by which so many samples more raise a count, of a channel of n samples
+abbrev pub reads_for : ℕ → ℕ → ℕ → ℕ
+reads_for m n more = more * (4 * (windows (n + more) m + m))
+
+-- samples were added to a channel
+pub record HasGrown (samples : List Sample) (old new : Streamed) : Type 0 where
+  pub items_are : new.items ≡ old.items ++ samples
+  pub window_is : new.m ≡ old.m
+  pub rise : old.reads ≤ new.reads
+  pub most_reads : new.reads ≤ old.reads + reads_for old.m (length old.items) (length samples)
+
+-- to each channel its own
+pub record HaveGrown (added : List (List Sample)) (old new : Held) : Type 0 where
+  pub count : length new ≡ length old
+  pub each : (k : ℕ) → k < length old
+      → HasGrown (slice_index_or added k []) (slice_index_or old k nothing) (slice_index_or new k nothing)
