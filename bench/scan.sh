@@ -1,23 +1,66 @@
 #!/bin/sh
-# Nanoseconds a pair of windows at window 64: of profiles by diagonals on 4,000 and 16,000 samples and by comparing every
-# pair on 4,000, and of AB-joins by diagonals between halves of 4,000 and 16,000 samples. Needs the program: `rt run` in
-# crates/scan_bench once. Each is timed three times, and the least counts.
+# Nanoseconds a pair of windows at window 128 and tiles of 256 diagonals, each the least of three runs: of profiles by one
+# worker, by one tile after another and by four workers, and of AB-joins of two halves. The series are an electrocardiogram,
+# the same measured coarsely, with a gap in each thousand samples and spread over the whole range of 32 bits, and a made one
+# of 65,536 samples. At last, what four workers reach of what four runs of one worker reach at the same time. Needs the
+# program: `rt run` in crates/scan_bench once.
 set -eu
-program="$(dirname "$0")/../crates/scan_bench/out/scan_bench"
+here="$(dirname "$0")"
+program="$here/../crates/scan_bench/out/scan_bench"
+work="$(mktemp -d)"
+trap 'rm -rf "$work"' EXIT
 
-nanoseconds_a_pair() {
-    least=$(for _ in 1 2 3; do "$program" "$1" "$2" 64 256 timed | sed -n 's/ nanoseconds//p'; done | sort -n | head -n 1)
-    awk -v body="$1" -v samples="$2" -v least="$least" 'BEGIN {
-        windows = samples - 63
-        apart = windows - 16
-        half = samples / 2 - 63
-        pairs = body == "join" ? half * half : apart * (apart - 1) / 2
-        printf "%s %d: %.1f\n", body, samples, least / pairs
+tr -d '\r' < "$here/../crates/stored_runs/data/ecg.csv" | awk -F, 'NR > 1 { print $2 }' | head -n 16384 > "$work/ecg"
+awk '{ print int($1 / 32) }' "$work/ecg" > "$work/coarse"
+awk '{ print NR % 1000 == 500 ? "?" : $1 }' "$work/ecg" > "$work/gaps"
+awk '{ print ($1 - 1203) * 3890000 }' "$work/ecg" > "$work/wide"
+awk 'BEGIN {
+    state = 12345
+    for (i = 0; i < 65536; i++) {
+        state = (state * 1103515245 + 12345) % 2147483648
+        print int(3000 * sin(i / 20) + 1000 * sin(i / 333) + state / 2147483648 * 400)
+    }
+}' > "$work/made"
+
+# the time of one run, which is the word before the last line's end
+nanoseconds() {
+    "$program" "$2" 128 256 "$3" timed < "$work/$1" | sed -n 's/ nanoseconds$//p'
+}
+
+# the pairs that are compared
+pairs() {
+    awk -v samples="$(wc -l < "$work/$1")" -v body="$2" 'BEGIN {
+        windows = samples - 127
+        half = samples / 2 - 127
+        print body == "join" ? half * half : (windows - 32) * (windows - 33) / 2
     }'
 }
 
-nanoseconds_a_pair tiles 4000
-nanoseconds_a_pair tiles 16000
-nanoseconds_a_pair pairs 4000
-nanoseconds_a_pair join 4000
-nanoseconds_a_pair join 16000
+nanoseconds_a_pair() {
+    least=$(for _ in 1 2 3; do nanoseconds "$1" "$2" "$3"; done | sort -n | head -n 1)
+    awk -v least="$least" -v pairs="$(pairs "$1" "$2")" -v name="$1, $2, workers: $3" \
+        'BEGIN { printf "%s: %.2f\n", name, least / pairs }'
+}
+
+for series in ecg coarse gaps wide made; do
+    nanoseconds_a_pair "$series" workers 1
+done
+nanoseconds_a_pair ecg tiles 1
+nanoseconds_a_pair ecg join 1
+nanoseconds_a_pair ecg workers 4
+nanoseconds_a_pair made workers 4
+
+together() {
+    for k in 1 2 3 4; do
+        nanoseconds "$1" workers 1 > "$work/time.$k" &
+    done
+    wait
+    cat "$work"/time.* | sort -n | tail -n 1
+}
+
+for series in ecg made; do
+    four_runs=$(for _ in 1 2 3; do together "$series"; done | sort -n | head -n 1)
+    four_workers=$(for _ in 1 2 3; do nanoseconds "$series" workers 4; done | sort -n | head -n 1)
+    awk -v runs="$four_runs" -v workers="$four_workers" -v series="$series" \
+        'BEGIN { printf "%s, four workers by four runs: %.2f\n", series, runs / (4 * workers) }'
+done

@@ -1,26 +1,56 @@
-//! The two ways to compute a profile, and the AB-join.
+//! The ways to compute a profile, and the AB-join.
 
 ghost use Rattle.std.specs.Prelude.{◌≤◌, length};
 ghost use Rattle.mp_series.specs.declared.limits.TheConstants.{MAX_SAMPLES, MAX_WINDOW, MIN_WINDOW};
+ghost use Rattle.mp_claims.specs.declared.boards.TheConstants.{MAX_WORKERS};
 ghost use Rattle.mp_tiles.specs.declared.cuts.TheConstants.{MAX_TILE};
 
-use crate::words::Words;
+use crate::words::{Body, Words};
 use mp_nums::{Memory, Sample, Slot};
-use std::alloc::Global;
+use mp_outside::OpenGate;
+use mp_partial::Profile;
+use mp_workers::{ab_join, self_join};
+use std::thread::Threads;
 
-/// A number that tells two profiles apart, but for chance: that of the profile by tiles.
-pub fn sum_by_tiles(alloc: Global, words: &Words, samples: &[Sample]) -> Result<u128, Memory>
+/// A number that tells what is found from something else, but for chance.
+pub fn sum<R: AllocGlobal + Threads + Sync>(
+    rt: &R,
+    words: &Words,
+    samples: &[Sample],
+) -> Result<u128, Memory>
     requires { length samples.now ≤ MAX_SAMPLES }
 {
-    let profile = mp_tiles::profile(alloc, samples, words.window, words.tile)?;
-    Ok(sum_of_columns(profile.all(), profile.left(), profile.right()))
+    match words.body {
+        Body::Workers | Body::Each => sum_by_workers(rt, words, samples),
+        Body::Tiles => sum_by_tiles(rt, words, samples),
+        Body::Pairs => sum_by_pairs(rt, words, samples),
+        Body::Join => sum_of_join(rt, words, samples),
+    }
 }
 
-/// The same of the profile by comparing every pair of windows.
-pub fn sum_by_pairs(alloc: Global, words: &Words, samples: &[Sample]) -> Result<u128, Memory>
+fn sum_by_workers<R: AllocGlobal + Threads + Sync>(
+    rt: &R,
+    words: &Words,
+    samples: &[Sample],
+) -> Result<u128, Memory>
     requires { length samples.now ≤ MAX_SAMPLES }
 {
-    let columns = mp_plain::profile(alloc, samples, words.window)?;
+    let (m, tile, workers) = (words.window, words.tile, words.workers);
+    let profile = self_join(rt, rt.alloc(), samples, m, tile, workers, &OpenGate)?;
+    Ok(sum_of_profile(&profile))
+}
+
+fn sum_by_tiles(rt: &impl AllocGlobal, words: &Words, samples: &[Sample]) -> Result<u128, Memory>
+    requires { length samples.now ≤ MAX_SAMPLES }
+{
+    let profile = mp_tiles::profile(rt.alloc(), samples, words.window, words.tile)?;
+    Ok(sum_of_profile(&profile))
+}
+
+fn sum_by_pairs(rt: &impl AllocGlobal, words: &Words, samples: &[Sample]) -> Result<u128, Memory>
+    requires { length samples.now ≤ MAX_SAMPLES }
+{
+    let columns = mp_plain::profile(rt.alloc(), samples, words.window)?;
     Ok(sum_of_columns(
         columns.all.as_slice(),
         columns.left.as_slice(),
@@ -28,13 +58,22 @@ pub fn sum_by_pairs(alloc: Global, words: &Words, samples: &[Sample]) -> Result<
     ))
 }
 
-/// The same of the AB-join by tiles from the first half of the samples to the second.
-pub fn sum_of_join(alloc: Global, words: &Words, samples: &[Sample]) -> Result<u128, Memory>
+/// Of the join from the first half of the samples to the second.
+fn sum_of_join<R: AllocGlobal + Threads + Sync>(
+    rt: &R,
+    words: &Words,
+    samples: &[Sample],
+) -> Result<u128, Memory>
     requires { length samples.now ≤ MAX_SAMPLES }
 {
     let (a, b) = samples.split_at(samples.len() / 2);
-    let joined = mp_tiles::join(alloc, a, b, words.window, words.tile)?;
+    let (m, tile, workers) = (words.window, words.tile, words.workers);
+    let joined = ab_join(rt, rt.alloc(), a, b, m, tile, workers, &OpenGate)?;
     Ok(sum_of_column(joined.as_slice()))
+}
+
+fn sum_of_profile(profile: &Profile) -> u128 {
+    sum_of_columns(profile.all(), profile.left(), profile.right())
 }
 
 fn sum_of_columns(all: &[Slot], left: &[Slot], right: &[Slot]) -> u128 {
