@@ -229,12 +229,12 @@ row_spelled number true (Ok other) row h = let same : other ≡ row = cc in ap O
 row_spelled number true (Err fault) row h = absurd (cc h)
 row_spelled number false r row h = absurd (cc h)
 
-pub item_spelled : (scale channels number : ℕ) (item : List ℕ) (row : Row) → item_of scale channels number item ≡ Ok row
+item_spelled : (scale channels number : ℕ) (item : List ℕ) (row : Row) → item_of scale channels number item ≡ Ok row
     → samples_of scale (values_in item) ≡ Ok row
 item_spelled scale channels number item row h =
     row_spelled number (length (values_in item) == channels) (samples_of scale (values_in item)) row h
 
-pub good_row : (r : Result Row ℕ) → is_ok r ≡ true → (row : Row) × (r ≡ Ok row)
+good_row : (r : Result Row ℕ) → is_ok r ≡ true → (row : Row) × (r ≡ Ok row)
 good_row (Ok row) h = (row, refl)
 good_row (Err bad) h = absurd (cc h)
 
@@ -302,7 +302,8 @@ spread_all scale channels k item left before series row s is good =
     ∙ (s.grown ∙ (ap (spread 0 before) same ∙ ap (extended before) (row_columns channels row long))))
 
 -- what is spelled is read
-ok_by_spelling : (r : Result Sample SampleFault) (spelled : Result (Option ℤ) SampleFault) (x : Option ℤ) → spelled ≡ Ok x
+ok_by_spelling : (r : Result Sample SampleFault) (spelled : Result (Option ℤ) SampleFault) (x : Option ℤ)
+    → spelled ≡ Ok x
     → IfErr r (λ fault. spelled ≡ Err fault) → IsOk r
 ok_by_spelling (Ok sample) spelled x is faulty = refl
 ok_by_spelling (Err fault) spelled x is faulty = let clash : Err fault ≡ Ok x = sym faulty ∙ is in absurd (cc clash)

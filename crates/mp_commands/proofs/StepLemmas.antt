@@ -1,5 +1,5 @@
 -- What was prepared for a line stands for what the definitions answer.
-use Rattle.std.proofs.Common.{◌≡◌, ℕ, ◌+◌, Bool, true, false, List, refl, ap, ◌∙◌, sym}
+use Rattle.std.proofs.Common.{◌≡◌, ℕ, ◌+◌, Bool, true, false, refl, ap, ◌∙◌, sym}
 use Rattle.std.specs.Prelude.{if◌then◌else◌, Option, Some, None}
 use Rattle.mp_nums.specs.Listed.{Listed}
 use Rattle.mp_replies.specs.declared.causes.Cause.{Cause}

@@ -6,6 +6,17 @@ ghost use Rattle.mp_replies.specs.Text.{index_text, near_text, row_text, slot_te
 use itoa::Buffer;
 use mp_nums::{Memory, Near, Slot};
 
+/// The most bytes of a line on a window of the longest series: four numbers of six digits, one of 39, four blanks, an LF.
+const LINE: usize = 68;
+
+/// Makes room for so many lines on windows, so that the text is moved no more as they are written.
+pub(crate) fn reserve_lines(text: &mut Vec<u8>, lines: usize) -> Result<(), Memory>
+    ensures { text.new.items ≡ text.old.items }
+{
+    text.reserve(lines.saturating_mul(LINE))?;
+    Ok(())
+}
+
 /// A number, and how many lines follow.
 pub(crate) fn push_head(text: &mut Vec<u8>, number: u64, count: u64) -> Result<(), Memory>
     ensures { OnOk result (text.new.items

@@ -8,7 +8,7 @@ ghost use Rattle.mp_replies.specs.Report.{report_text};
 ghost use Rattle.mp_replies.specs.WindowCommand.{samples_text, window_text as window_text_of};
 ghost use Rattle.mp_report.specs.Profiles.{columns_in};
 
-use crate::numbers::{push_number, push_row};
+use crate::numbers::{push_number, push_row, reserve_lines};
 use mp_nums::{Memory, Sample, Text};
 use mp_partial::Profile;
 use mp_text::write_sample;
@@ -24,6 +24,7 @@ pub fn profile_text(alloc: Global, line: u64, profile: &Profile) -> Result<Text,
     text.extend_from_slice(b" ")?;
     push_number(&mut text, profile.len())?;
     text.extend_from_slice(b"\n")?;
+    reserve_lines(&mut text, profile.len() as usize)?;
     push_rows(&mut text, profile)?;
     Ok(Text::from(text))
 }

@@ -5,7 +5,7 @@ ghost use Rattle.std.specs.List.{enumerate_from};
 ghost use Rattle.mp_replies.specs.Text.{entry_line};
 ghost use Rattle.mp_report.specs.Slots.{slots_text_of, slots_word};
 
-use crate::numbers::{push_head, push_number, push_slot};
+use crate::numbers::{push_head, push_number, push_slot, reserve_lines};
 use mp_nums::{Memory, Slot, Text};
 use std::alloc::Global;
 
@@ -22,6 +22,7 @@ pub fn slots_text(alloc: Global, line: u64, name: SlotsName, slots: &[Slot]) -> 
 {
     let mut text = Vec::from_slice(alloc, word_of(name))?;
     push_head(&mut text, line, slots.len() as u64)?;
+    reserve_lines(&mut text, slots.len())?;
     push_entries(&mut text, slots)?;
     Ok(Text::from(text))
 }

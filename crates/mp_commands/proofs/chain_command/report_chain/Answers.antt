@@ -1,4 +1,4 @@
-use Rattle.std.proofs.Common.{◌≡◌, ◌+◌, ◌∙◌, ℕ, List, length, refl, ap, sym, subst, arith}
+use Rattle.std.proofs.Common.{◌≡◌, ◌+◌, ◌∙◌, ℕ, List, length, refl, ap, sym, arith}
 use Rattle.std.specs.Prelude.{Option}
 use Rattle.mp_nums.specs.declared.nearest.Near.{Near}
 use Rattle.mp_chains.specs.Chains.{chain_from}

@@ -4,7 +4,7 @@ use Rattle.mp_nums.specs.Listed.{Listed}
 use Rattle.mp_nums.specs.declared.nearest.Near.{Near}
 use Rattle.mp_chains.specs.Chains.{chains_of, longest_of}
 use Rattle.mp_defs.specs.Profile.{Columns, matrix_profile}
-use Rattle.mp_replies.specs.ChainsCommand.{all_chains_text, chains_in, chains_text}
+use Rattle.mp_replies.specs.ChainsCommand.{chains_in, chains_text}
 use Rattle.mp_replies.specs.Command as asked
 use Rattle.mp_replies.specs.State.{series_at}
 use Rattle.mp_slots.specs.Slots.{stores_of}
@@ -41,6 +41,7 @@ returns-clause-ok c = λ files.
     (sym c.in_default.ensures.cause) refl
     (c.in_ok-text.ensures
     ∙ (ap (λ (n : ℕ).
-    chains_text n (map (λ (chain : Listed ℕ). chain.items) c.as_slice-2.result.now) c.longest-place.result) c.line.ensures
+    chains_text n (map (λ (chain : Listed ℕ). chain.items) c.as_slice-2.result.now) c.longest-place.result)
+    c.line.ensures
     ∙ (ap (λ (cs : List (List ℕ)). chains_text line cs c.longest-place.result) listed
     ∙ ap (chains_text line (chains_in columns)) place)))

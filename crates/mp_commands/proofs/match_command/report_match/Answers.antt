@@ -53,7 +53,8 @@ returns-clause-ok g c = λ files.
     ∙ (ap (λ (d : List (Option Sq)). matches d c.excl.result None radius max) dist
     ∙ ap (λ (z : ℕ). matches (distances_of (window_at held.m b start) a) z None radius max) zone)) in
     answer_accepted (state_over c.args.context held) files
-    (asked.Match c.args.at c.args.pattern.query start radius max) c.in_ok-text.text (sym c.in_default.ensures.cause) refl
+    (asked.Match c.args.at c.args.pattern.query start radius max)
+    c.in_ok-text.text (sym c.in_default.ensures.cause) refl
     (c.in_ok-text.ensures
     ∙ (ap (λ (n : ℕ). match_text n c.as_slice-2.result.now) c.line.ensures
     ∙ ap (match_text (c.args.context.lines + 1)) found))

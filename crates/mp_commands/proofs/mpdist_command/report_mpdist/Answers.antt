@@ -1,8 +1,7 @@
-use Rattle.std.proofs.Common.{◌≡◌, ◌+◌, ◌∙◌, ◌≤◌, ℕ, List, length, refl, ap, sym}
+use Rattle.std.proofs.Common.{◌≡◌, ◌+◌, ◌∙◌, ℕ, List, length, refl, ap, sym}
 use Rattle.std.proofs.lemmas.List.{length-map}
 use Rattle.std.specs.Prelude.{Option}
 use Rattle.mp_nums.specs.declared.nearest.Near.{Near}
-use Rattle.mp_nums.specs.declared.samples.Sample.{Sample}
 use Rattle.mp_defs.specs.Profile.{ab_join}
 use Rattle.mp_defs.specs.Series.{Series, reading_of, series_of}
 use Rattle.mp_mpdist.specs.Distances.{mpdist_of}
