@@ -1,5 +1,6 @@
 -- Where a field of a text ends, what follows it, and how many fields there are.
-use Rattle.std.proofs.Common.{◌≡◌, ℕ, zero, suc, ◌+◌, ◌<◌, ◌≤◌, true, false, List, [], ◌∷◌, length, take, drop, get_or, refl, arith, ap, ◌∙◌, sym, subst, not}
+use Rattle.std.proofs.Common.{◌≡◌, ℕ, zero, suc, ◌+◌, ◌<◌, ◌≤◌, true, false, List, [], ◌∷◌, length, take, drop, get_or}
+use Rattle.std.proofs.Common.{refl, arith, ap, ◌∙◌, sym, subst, not}
 use Rattle.std.proofs.lemmas.List.{get_or-drop, length-drop}
 use Rattle.std.specs.Prelude.{slice_index, filter}
 use Rattle.mp_bytes.specs.Bytes.{is_blank, is_empty}

@@ -1,5 +1,6 @@
 -- Numbers in decimal digits.
-use Rattle.std.specs.Prelude.{ℕ, ◌+◌, ◌-◌, ◌*◌, Bool, not, ◌&&◌, nat_le, List, length, fold, if◌then◌else◌, Option, Some, None}
+use Rattle.std.specs.Prelude.{ℕ, ◌+◌, ◌-◌, ◌*◌, Bool, not, ◌&&◌, nat_le, List, length, fold, if◌then◌else◌, Option}
+use Rattle.std.specs.Prelude.{Some, None}
 use Rattle.std.specs.List.{list_all}
 use Rattle.std.specs.Char.{is_ascii_digit}
 use Rattle.mp_bytes.specs.Bytes.{is_empty}

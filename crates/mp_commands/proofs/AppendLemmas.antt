@@ -1,5 +1,7 @@
 -- Items that are gone over one by one, and what an append of them prepares.
-use Rattle.std.proofs.Common.{◌≡◌, ℕ, ℤ, zero, suc, ◌+◌, ◌<◌, ◌≤◌, ◌==◌, Bool, true, false, List, [], ◌∷◌, ◌++◌, Vec, length, map, get_or, set, replicate, refl, ap, ◌∙◌, sym, arith, subst, append_assoc, length-append, slice_index_or}
+use Rattle.std.proofs.Common.{◌≡◌, ℕ, ℤ, zero, suc, ◌+◌, ◌<◌, ◌≤◌, ◌==◌, Bool, true, false, List, [], ◌∷◌, ◌++◌, Vec}
+use Rattle.std.proofs.Common.{length, map, get_or, set, replicate, refl, ap, ◌∙◌, sym, arith, subst, append_assoc}
+use Rattle.std.proofs.Common.{length-append, slice_index_or}
 use Rattle.std.specs.declared.alloc.Global.{Global}
 use Rattle.std.specs.Prelude.{All, Option, Some, None, Result, Ok, Err, IfErr, IsOk, is_ok, if◌then◌else◌}
 use Rattle.std.specs.List.{range_with_len}
@@ -16,7 +18,8 @@ use Rattle.mp_nums.specs.Listed.{Listed}
 use Rattle.mp_nums.specs.declared.samples.Sample.{Sample}
 use Rattle.mp_text.specs.Rows.{Row, column_at, columns_of, onto}
 use Rattle.mp_text.specs.declared.refusal.SampleFault.{SampleFault}
-use Rattle.mp_replies.specs.AppendCommand.{append_conditions, bad_in, item_of, items_of, read_items, row_with, rows_in, samples_of, value_of}
+use Rattle.mp_replies.specs.AppendCommand.{append_conditions, bad_in, item_of, items_of, read_items, row_with, rows_in}
+use Rattle.mp_replies.specs.AppendCommand.{samples_of, value_of}
 use Rattle.mp_replies.specs.Change as change
 use Rattle.mp_replies.specs.Change.{extended}
 use Rattle.mp_replies.specs.Command as asked

@@ -1,8 +1,7 @@
 -- What was prepared for a command, told of the line that asks for it.
-use Rattle.std.proofs.Common.{◌≡◌, ◌∙◌, ℕ, List, [], replicate, Bool, true, refl, ap, sym, subst}
+use Rattle.std.proofs.Common.{◌≡◌, ◌∙◌, ℕ, List, Bool, true, refl, ap, sym, subst}
 use Rattle.std.specs.FinMap.{empty}
-use Rattle.std.specs.Prelude.{Result, Ok, Err, IfOk, OnErr, Option, Some, None}
-use Rattle.mp_defs.specs.Series.{Series}
+use Rattle.std.specs.Prelude.{Result, Ok, Err, IfOk, Option, Some, None, is_err}
 use Rattle.mp_lines.specs.Lines.{asked_by}
 use Rattle.mp_lines.specs.declared.commands.Command as read
 use Rattle.mp_lines.specs.declared.commands.Command.TheVariants.{Blank, Session, Open, Load, Append}
@@ -13,18 +12,19 @@ use Rattle.mp_replies.specs.Command.{Command}
 use Rattle.mp_replies.specs.Conditions.{first_of}
 use Rattle.mp_replies.specs.LimitLaws.{limits_kept}
 use Rattle.mp_replies.specs.Line.{Asked, Nothing, Asks, Faulty, asked_of, ends, is_end}
-use Rattle.mp_replies.specs.OpenCommand.{open_conditions}
 use Rattle.mp_replies.specs.State.{Files, State}
 use Rattle.mp_replies.specs.Step.{change_in, conditions, verdict_by, verdict_of}
 use Rattle.mp_slots.specs.Slots.{Stored}
 use Rattle.mp_commands.specs.declared.answers.Answer.{Answer}
+use Rattle.mp_commands.specs.declared.context.Context.{Context}
 use Rattle.mp_commands.specs.declared.answers.Answer.TheVariants.{Refused}
 use Rattle.mp_commands.specs.declared.prepared.Change.{Change}
-use Rattle.mp_commands.specs.declared.prepared.Change.TheVariants.{Keep, PutChannels, AddSamples}
+use Rattle.mp_commands.specs.declared.prepared.Change.TheVariants.{Keep}
 use Rattle.mp_commands.specs.declared.prepared.Prepared.{Prepared}
 use Rattle.mp_commands.specs.Answers.{is_ended, kind_by}
-use Rattle.mp_commands.specs.Preparing.{AddsAsAsked, CanMake, IsAnswer, IsPrepared, IsUnrefused, IsWithinLimits}
-use Rattle.mp_commands.specs.Preparing.{OnlyReports, changed_by, puts}
+use Rattle.mp_commands.specs.Preparing.{AddsAsAsked, CanMake, IsAnswer, IsPrepared, IsReady, IsTaken, IsWithinLimits}
+use Rattle.mp_commands.specs.Preparing.{OnlyReports, changed_by, puts, state_over}
+use Rattle.mp_commands.specs.Reports.{IsReported}
 use Rattle.mp_commands.proofs.EndLemmas.{ends_by}
 use Rattle.mp_commands.proofs.StepLemmas.{ended_answer}
 
@@ -43,44 +43,46 @@ pub ended_as_answered : (state : State) (what : Asked) (answer : Answer)
     → ((files : Files) → IsAnswer state files what answer) → is_ended (kind_by answer) ≡ is_end what
 ended_as_answered state what answer is = ended_answer state no_files what answer (is no_files)
 
--- ---- samples that are added
-
-put_adds_none : (command : Command) (why : Option Cause) (slot : ℕ) (channels : List Series) (line : Asked)
-    (ours : Change)
-    → changed_by ours ≡ change_in (verdict_by command why (change.PutChannels slot channels)) → AddsAsAsked line ours
-put_adds_none command why slot channels line Keep is = tt
-put_adds_none command why slot channels line (PutChannels at put) is = tt
-put_adds_none command None slot channels line (AddSamples at added) is = absurd (cc is)
-put_adds_none command (Some cause) slot channels line (AddSamples at added) is = absurd (cc is)
-
--- an open adds none
-pub opened_adds : (state : State) (slot count : ℕ) (prepared : Prepared)
-    → ((files : Files) → IsPrepared state files (Asks (asked.OpenSlot slot count)) prepared)
-    → AddsAsAsked (Asks (asked.OpenSlot slot count)) prepared.change
-opened_adds state slot count prepared is =
-    let command = asked.OpenSlot slot count in
-    let right = is no_files in
-    put_adds_none command (first_of (open_conditions slot count)) slot (replicate count []) (Asks command)
-    prepared.change right.change_is
-
 -- ---- the command
 
-pub session_unrefused : {T E : Type 0} (state : State) (command : read.Command) (version : ℕ) (result : Result T E)
-    → command ≡ Session version → OnErr result (IsUnrefused state (Asks (asked.Session version)))
-    → OnErr result (IsUnrefused state (asked_by command))
-session_unrefused state command version result is h =
-    subst (λ c. OnErr result (IsUnrefused state (asked_by c))) (sym is) h
+pub session_reported : {E : Type 0} (context : Context) (command : read.Command) (version : ℕ) (held : Stored)
+    (result : Result Answer E) → command ≡ Session version
+    → IsReported context (Asks (asked.Session version)) held result
+    → IsReported context (asked_by command) held result
+session_reported context command version held result is h =
+    subst (λ c. IsReported context (asked_by c) held result) (sym is) h
 
-pub told_of : (state : State) (files : Files) (command : read.Command) (what : Asked) (prepared : Prepared)
-    → asked_by command ≡ what → IsPrepared state files what prepared
-    → IsPrepared state files (asked_by command) prepared
-told_of state files command what prepared is h = subst (λ w. IsPrepared state files w prepared) (sym is) h
+-- what was prepared for what a command asks, whatever could have gone wrong
+pub taken_for : {E F : Type 0} (told : Option Files) (context : Context) (command : read.Command) (what : Asked)
+    (held : Stored) (prepared : Prepared) → asked_by command ≡ what
+    → ((files : Option Files) → IsTaken {E = E} files context what held (Ok prepared))
+    → IsTaken {E = F} told context (asked_by command) held (Ok prepared)
+taken_for {E} {F} told context command what held prepared is h =
+    subst (λ w. IsTaken {E = F} told context w held (Ok prepared)) (sym is) (record { ok = (h told).ok; stop = tt })
 
-pub ended_prepared : (state : State) (command : read.Command) (what : Asked) (prepared : Prepared)
-    → asked_by command ≡ what → ((files : Files) → IsPrepared state files what prepared)
+-- and what it lacked, whatever that is called further up
+pub stopped_for : {E F : Type 0} (told : Option Files) (context : Context) (command : read.Command) (what : Asked)
+    (held : Stored) (result : Result Prepared E) (passed : Result Prepared F) → asked_by command ≡ what
+    → ((files : Option Files) → IsTaken {E = E} files context what held result) → is_err result ≡ true
+    → is_err passed ≡ true → IsTaken {E = F} told context (asked_by command) held passed
+stopped_for told context command what held (Ok prepared) passed is h failed left = absurd (cc failed)
+stopped_for told context command what held (Err error) (Ok prepared) is h failed left = absurd (cc left)
+stopped_for {E} {F} told context command what held (Err error) (Err stop) is h failed left =
+    subst (λ w. IsTaken {E = F} told context w held (Err stop)) (sym is)
+    (record { ok = λ files tells. tt; stop = (h told).stop })
+
+pub ended_taken : {E : Type 0} (context : Context) (command : read.Command) (what : Asked) (held : Stored)
+    (prepared : Prepared) → asked_by command ≡ what
+    → ((files : Option Files) → IsTaken {E = E} files context what held (Ok prepared))
     → is_ended (kind_by prepared.answer) ≡ is_end (asked_by command)
-ended_prepared state command what prepared is h =
-    ended_as_answered state what prepared.answer (λ files. (h files).answer_is) ∙ ap is_end (sym is)
+ended_taken context command what held prepared is h =
+    ended_answer (state_over context held) no_files what prepared.answer
+    ((h (Some no_files)).ok no_files (λ fetches. refl)).answer_is
+    ∙ ap is_end (sym is)
+
+pub ready_for : (command : read.Command) (what : Asked) (held : Stored) (prepared : Prepared) → asked_by command ≡ what
+    → IsReady what held prepared → IsReady (asked_by command) held prepared
+ready_for command what held prepared is h = subst (λ w. IsReady w held prepared) (sym is) h
 
 -- ---- commands that only report
 

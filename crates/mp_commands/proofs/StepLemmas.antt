@@ -12,7 +12,8 @@ use Rattle.mp_replies.specs.Conditions.{first_of}
 use Rattle.mp_replies.specs.Line.{Asked, Nothing, Asks, Faulty, is_end}
 use Rattle.mp_replies.specs.Report.{report_text, text_of}
 use Rattle.mp_replies.specs.State.{Files, State}
-use Rattle.mp_replies.specs.Step.{IsAccepted, verdict_by, verdict_of, change_by, change_in, conditions, after_by, answer_by, is_last, report_by}
+use Rattle.mp_replies.specs.Step.{IsAccepted, verdict_by, verdict_of, change_by, change_in, conditions, after_by}
+use Rattle.mp_replies.specs.Step.{answer_by, is_last, report_by}
 use Rattle.mp_replies.specs.Text.{refused_text}
 use Rattle.mp_commands.specs.declared.answers.Answer.{Answer}
 use Rattle.mp_commands.specs.declared.answers.Answer.TheVariants as answers

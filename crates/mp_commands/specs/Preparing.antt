@@ -1,6 +1,6 @@
 -- What is prepared for a line before anything changes, and the change.
 use Rattle.std.specs.Prelude.{◌≡◌, ℕ, ◌+◌, ◌<◌, ◌≤◌, ◌==◌, Bool, true, false, List, [], All, length, map, unwrap_or}
-use Rattle.std.specs.Prelude.{Option, Some, None}
+use Rattle.std.specs.Prelude.{Option, Some, None, Result, IfOk, OnErr}
 use Rattle.mp_nums.specs.declared.samples.Sample.{Sample}
 use Rattle.mp_defs.specs.Series.{series_of}
 use Rattle.mp_stream.specs.Streams.{Streamed}
@@ -18,6 +18,8 @@ use Rattle.mp_replies.specs.Line.{Asked, Nothing, Asks, Faulty}
 use Rattle.mp_replies.specs.Report.{text_of}
 use Rattle.mp_replies.specs.State.{Files, State}
 use Rattle.mp_replies.specs.Step.{after_by, answer_by, change_in, fetches_by, state_conditions, verdict_of}
+use Rattle.mp_outside.specs.Counts.{Rose}
+use Rattle.mp_outside.specs.declared.shelves.Shelf as shelves
 use Rattle.mp_lines.specs.declared.commands.Command.{Command}
 use Rattle.mp_lines.specs.declared.commands.Command.TheVariants.{Blank, Open, Load, Append}
 use Rattle.mp_slots.specs.Slots.{Held, Stored, AreChannels, AreEven, HaveRoom, HaveWindow, lists_in, series_in, slot_at}
@@ -29,6 +31,7 @@ use Rattle.mp_commands.specs.declared.prepared.Change.{Change}
 use Rattle.mp_commands.specs.declared.prepared.Change.TheVariants.{Keep, PutChannels, AddSamples}
 use Rattle.mp_commands.specs.declared.prepared.Prepared.{Prepared}
 use Rattle.mp_commands.specs.Answers.{shown, kind_by, kind_of, is_accepted}
+use Rattle.mp_commands.specs.Reads.{renews}
 
 -- the state that slots and what is known beside them stand for
 abbrev pub state_over : Context → Stored → State
@@ -152,3 +155,31 @@ abbrev pub CanMake : Stored → Change → Type 0
 CanMake held Keep = Unit {0}
 CanMake held (PutChannels slot channels) = CanPut held.m slot channels.items
 CanMake held (AddSamples slot added) = CanAdd held slot (lists_in added.items)
+
+-- ---- a line
+
+-- it is prepared as the definitions say, by the files that the shelf tells, and what it lacks is wanting only where
+-- nothing refuses it without a file
+pub record IsTaken {E : Type 0} (told : Option Files) (context : Context) (what : Asked) (held : Stored)
+    (result : Result Prepared E) : Type 0 where
+  pub ok : (files : Files) → ToldFor told (state_over context held) what files
+      → IfOk result (IsPrepared (state_over context held) files what)
+  pub stop : OnErr result (IsUnrefused (state_over context held) what)
+
+-- its change can be made in these slots, puts channels where the line asks for it alone, and is none where the line
+-- isn't accepted
+pub record IsReady (what : Asked) (held : Stored) (prepared : Prepared) : Type 0 where
+  pub can : CanMake held prepared.change
+  pub kept : KeepsUnlessAccepted prepared
+  pub renewed : (slot : ℕ) → puts prepared.change slot ≡ true → renews what slot ≡ true
+  pub adds : AddsAsAsked what prepared.change
+
+-- the shelf tells the files that it told. Its faults rise exactly where it failed, and it is asked for a file where one
+-- is wanted alone
+pub record IsAsked {H : Type 0} (shelf : shelves.Ghosts H) (wanted : Bool) (failed : Type 0) (old new : H)
+    : Type 0 where
+  pub files : shelf.files new ≡ shelf.files old
+  pub fault : failed → Rose (shelf.faults old) (shelf.faults new)
+  pub calm : ¬ failed → shelf.faults new ≡ shelf.faults old
+  pub unfetched : wanted ≡ false → new ≡ old
+  pub no_fault : wanted ≡ false → failed → ⊥

@@ -6,7 +6,7 @@ use Rattle.mp_defs.specs.Window.{windows}
 use Rattle.mp_replies.specs.declared.refs.Ref.{Ref}
 use Rattle.mp_replies.specs.Command.{OpenSlot, Load, Append, Window, Join, Multi, Match, Motifs, Mpdist, Consensus}
 use Rattle.mp_replies.specs.Line.{Asked, Asks}
-use Rattle.mp_slots.specs.Slots.{Stored, count_in, lent_once, reads_in, slot_at}
+use Rattle.mp_slots.specs.Slots.{Stored, count_in, lent_once, reads_in, slot_at, stores_of}
 
 -- all channels of a slot
 abbrev pub refs_of : Stored → ℕ → List Ref
@@ -63,6 +63,12 @@ AreUnread old new = (slot : ℕ) → reads_at new slot ≡ reads_at old slot
 pub record WereRead (most : ℕ → ℕ) (old new : Stored) : Type 0 where
   pub rise : (slot : ℕ) → reads_at old slot ≤ reads_at new slot
   pub within : (slot : ℕ) → reads_at new slot ≤ reads_at old slot + most slot
+
+-- the slots hold what they held, and their samples were read no oftener than a line asks for before anything changes
+pub record IsKept (asked : Asked) (old new : Stored) : Type 0 where
+  pub stores : stores_of new ≡ stores_of old
+  pub m : new.m ≡ old.m
+  pub read : WereRead (most_lent old asked) old new
 
 -- a line that asks for nothing or is refused by itself, and one whose report stands in a profile or shows no samples
 abbrev pub is_unread : Asked → Bool

@@ -1,7 +1,8 @@
 //! The answer to a line.
 
 ghost use Rattle.std.specs.Prelude.{◌≡◌, IfOk};
-ghost use Rattle.mp_commands.specs.Answers.{is_accepted as is_accepted_kind, is_ended as is_ended_kind, is_refused as is_refused_kind, kind_by, shown};
+ghost use Rattle.mp_commands.specs.Answers.{is_accepted as is_accepted_kind, is_ended as is_ended_kind};
+ghost use Rattle.mp_commands.specs.Answers.{is_refused as is_refused_kind, kind_by, shown};
 
 use crate::replies::Reply;
 use mp_nums::{Memory, Text};

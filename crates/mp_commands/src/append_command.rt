@@ -1,6 +1,7 @@
 //! `append S ITEM ITEM ..`: samples behind those of each channel of a slot.
 
-ghost use Rattle.std.specs.Prelude.{◌≡◌, ◌+◌, ℕ, ◌<◌, ◌≤◌, ◌==◌, ◌∷◌, [], length, map, replicate, is_ok, Ok, Some, None, IfOk, IfErr, OnOk, OnErr, true, false};
+ghost use Rattle.std.specs.Prelude.{◌≡◌, ◌+◌, ℕ, ◌<◌, ◌≤◌, ◌==◌, ◌∷◌, [], length, map, replicate, is_ok, true};
+ghost use Rattle.std.specs.Prelude.{Option, Ok, Some, None, IfOk, IfErr, OnOk};
 ghost use Rattle.mp_bytes.specs.Fields.{fields_in};
 ghost use Rattle.mp_defs.specs.Limits.{max_samples};
 ghost use Rattle.mp_defs.specs.Series.{series_of};
@@ -11,7 +12,7 @@ ghost use Rattle.mp_replies.specs.Conditions.{first_of};
 ghost use Rattle.mp_replies.specs.Limits.{max_scale};
 ghost use Rattle.mp_replies.specs.Line.{Asks};
 ghost use Rattle.mp_replies.specs.State.{Files, channels_at, is_closed, samples_in, store_at};
-ghost use Rattle.mp_commands.specs.Preparing.{AddsAsAsked, CanMake, IsPrepared, IsUnrefused, KeepsUnlessAccepted, puts, state_over};
+ghost use Rattle.mp_commands.specs.Preparing.{IsReady, IsTaken};
 ghost use Rattle.mp_commands.specs.Reads.{AreUnread};
 ghost use Rattle.mp_slots.specs.Slots.{lists_in, stores_of};
 ghost use Rattle.mp_text.specs.Rows.{Row, columns_of};
@@ -37,12 +38,9 @@ pub(crate) fn prepare_append(
     slot: u64,
     items: &[u8],
 ) -> Result<Prepared, Memory>
-    ensures ok { (files : Files) → IfOk result (IsPrepared (state_over context slots.old) files (Asks (asked.Append slot (fields_in items.now)))) }
-    ensures memory { OnErr result (IsUnrefused (state_over context slots.old) (Asks (asked.Append slot (fields_in items.now)))) }
-    ensures can { IfOk result (λ prepared. CanMake slots.new prepared.change) }
-    ensures kept { IfOk result KeepsUnlessAccepted }
-    ensures puts { IfOk result (λ prepared. (other : ℕ) → puts prepared.change other ≡ false) }
-    ensures adds { IfOk result (λ prepared. AddsAsAsked (Asks (asked.Append slot (fields_in items.now))) prepared.change) }
+    ensures prepared { (told : Option Files)
+        → IsTaken told context (Asks (asked.Append slot (fields_in items.now))) slots.old result }
+    ensures ready { IfOk result (IsReady (Asks (asked.Append slot (fields_in items.now))) slots.new) }
     ensures stores { stores_of slots.new ≡ stores_of slots.old }
     ensures m { slots.new.m ≡ slots.old.m }
     ensures unread { AreUnread slots.old slots.new }
@@ -79,8 +77,10 @@ fn count_items(slots: &Slots, form: Form, slot: u64, items: &[u8]) -> Result<u64
     requires places { form.scale ≤ max_scale }
     requires channels { form.channels ≡ length (channels_at (stores_of slots.now) slot) }
     requires closed { is_closed (store_at (stores_of slots.now) slot) ≡ (form.channels == 0) }
-    ensures refused { IfErr result (λ cause. first_of (append_conditions form.scale (stores_of slots.now) slot (fields_in items.now)) ≡ Some cause) }
-    ensures fine { OnOk result (first_of (append_conditions form.scale (stores_of slots.now) slot (fields_in items.now)) ≡ None) }
+    ensures refused { IfErr result (λ cause. first_of
+        (append_conditions form.scale (stores_of slots.now) slot (fields_in items.now)) ≡ Some cause) }
+    ensures fine { OnOk result (first_of
+        (append_conditions form.scale (stores_of slots.now) slot (fields_in items.now)) ≡ None) }
     ensures good { OnOk result (bad_in (items_read form.scale form.channels (fields_in items.now)) ≡ None) }
     ensures count { IfOk result (λ count. count ≡ length (fields_in items.now)) }
     ensures fits { IfOk result (λ count. samples_in (channels_at (stores_of slots.now) slot) + count ≤ max_samples) }

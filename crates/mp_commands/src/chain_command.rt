@@ -1,10 +1,8 @@
 //! `chain R J`: the chain from one window of a channel. `chains R`: all chains of a channel.
 
-ghost use Rattle.std.specs.Prelude.{◌≡◌, IfOk, OnErr};
 ghost use Rattle.mp_replies.specs.Command as asked;
 ghost use Rattle.mp_replies.specs.Line.{Asks};
-ghost use Rattle.mp_replies.specs.State.{Files};
-ghost use Rattle.mp_commands.specs.Preparing.{IsAnswer, IsUnrefused, state_over};
+ghost use Rattle.mp_commands.specs.Reports.{IsReported};
 
 use crate::answers::Answer;
 use crate::conditions::{ref_cause, window_cause};
@@ -24,8 +22,7 @@ pub(crate) fn report_chain(
     at: Ref,
     start: u64,
 ) -> Result<Answer, Memory>
-    ensures ok { (files : Files) → IfOk result (IsAnswer (state_over context slots.now) files (Asks (asked.Chain at start))) }
-    ensures memory { OnErr result (IsUnrefused (state_over context slots.now) (Asks (asked.Chain at start))) }
+    ensures { IsReported context (Asks (asked.Chain at start)) slots.now result }
 {
     if let Some(cause) = window_cause(slots, at, start) {
         return Ok(Answer::Refused(cause));
@@ -43,8 +40,7 @@ pub(crate) fn report_chains(
     context: Context,
     at: Ref,
 ) -> Result<Answer, Memory>
-    ensures ok { (files : Files) → IfOk result (IsAnswer (state_over context slots.now) files (Asks (asked.Chains at))) }
-    ensures memory { OnErr result (IsUnrefused (state_over context slots.now) (Asks (asked.Chains at))) }
+    ensures { IsReported context (Asks (asked.Chains at)) slots.now result }
 {
     if let Some(cause) = ref_cause(slots, at) {
         return Ok(Answer::Refused(cause));

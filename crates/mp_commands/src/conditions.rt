@@ -2,7 +2,8 @@
 
 ghost use Rattle.std.specs.Prelude.{◌≡◌, ◌+◌, ◌≤◌, ◌<◌, ◌∷◌, [], All, length, unwrap_or, IfNone};
 ghost use Rattle.std.specs.Bool.{OnFalse};
-ghost use Rattle.mp_replies.specs.Conditions.{first_of, no_channel, no_channels, no_slot, no_slots, no_window, some_absent, some_closed};
+ghost use Rattle.mp_replies.specs.Conditions.{first_of, no_channel, no_channels, no_slot, no_slots, no_window};
+ghost use Rattle.mp_replies.specs.Conditions.{some_absent, some_closed};
 ghost use Rattle.mp_replies.specs.LoadCommand.{load_conditions};
 ghost use Rattle.mp_replies.specs.MatchCommand.{match_conditions};
 ghost use Rattle.mp_replies.specs.MultiCommand.{multi_conditions};
@@ -34,7 +35,8 @@ pub(crate) fn open_cause(slot: u64, channels: u64) -> Option<Cause>
 
 /// Why a slot can't be loaded with these columns, if it can't.
 pub(crate) fn load_cause(slots: &Slots, slot: u64, names: Columns<'_>) -> Option<Cause>
-    ensures cause { result ≡ first_of (load_conditions (stores_of slots.now) slot (unwrap_or (columns names.entry.field.now) [])) }
+    ensures cause { result ≡ first_of
+        (load_conditions (stores_of slots.now) slot (unwrap_or (columns names.entry.field.now) [])) }
     ensures slot { IfNone result (slot < SLOTS) }
     ensures some { IfNone result (0 < length (slot_at slots.now slot)) }
 {
@@ -50,7 +52,8 @@ pub(crate) fn load_cause(slots: &Slots, slot: u64, names: Columns<'_>) -> Option
 
 /// Why a ref names no channel, if it doesn't.
 pub(crate) fn ref_cause(slots: &Slots, at: Ref) -> Option<Cause>
-    ensures cause { result ≡ first_of (no_slot (stores_of slots.now) at.slot ∷ no_channel (stores_of slots.now) at ∷ []) }
+    ensures cause { result ≡ first_of
+        (no_slot (stores_of slots.now) at.slot ∷ no_channel (stores_of slots.now) at ∷ []) }
     ensures slot { IfNone result (at.slot < SLOTS) }
     ensures channel { IfNone result (at.channel < length (slot_at slots.now at.slot)) }
 {
@@ -75,7 +78,8 @@ pub(crate) fn pair_cause(slots: &Slots, a: Ref, b: Ref) -> Option<Cause>
 
 /// Why some refs name no channels, if they don't: one of them no open slot, or else one of them no channel of its slot.
 pub(crate) fn refs_cause(slots: &Slots, refs: &[Ref]) -> Option<Cause>
-    ensures cause { result ≡ first_of (no_slots (stores_of slots.now) refs.now ∷ no_channels (stores_of slots.now) refs.now ∷ []) }
+    ensures cause { result ≡ first_of
+        (no_slots (stores_of slots.now) refs.now ∷ no_channels (stores_of slots.now) refs.now ∷ []) }
     ensures channels { IfNone result (All (IsChannel slots.now) refs.now) }
 {
     if is_some_closed(slots, refs) {

@@ -1,19 +1,11 @@
 //! `consensus R R ..`: the window that several channels have in common.
 
-ghost use Rattle.std.specs.Prelude.{◌≡◌, ◌≤◌, [], All, length, map, IfOk, OnErr, false, option_map, unwrap_or};
+ghost use Rattle.std.specs.Prelude.{◌≡◌, ◌≤◌, All, length, map, IfOk, option_map};
 ghost use Rattle.mp_consensus.specs.Consensus.{central, centre_of};
 ghost use Rattle.mp_defs.specs.Limits.{max_samples};
 ghost use Rattle.mp_defs.specs.Series.{series_of};
-ghost use Rattle.mp_replies.specs.Command as asked;
 ghost use Rattle.mp_replies.specs.Limits.{max_refs, min_refs};
-ghost use Rattle.mp_replies.specs.Line.{Asks};
-ghost use Rattle.mp_replies.specs.State.{Files};
-ghost use Rattle.mp_bytes.specs.Fields.{fields_in};
-ghost use Rattle.mp_replies.specs.Numbers.{refs as refs_in};
-ghost use Rattle.mp_commands.specs.Answers.{is_accepted, kind_by};
-ghost use Rattle.mp_commands.specs.Preparing.{IsAnswer, IsUnrefused, state_over};
-ghost use Rattle.mp_commands.specs.Reads.{AreUnread, WereRead, most_lent};
-ghost use Rattle.mp_slots.specs.Slots.{stores_of};
+ghost use Rattle.mp_commands.specs.Reports.{IsReported, OnlyReads, asks_consensus};
 
 use crate::answers::Answer;
 use crate::conditions::refs_cause;
@@ -38,12 +30,8 @@ pub(crate) fn report_consensus<R: Threads + Sync, G: Gate>(
     refs: Refs<'_>,
     gate: &G,
 ) -> Result<Answer, Memory>
-    ensures ok { (files : Files) → IfOk result (IsAnswer (state_over context slots.old) files (Asks (asked.Consensus (unwrap_or (refs_in (fields_in refs.entry.field.now)) [])))) }
-    ensures memory { OnErr result (IsUnrefused (state_over context slots.old) (Asks (asked.Consensus (unwrap_or (refs_in (fields_in refs.entry.field.now)) [])))) }
-    ensures stores { stores_of slots.new ≡ stores_of slots.old }
-    ensures m { slots.new.m ≡ slots.old.m }
-    ensures read { WereRead (most_lent slots.old (Asks (asked.Consensus (unwrap_or (refs_in (fields_in refs.entry.field.now)) [])))) slots.old slots.new }
-    ensures unread { IfOk result (λ answer. is_accepted (kind_by answer) ≡ false → AreUnread slots.old slots.new) }
+    ensures report { IsReported context (asks_consensus refs.entry) slots.old result }
+    ensures slots { OnlyReads (asks_consensus refs.entry) slots.old slots.new result }
 {
     let mut room = [Ref {
         slot: 0,

@@ -1,10 +1,9 @@
 //! `discords R COUNT`: the most unusual windows of a channel.
 
-ghost use Rattle.std.specs.Prelude.{◌≡◌, ◌≤◌, IfOk, OnErr};
+ghost use Rattle.std.specs.Prelude.{◌≤◌};
 ghost use Rattle.mp_replies.specs.Command as asked;
 ghost use Rattle.mp_replies.specs.Line.{Asks};
-ghost use Rattle.mp_replies.specs.State.{Files};
-ghost use Rattle.mp_commands.specs.Preparing.{IsAnswer, IsUnrefused, state_over};
+ghost use Rattle.mp_commands.specs.Reports.{IsReported};
 
 use crate::answers::Answer;
 use crate::conditions::ref_cause;
@@ -26,8 +25,7 @@ pub(crate) fn report_discords(
     count: u64,
 ) -> Result<Answer, Memory>
     requires { 1 ≤ count }
-    ensures ok { (files : Files) → IfOk result (IsAnswer (state_over context slots.now) files (Asks (asked.Discords at count))) }
-    ensures memory { OnErr result (IsUnrefused (state_over context slots.now) (Asks (asked.Discords at count))) }
+    ensures { IsReported context (Asks (asked.Discords at count)) slots.now result }
 {
     if let Some(cause) = ref_cause(slots, at) {
         return Ok(Answer::Refused(cause));

@@ -18,6 +18,7 @@ mod open_command;
 mod prepared;
 mod preparing;
 mod profile_command;
+mod queries;
 mod replies;
 mod report;
 mod segments_command;

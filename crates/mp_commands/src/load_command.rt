@@ -1,8 +1,8 @@
 //! `load S FILE COL,COL`, or with `header` behind: columns of a file in place of what stood in a slot.
 
-ghost use Rattle.std.specs.Prelude.{◌≡◌, ◌==◌, ℕ, ◌<◌, ◌≤◌, [], All, length, option_map, unwrap_or, Some, None, true, false, IfOk, OnErr, IsErrOf};
+ghost use Rattle.std.specs.Prelude.{◌≡◌, ◌<◌, ◌≤◌, [], All, length, false};
+ghost use Rattle.std.specs.Prelude.{option_map, unwrap_or, Some, None, IfOk, IsErrOf};
 ghost use Rattle.mp_defs.specs.Limits.{max_samples};
-ghost use Rattle.mp_outside.specs.Counts.{Rose};
 ghost use Rattle.mp_replies.specs.Conditions.{first_of};
 ghost use Rattle.mp_replies.specs.Limits.{max_file, slot_count};
 ghost use Rattle.mp_replies.specs.LoadCommand.{file_in, load_conditions};
@@ -10,7 +10,7 @@ ghost use Rattle.mp_replies.specs.Numbers.{columns as columns_of};
 ghost use Rattle.mp_replies.specs.State.{Files};
 ghost use Rattle.mp_replies.specs.Step.{fetches_by};
 ghost use Rattle.mp_commands.specs.Answers.{is_ended, kind_by};
-ghost use Rattle.mp_commands.specs.Preparing.{AddsAsAsked, CanMake, asks_for, IsPrepared, IsUnrefused, KeepsUnlessAccepted, ToldFor, cause_by, puts, state_over};
+ghost use Rattle.mp_commands.specs.Preparing.{IsAsked, IsPrepared, IsReady, IsTaken, asks_for, cause_by, state_over};
 ghost use Rattle.mp_text.specs.Table.{told};
 ghost use Rattle.mp_slots.specs.Slots.{HaveWindow, items_in, stores_of};
 
@@ -53,20 +53,11 @@ pub(crate) fn prepare_load<R: Threads + Sync, H: Shelf, G: Gate>(
     shelf: &mut H,
     gate: &G,
 ) -> Result<Prepared, Stop>
-    ensures ok { (files : Files) → ToldFor (H.files shelf.old) (state_over context slots.now) (asks_for load.entry) files
-        → IfOk result (IsPrepared (state_over context slots.now) files (asks_for load.entry)) }
-    ensures stop { OnErr result (IsUnrefused (state_over context slots.now) (asks_for load.entry)) }
-    ensures can { IfOk result (λ prepared. CanMake slots.now prepared.change) }
-    ensures kept { IfOk result KeepsUnlessAccepted }
-    ensures puts { IfOk result (λ prepared. (other : ℕ) → puts prepared.change other ≡ true → (other == load.entry.slot) ≡ true) }
-    ensures adds { IfOk result (λ prepared. AddsAsAsked (asks_for load.entry) prepared.change) }
+    ensures prepared { IsTaken (H.files shelf.old) context (asks_for load.entry) slots.now result }
+    ensures ready { IfOk result (IsReady (asks_for load.entry) slots.now) }
     ensures goes_on { IfOk result (λ prepared. is_ended (kind_by prepared.answer) ≡ false) }
-    ensures files { H.files shelf.new ≡ H.files shelf.old }
-    ensures fault { IsErrOf result Stop.ShelfFault → Rose (H.faults shelf.old) (H.faults shelf.new) }
-    ensures calm { ¬ IsErrOf result Stop.ShelfFault → H.faults shelf.new ≡ H.faults shelf.old }
-    ensures unfetched { fetches_by (state_over context slots.now) (asks_for load.entry) ≡ false → shelf.new ≡ shelf.old }
-    ensures no_fault { fetches_by (state_over context slots.now) (asks_for load.entry) ≡ false
-        → IsErrOf result Stop.ShelfFault → ⊥ }
+    ensures shelf { IsAsked H.Shelf (fetches_by (state_over context slots.now) (asks_for load.entry))
+        (IsErrOf result Stop.ShelfFault) shelf.old shelf.new }
 {
     if let Some(cause) = load_cause(slots, load.slot, load.columns) {
         return Ok(Prepared::refused(cause));
@@ -92,13 +83,11 @@ fn prepare_table<R: Threads + Sync, G: Gate>(
 ) -> Result<Prepared, Stop>
     requires slot { load.slot < slot_count }
     requires within { length bytes.now ≤ max_file }
-    requires unrefused { first_of (load_conditions (stores_of slots.now) load.slot (unwrap_or (columns_of load.columns.field.now) [])) ≡ None }
+    requires unrefused { first_of (load_conditions (stores_of slots.now) load.slot
+        (unwrap_or (columns_of load.columns.field.now) [])) ≡ None }
     ensures ok { (files : Files) → file_in files load.entry.file.now ≡ Some bytes.now
         → IfOk result (IsPrepared (state_over context slots.now) files (asks_for load.entry)) }
-    ensures can { IfOk result (λ prepared. CanMake slots.now prepared.change) }
-    ensures kept { IfOk result KeepsUnlessAccepted }
-    ensures puts { IfOk result (λ prepared. (other : ℕ) → puts prepared.change other ≡ true → (other == load.entry.slot) ≡ true) }
-    ensures adds { IfOk result (λ prepared. AddsAsAsked (asks_for load.entry) prepared.change) }
+    ensures ready { IfOk result (IsReady (asks_for load.entry) slots.now) }
     ensures goes_on { IfOk result (λ prepared. is_ended (kind_by prepared.answer) ≡ false) }
     ensures calm { IsErrOf result Stop.ShelfFault → ⊥ }
 {

@@ -1,17 +1,12 @@
 //! `match R Q I RADIUS MAX`: the windows of a channel that match a window of another.
 
-ghost use Rattle.std.specs.Prelude.{◌≡◌, ◌+◌, ◌≤◌, IfOk, OnErr, drop, false, length, take};
-ghost use Rattle.mp_replies.specs.Command as asked;
-ghost use Rattle.mp_replies.specs.Line.{Asks};
-ghost use Rattle.mp_replies.specs.State.{Files};
-ghost use Rattle.mp_commands.specs.Answers.{is_accepted, kind_by};
-ghost use Rattle.mp_commands.specs.Preparing.{IsAnswer, IsUnrefused, state_over};
-ghost use Rattle.mp_commands.specs.Reads.{AreUnread, WereRead, most_lent};
-ghost use Rattle.mp_slots.specs.Slots.{stores_of};
+ghost use Rattle.std.specs.Prelude.{◌≡◌, ◌+◌, ◌≤◌, drop, length, take};
+ghost use Rattle.mp_commands.specs.Reports.{IsReported, OnlyReads, asks_match};
 
 use crate::answers::Answer;
 use crate::conditions::match_cause;
 use crate::context::Context;
+use crate::queries::Pattern;
 use mp_motifs::matches;
 use mp_nums::{Memory, Sample, Sq};
 use mp_replies::Ref;
@@ -22,16 +17,6 @@ use mp_slots::Slots;
 use std::alloc::Global;
 use std::thread::Threads;
 
-/// The window whose matches are sought, and how many windows match it at the most, and how far they may be.
-#[derive(Clone, Copy, Debug)]
-pub(crate) struct Pattern {
-    pub(crate) query: Ref,
-    pub(crate) start: u64,
-    pub(crate) radius: u128,
-    pub(crate) max: u64,
-    ghost some: { 1 ≤ max },
-}
-
 /// Both may be the same channel.
 pub(crate) fn report_match(
     rt: &(impl Threads + Sync),
@@ -41,12 +26,8 @@ pub(crate) fn report_match(
     at: Ref,
     pattern: Pattern,
 ) -> Result<Answer, Memory>
-    ensures ok { (files : Files) → IfOk result (IsAnswer (state_over context slots.old) files (Asks (asked.Match at pattern.query pattern.start pattern.radius pattern.max))) }
-    ensures memory { OnErr result (IsUnrefused (state_over context slots.old) (Asks (asked.Match at pattern.query pattern.start pattern.radius pattern.max))) }
-    ensures stores { stores_of slots.new ≡ stores_of slots.old }
-    ensures m { slots.new.m ≡ slots.old.m }
-    ensures read { WereRead (most_lent slots.old (Asks (asked.Match at pattern.query pattern.start pattern.radius pattern.max))) slots.old slots.new }
-    ensures unread { IfOk result (λ answer. is_accepted (kind_by answer) ≡ false → AreUnread slots.old slots.new) }
+    ensures report { IsReported context (asks_match at pattern) slots.old result }
+    ensures slots { OnlyReads (asks_match at pattern) slots.old slots.new result }
 {
     let Pattern { query, start, .. } = pattern;
     if let Some(cause) = match_cause(slots, at, query, start) {

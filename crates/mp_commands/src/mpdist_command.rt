@@ -1,13 +1,8 @@
 //! `mpdist R Q`: MPdist of two channels.
 
-ghost use Rattle.std.specs.Prelude.{◌≡◌, IfOk, OnErr, false};
 ghost use Rattle.mp_replies.specs.Command as asked;
 ghost use Rattle.mp_replies.specs.Line.{Asks};
-ghost use Rattle.mp_replies.specs.State.{Files};
-ghost use Rattle.mp_commands.specs.Answers.{is_accepted, kind_by};
-ghost use Rattle.mp_commands.specs.Preparing.{IsAnswer, IsUnrefused, state_over};
-ghost use Rattle.mp_commands.specs.Reads.{AreUnread, WereRead, most_lent};
-ghost use Rattle.mp_slots.specs.Slots.{stores_of};
+ghost use Rattle.mp_commands.specs.Reports.{IsReported, OnlyReads};
 
 use crate::answers::Answer;
 use crate::conditions::pair_cause;
@@ -32,12 +27,8 @@ pub(crate) fn report_mpdist<R: Threads + Sync, G: Gate>(
     b: Ref,
     gate: &G,
 ) -> Result<Answer, Memory>
-    ensures ok { (files : Files) → IfOk result (IsAnswer (state_over context slots.old) files (Asks (asked.Mpdist a b))) }
-    ensures memory { OnErr result (IsUnrefused (state_over context slots.old) (Asks (asked.Mpdist a b))) }
-    ensures stores { stores_of slots.new ≡ stores_of slots.old }
-    ensures m { slots.new.m ≡ slots.old.m }
-    ensures read { WereRead (most_lent slots.old (Asks (asked.Mpdist a b))) slots.old slots.new }
-    ensures unread { IfOk result (λ answer. is_accepted (kind_by answer) ≡ false → AreUnread slots.old slots.new) }
+    ensures report { IsReported context (Asks (asked.Mpdist a b)) slots.old result }
+    ensures slots { OnlyReads (Asks (asked.Mpdist a b)) slots.old slots.new result }
 {
     if let Some(cause) = pair_cause(slots, a, b) {
         return Ok(Answer::Refused(cause));

@@ -1,6 +1,6 @@
 //! `multi S K`: the multidimensional profile of a slot's channels, K of them together.
 
-ghost use Rattle.std.specs.Prelude.{◌≡◌, ◌≤◌, All, length, map, IfOk, OnErr, false};
+ghost use Rattle.std.specs.Prelude.{◌≡◌, ◌≤◌, All, length, map, IfOk};
 ghost use Rattle.mp_defs.specs.Limits.{max_samples};
 ghost use Rattle.mp_defs.specs.Series.{series_of};
 ghost use Rattle.mp_multi.specs.Conditions.{HaveOneLength};
@@ -8,11 +8,8 @@ ghost use Rattle.mp_multi.specs.Multi.{multi_of};
 ghost use Rattle.mp_replies.specs.Command as asked;
 ghost use Rattle.mp_replies.specs.Limits.{max_channels};
 ghost use Rattle.mp_replies.specs.Line.{Asks};
-ghost use Rattle.mp_replies.specs.State.{Files};
-ghost use Rattle.mp_commands.specs.Answers.{is_accepted, kind_by};
-ghost use Rattle.mp_commands.specs.Preparing.{IsAnswer, IsUnrefused, state_over};
-ghost use Rattle.mp_commands.specs.Reads.{AreUnread, WereRead, most_lent, refs_of};
-ghost use Rattle.mp_slots.specs.Slots.{stores_of};
+ghost use Rattle.mp_commands.specs.Reads.{refs_of};
+ghost use Rattle.mp_commands.specs.Reports.{IsReported, OnlyReads};
 
 use crate::answers::Answer;
 use crate::conditions::multi_cause;
@@ -36,12 +33,8 @@ pub(crate) fn report_multi<R: Threads + Sync, G: Gate>(
     k: u64,
     gate: &G,
 ) -> Result<Answer, Memory>
-    ensures ok { (files : Files) → IfOk result (IsAnswer (state_over context slots.old) files (Asks (asked.Multi slot k))) }
-    ensures memory { OnErr result (IsUnrefused (state_over context slots.old) (Asks (asked.Multi slot k))) }
-    ensures stores { stores_of slots.new ≡ stores_of slots.old }
-    ensures m { slots.new.m ≡ slots.old.m }
-    ensures read { WereRead (most_lent slots.old (Asks (asked.Multi slot k))) slots.old slots.new }
-    ensures unread { IfOk result (λ answer. is_accepted (kind_by answer) ≡ false → AreUnread slots.old slots.new) }
+    ensures report { IsReported context (Asks (asked.Multi slot k)) slots.old result }
+    ensures slots { OnlyReads (Asks (asked.Multi slot k)) slots.old slots.new result }
 {
     if let Some(cause) = multi_cause(slots, slot, k) {
         return Ok(Answer::Refused(cause));

@@ -1,11 +1,11 @@
 //! `open S C`: empty channels in place of what stood in a slot.
 
-ghost use Rattle.std.specs.Prelude.{◌≡◌, ◌==◌, ◌≤◌, ℕ, vec_len, IfOk, OnErr, true};
+ghost use Rattle.std.specs.Prelude.{◌≡◌, ◌≤◌, Option, vec_len, IfOk};
 ghost use Rattle.mp_defs.specs.Limits.{max_window, min_window};
 ghost use Rattle.mp_replies.specs.Command as asked;
 ghost use Rattle.mp_replies.specs.Line.{Asks};
 ghost use Rattle.mp_replies.specs.State.{Files};
-ghost use Rattle.mp_commands.specs.Preparing.{AreEmpty, CanMake, IsPrepared, IsUnrefused, KeepsUnlessAccepted, puts, state_over};
+ghost use Rattle.mp_commands.specs.Preparing.{AreEmpty, IsReady, IsTaken};
 ghost use Rattle.mp_slots.specs.Slots.{HaveWindow};
 
 use crate::answers::Answer;
@@ -27,12 +27,9 @@ pub(crate) fn prepare_open<R: Threads + Sync>(
     slot: u64,
     channels: u64,
 ) -> Result<Prepared, Memory>
-    ensures ok { (files : Files)
-        → IfOk result (IsPrepared (state_over context slots.now) files (Asks (asked.OpenSlot slot channels))) }
-    ensures memory { OnErr result (IsUnrefused (state_over context slots.now) (Asks (asked.OpenSlot slot channels))) }
-    ensures can { IfOk result (λ prepared. CanMake slots.now prepared.change) }
-    ensures kept { IfOk result KeepsUnlessAccepted }
-    ensures puts { IfOk result (λ prepared. (other : ℕ) → puts prepared.change other ≡ true → (other == slot) ≡ true) }
+    ensures prepared { (told : Option Files)
+        → IsTaken told context (Asks (asked.OpenSlot slot channels)) slots.now result }
+    ensures ready { IfOk result (IsReady (Asks (asked.OpenSlot slot channels)) slots.now) }
 {
     if let Some(cause) = open_cause(slot, channels) {
         return Ok(Prepared::refused(cause));

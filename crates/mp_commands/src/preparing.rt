@@ -1,15 +1,12 @@
 //! What a line asks for, prepared.
 
-ghost use Rattle.std.specs.Prelude.{◌≡◌, ℕ, IfOk, OnErr, IsErrOf, true, false};
+ghost use Rattle.std.specs.Prelude.{◌≡◌, IfOk, IsErrOf, false};
 ghost use Rattle.mp_lines.specs.Lines.{asked_by, cause_of as cause_of_fault};
-ghost use Rattle.mp_outside.specs.Counts.{Rose};
 ghost use Rattle.mp_replies.specs.Line.{asked_of, ends, is_end};
-ghost use Rattle.mp_replies.specs.State.{Files};
 ghost use Rattle.mp_replies.specs.Step.{fetches_by};
 ghost use Rattle.mp_commands.specs.Answers.{is_accepted, is_ended, kind_by};
-ghost use Rattle.mp_commands.specs.Preparing.{AddsAsAsked, CanMake, IsPrepared, IsUnrefused, IsWithinLimits, KeepsUnlessAccepted, ToldFor, puts, state_over};
-ghost use Rattle.mp_commands.specs.Reads.{AreUnread, WereRead, most_lent, renews};
-ghost use Rattle.mp_slots.specs.Slots.{stores_of};
+ghost use Rattle.mp_commands.specs.Preparing.{IsAsked, IsReady, IsTaken, IsWithinLimits, state_over};
+ghost use Rattle.mp_commands.specs.Reads.{AreUnread, IsKept};
 
 use crate::answers::Answer;
 use crate::append_command::prepare_append;
@@ -37,30 +34,17 @@ pub fn prepare<R: Threads + Sync, H: Shelf, G: Gate>(
     shelf: &mut H,
     gate: &G,
 ) -> Result<Prepared, Stop>
-    ensures ok { (files : Files) → ToldFor (H.files shelf.old) (state_over context slots.old) (asked_of line.now) files
-        → IfOk result (IsPrepared (state_over context slots.old) files (asked_of line.now)) }
+    ensures prepared { IsTaken (H.files shelf.old) context (asked_of line.now) slots.old result }
     ensures ends { IfOk result (λ prepared. is_ended (kind_by prepared.answer) ≡ ends line.now) }
-    ensures stop { OnErr result (IsUnrefused (state_over context slots.old) (asked_of line.now)) }
+    ensures ready { IfOk result (IsReady (asked_of line.now) slots.new) }
 
-    // The change.
-    ensures can { IfOk result (λ prepared. CanMake slots.new prepared.change) }
-    ensures kept { IfOk result KeepsUnlessAccepted }
-    ensures renewed { IfOk result (λ prepared. (slot : ℕ) → puts prepared.change slot ≡ true → renews (asked_of line.now) slot ≡ true) }
-    ensures adds { IfOk result (λ prepared. AddsAsAsked (asked_of line.now) prepared.change) }
+    // The slots, before the change is made.
+    ensures slots { IsKept (asked_of line.now) slots.old slots.new }
+    ensures unread { IfOk result (λ prepared. is_accepted (kind_by prepared.answer) ≡ false
+        → AreUnread slots.old slots.new) }
 
-    // The slots, before it is made.
-    ensures stores { stores_of slots.new ≡ stores_of slots.old }
-    ensures m { slots.new.m ≡ slots.old.m }
-    ensures read { WereRead (most_lent slots.old (asked_of line.now)) slots.old slots.new }
-    ensures unread { IfOk result (λ prepared. is_accepted (kind_by prepared.answer) ≡ false → AreUnread slots.old slots.new) }
-
-    // The shelf.
-    ensures files { H.files shelf.new ≡ H.files shelf.old }
-    ensures fault { IsErrOf result Stop.ShelfFault → Rose (H.faults shelf.old) (H.faults shelf.new) }
-    ensures calm { ¬ IsErrOf result Stop.ShelfFault → H.faults shelf.new ≡ H.faults shelf.old }
-    ensures unfetched { fetches_by (state_over context slots.old) (asked_of line.now) ≡ false → shelf.new ≡ shelf.old }
-    ensures no_fault { fetches_by (state_over context slots.old) (asked_of line.now) ≡ false
-        → IsErrOf result Stop.ShelfFault → ⊥ }
+    ensures shelf { IsAsked H.Shelf (fetches_by (state_over context slots.old) (asked_of line.now))
+        (IsErrOf result Stop.ShelfFault) shelf.old shelf.new }
 {
     let command = match parse_line(line) {
         Err(fault) => return Ok(Prepared::refused(cause_of(fault))),
@@ -80,30 +64,17 @@ fn prepare_command<R: Threads + Sync, H: Shelf, G: Gate>(
     gate: &G,
 ) -> Result<Prepared, Stop>
     requires { IsWithinLimits (asked_by command) }
-    ensures ok { (files : Files) → ToldFor (H.files shelf.old) (state_over context slots.old) (asked_by command.entry) files
-        → IfOk result (IsPrepared (state_over context slots.old) files (asked_by command.entry)) }
+    ensures prepared { IsTaken (H.files shelf.old) context (asked_by command.entry) slots.old result }
     ensures ends { IfOk result (λ prepared. is_ended (kind_by prepared.answer) ≡ is_end (asked_by command.entry)) }
-    ensures stop { OnErr result (IsUnrefused (state_over context slots.old) (asked_by command.entry)) }
+    ensures ready { IfOk result (IsReady (asked_by command.entry) slots.new) }
 
-    // The change.
-    ensures can { IfOk result (λ prepared. CanMake slots.new prepared.change) }
-    ensures kept { IfOk result KeepsUnlessAccepted }
-    ensures renewed { IfOk result (λ prepared. (slot : ℕ) → puts prepared.change slot ≡ true → renews (asked_by command.entry) slot ≡ true) }
-    ensures adds { IfOk result (λ prepared. AddsAsAsked (asked_by command.entry) prepared.change) }
+    // The slots, before the change is made.
+    ensures slots { IsKept (asked_by command.entry) slots.old slots.new }
+    ensures unread { IfOk result (λ prepared. is_accepted (kind_by prepared.answer) ≡ false
+        → AreUnread slots.old slots.new) }
 
-    // The slots, before it is made.
-    ensures stores { stores_of slots.new ≡ stores_of slots.old }
-    ensures m { slots.new.m ≡ slots.old.m }
-    ensures read { WereRead (most_lent slots.old (asked_by command.entry)) slots.old slots.new }
-    ensures unread { IfOk result (λ prepared. is_accepted (kind_by prepared.answer) ≡ false → AreUnread slots.old slots.new) }
-
-    // The shelf.
-    ensures files { H.files shelf.new ≡ H.files shelf.old }
-    ensures fault { IsErrOf result Stop.ShelfFault → Rose (H.faults shelf.old) (H.faults shelf.new) }
-    ensures calm { ¬ IsErrOf result Stop.ShelfFault → H.faults shelf.new ≡ H.faults shelf.old }
-    ensures unfetched { fetches_by (state_over context slots.old) (asked_by command.entry) ≡ false → shelf.new ≡ shelf.old }
-    ensures no_fault { fetches_by (state_over context slots.old) (asked_by command.entry) ≡ false
-        → IsErrOf result Stop.ShelfFault → ⊥ }
+    ensures shelf { IsAsked H.Shelf (fetches_by (state_over context slots.old) (asked_by command.entry))
+        (IsErrOf result Stop.ShelfFault) shelf.old shelf.new }
 {
     match command {
         Command::Blank => Ok(Prepared::keeping(Answer::Silent)),

@@ -1,10 +1,8 @@
 //! `profile R`: the matrix profile of a channel. `entry R I`: the entry of one window in it.
 
-ghost use Rattle.std.specs.Prelude.{◌≡◌, IfOk, OnErr};
 ghost use Rattle.mp_replies.specs.Command as asked;
 ghost use Rattle.mp_replies.specs.Line.{Asks};
-ghost use Rattle.mp_replies.specs.State.{Files};
-ghost use Rattle.mp_commands.specs.Preparing.{IsAnswer, IsUnrefused, state_over};
+ghost use Rattle.mp_commands.specs.Reports.{IsReported};
 
 use crate::answers::Answer;
 use crate::conditions::{ref_cause, window_cause};
@@ -22,8 +20,7 @@ pub(crate) fn report_profile(
     context: Context,
     at: Ref,
 ) -> Result<Answer, Memory>
-    ensures ok { (files : Files) → IfOk result (IsAnswer (state_over context slots.now) files (Asks (asked.Profile at))) }
-    ensures memory { OnErr result (IsUnrefused (state_over context slots.now) (Asks (asked.Profile at))) }
+    ensures { IsReported context (Asks (asked.Profile at)) slots.now result }
 {
     if let Some(cause) = ref_cause(slots, at) {
         return Ok(Answer::Refused(cause));
@@ -40,8 +37,7 @@ pub(crate) fn report_entry(
     at: Ref,
     start: u64,
 ) -> Result<Answer, Memory>
-    ensures ok { (files : Files) → IfOk result (IsAnswer (state_over context slots.now) files (Asks (asked.Entry at start))) }
-    ensures memory { OnErr result (IsUnrefused (state_over context slots.now) (Asks (asked.Entry at start))) }
+    ensures { IsReported context (Asks (asked.Entry at start)) slots.now result }
 {
     if let Some(cause) = window_cause(slots, at, start) {
         return Ok(Answer::Refused(cause));

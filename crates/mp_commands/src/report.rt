@@ -1,12 +1,8 @@
 //! The reports of the commands that change nothing.
 
-ghost use Rattle.std.specs.Prelude.{◌≡◌, IfOk, OnErr, false};
 ghost use Rattle.mp_lines.specs.Lines.{asked_by};
-ghost use Rattle.mp_replies.specs.State.{Files};
-ghost use Rattle.mp_commands.specs.Answers.{is_accepted, kind_by};
-ghost use Rattle.mp_commands.specs.Preparing.{IsAnswer, IsUnrefused, IsWithinLimits, OnlyReports, state_over};
-ghost use Rattle.mp_commands.specs.Reads.{AreUnread, WereRead, most_lent};
-ghost use Rattle.mp_slots.specs.Slots.{stores_of};
+ghost use Rattle.mp_commands.specs.Preparing.{IsWithinLimits, OnlyReports};
+ghost use Rattle.mp_commands.specs.Reports.{IsReported, OnlyReads};
 
 use crate::answers::Answer;
 use crate::chain_command::{report_chain, report_chains};
@@ -14,11 +10,12 @@ use crate::consensus_command::report_consensus;
 use crate::context::Context;
 use crate::discords_command::report_discords;
 use crate::join_command::report_join;
-use crate::match_command::{Pattern, report_match};
-use crate::motifs_command::{Query, report_motifs};
+use crate::match_command::report_match;
+use crate::motifs_command::report_motifs;
 use crate::mpdist_command::report_mpdist;
 use crate::multi_command::report_multi;
 use crate::profile_command::{report_entry, report_profile};
+use crate::queries::{Pattern, Query};
 use crate::segments_command::report_segments;
 use crate::session_command::report_session;
 use crate::window_command::report_window;
@@ -41,12 +38,8 @@ pub(crate) fn report<R: Threads + Sync, G: Gate>(
 ) -> Result<Answer, Memory>
     requires reports { OnlyReports command }
     requires within { IsWithinLimits (asked_by command) }
-    ensures ok { (files : Files) → IfOk result (IsAnswer (state_over context slots.old) files (asked_by command.entry)) }
-    ensures memory { OnErr result (IsUnrefused (state_over context slots.old) (asked_by command.entry)) }
-    ensures stores { stores_of slots.new ≡ stores_of slots.old }
-    ensures m { slots.new.m ≡ slots.old.m }
-    ensures read { WereRead (most_lent slots.old (asked_by command.entry)) slots.old slots.new }
-    ensures unread { IfOk result (λ answer. is_accepted (kind_by answer) ≡ false → AreUnread slots.old slots.new) }
+    ensures report { IsReported context (asked_by command.entry) slots.old result }
+    ensures slots { OnlyReads (asked_by command.entry) slots.old slots.new result }
 {
     match command {
         Command::Blank | Command::Open { .. } | Command::Load { .. } | Command::Append { .. } => {

@@ -1,11 +1,10 @@
 //! `segments R COUNT FACTOR`: the places where a channel changes its regime.
 
-ghost use Rattle.std.specs.Prelude.{◌≡◌, ◌≤◌, IfOk, OnErr};
+ghost use Rattle.std.specs.Prelude.{◌≤◌};
 ghost use Rattle.mp_replies.specs.Command as asked;
 ghost use Rattle.mp_replies.specs.Line.{Asks};
-ghost use Rattle.mp_replies.specs.State.{Files};
 ghost use Rattle.mp_replies.specs.Limits.{max_factor};
-ghost use Rattle.mp_commands.specs.Preparing.{IsAnswer, IsUnrefused, state_over};
+ghost use Rattle.mp_commands.specs.Reports.{IsReported};
 
 use crate::answers::Answer;
 use crate::conditions::ref_cause;
@@ -27,8 +26,7 @@ pub(crate) fn report_segments(
     factor: u32,
 ) -> Result<Answer, Memory>
     requires { factor ≤ max_factor }
-    ensures ok { (files : Files) → IfOk result (IsAnswer (state_over context slots.now) files (Asks (asked.Segments at count factor))) }
-    ensures memory { OnErr result (IsUnrefused (state_over context slots.now) (Asks (asked.Segments at count factor))) }
+    ensures { IsReported context (Asks (asked.Segments at count factor)) slots.now result }
 {
     if let Some(cause) = ref_cause(slots, at) {
         return Ok(Answer::Refused(cause));

@@ -1,8 +1,11 @@
 -- What each call on a feed does to the lines that are still to come.
-use Rattle.std.proofs.Common.{◌≡◌, ◌≢◌, ℕ, zero, suc, ◌+◌, ◌-◌, ◌<◌, ◌≤◌, min, true, false, Option, Some, None, List, [], ◌∷◌, ◌++◌, length, take, drop, map, get_or, eqb, All, if◌then◌else◌, not, refl, sym, ap, ◌∙◌, arith, append_assoc, ⊎_elim, le_refl}
+use Rattle.std.proofs.Common.{◌≡◌, ◌≢◌, ℕ, zero, suc, ◌+◌, ◌-◌, ◌<◌, ◌≤◌, min, true, false, Option, Some, None, List}
+use Rattle.std.proofs.Common.{[], ◌∷◌, ◌++◌, length, take, drop, map, get_or, eqb, All, if◌then◌else◌, not, refl, sym}
+use Rattle.std.proofs.Common.{ap, ◌∙◌, arith, append_assoc, ⊎_elim, le_refl}
 use Rattle.std.specs.Option.{unwrap_or, is_some}
 use Rattle.std.specs.List.{position_or_len, before_first}
-use Rattle.std.proofs.lemmas.Bool.{ne_eqb, eqb-true, eqb-false, or_parts, false_from_ne_true, true_from_ne_false, cases_Bool}
+use Rattle.std.proofs.lemmas.Bool.{ne_eqb, eqb-true, eqb-false, or_parts, false_from_ne_true, true_from_ne_false}
+use Rattle.std.proofs.lemmas.Bool.{cases_Bool}
 use Rattle.std.proofs.lemmas.List.{append-nil, take-take, take_all, take_min, drop_all, length-take, get_or-take}
 use Rattle.std.proofs.Math.Seq.{take-append-add}
 use Rattle.std.proofs.lemmas.List.Elements.{All-nil, All-head, All-tail, All-append, All-take}
@@ -10,7 +13,8 @@ use Rattle.std.proofs.lemmas.List.Sums.{position_or_len_is, fails_before_first, 
 use Rattle.memchr.specs.Find.{IsFirstByte, is_byte}
 use Rattle.mp_bytes.specs.Bytes.{is_empty, onto_first}
 use Rattle.mp_bytes.specs.Lines.{lines, onto_ended, ended_lines}
-use Rattle.mp_feed.specs.Feeding.{Holding, nothing, IsCutLine, is_lf, has_lf, used_of, fed, ended, lines_left, ended_lines_left}
+use Rattle.mp_feed.specs.Feeding.{Holding, nothing, IsCutLine, is_lf, has_lf, used_of, fed, ended, lines_left}
+use Rattle.mp_feed.specs.Feeding.{ended_lines_left}
 use Rattle.mp_bytes.specs.Lines.{cut}
 
 -- no byte is an LF

@@ -1,7 +1,9 @@
 -- What a read gave.
-use Rattle.std.proofs.Common.{◌≡◌, ℕ, ◌+◌, ◌-◌, ◌<◌, ◌≤◌, true, false, refl, ⊎_elim, Bool, List, [], ◌++◌, length, take, drop, arith, ap, ◌∙◌, sym}
+use Rattle.std.proofs.Common.{◌≡◌, ℕ, ◌+◌, ◌-◌, ◌<◌, ◌≤◌, true, false, refl, ⊎_elim, Bool, List, [], ◌++◌, length, take}
+use Rattle.std.proofs.Common.{drop, arith, ap, ◌∙◌, sym}
 use Rattle.std.specs.Prelude.{Option, Some, Result, Ok, Err, OnErr}
-use Rattle.std.proofs.lemmas.List.{length-take, length-take-le, length-drop, take-take, take-append-le, take-append-drop, drop-drop, drop-take, take_all}
+use Rattle.std.proofs.lemmas.List.{length-take, length-take-le, length-drop, take-take, take-append-le}
+use Rattle.std.proofs.lemmas.List.{take-append-drop, drop-drop, drop-take, take_all}
 use Rattle.std.proofs.Math.Seq.{drop-nil}
 use Rattle.std.specs.Prelude.{nat_lt}
 use Rattle.std.proofs.lemmas.Bool.{cases_Bool}

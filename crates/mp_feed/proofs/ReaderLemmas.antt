@@ -1,9 +1,11 @@
 -- What a reader gave, one moment after another.
-use Rattle.std.proofs.Common.{◌≡◌, ℕ, ◌+◌, ◌<◌, Bool, true, false, List, [], ◌∷◌, length, take, drop, refl, arith, ap, ◌∙◌, sym, subst}
+use Rattle.std.proofs.Common.{◌≡◌, ℕ, ◌+◌, ◌<◌, Bool, true, false, List, [], ◌∷◌, length, take, drop, refl, arith, ap}
+use Rattle.std.proofs.Common.{◌∙◌, sym, subst}
 use Rattle.std.specs.Prelude.{Option, Some}
 use Rattle.std.specs.Prelude.{if◌then◌else◌}
 use Rattle.mp_feed.specs.Feeding.{Holding, IsCutLine, has_lf, used_of, fed, ended, lines_left}
-use Rattle.mp_feed.proofs.FeedSteps.{lines_left-fed, lines_left-fed_lf, ended_lines_left-fed, ended_lines_left-fed_lf, drop-used_of-no_lf, lines_left-end, ended_lines_left-end}
+use Rattle.mp_feed.proofs.FeedSteps.{lines_left-fed, lines_left-fed_lf, ended_lines_left-fed, ended_lines_left-fed_lf}
+use Rattle.mp_feed.proofs.FeedSteps.{drop-used_of-no_lf, lines_left-end, ended_lines_left-end}
 use Rattle.mp_feed.specs.declared.readers.Next.TheVariants.{Line, End}
 use Rattle.mp_feed.specs.declared.readers.Piece.{Piece}
 use Rattle.mp_feed.specs.Reading.{Reading, after_line, before_end, bit, IsReadOf, Gave, IsAtRest, IsDry, IsNext}

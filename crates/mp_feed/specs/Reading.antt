@@ -1,5 +1,6 @@
 -- What a reader of lines holds, and what it takes of a source.
-use Rattle.std.specs.Prelude.{◌≡◌, ℕ, ◌+◌, ◌<◌, Bool, true, false, IsTrue, List, [], ◌∷◌, ◌++◌, length, take, Option, Some}
+use Rattle.std.specs.Prelude.{◌≡◌, ℕ, ◌+◌, ◌<◌, Bool, true, false, IsTrue, List, [], ◌∷◌, ◌++◌, length, take, Option}
+use Rattle.std.specs.Prelude.{Some}
 use Rattle.mp_feed.specs.Feeding.{Holding, nothing, lines_left, ended_lines_left}
 use Rattle.mp_feed.specs.declared.readers.Next.{Next}
 use Rattle.mp_feed.specs.declared.readers.Next.TheVariants.{Line, End, PastLimit}

@@ -67,7 +67,8 @@ merged_part_next size old slots new first k slot same fits lt h e =
     subst (λ n. IsMergedBelow old (placed size first slots) n (set new (first + k) slot)) more
     (merged_next old (placed size first slots) new (first + k) slot (omega arith) h
     (e ∙ ap (nearer_of (get_or new (first + k) None))
-    (sym (placed_within size first (first + k) slots (omega arith) (omega arith) ∙ ap (λ j. get_or slots j None) here))))
+    (sym (placed_within size first (first + k) slots (omega arith) (omega arith)
+    ∙ ap (λ j. get_or slots j None) here))))
 
 pub merged_part_ends : (size : ℕ) (old slots new : Column) (first i : ℕ) → size ≡ length old
     → first + length slots ≤ size → i ≡ first + length slots → IsMergedBelow old (placed size first slots) i new

@@ -1,5 +1,6 @@
 -- Appends that come one behind another.
-use Rattle.std.proofs.Common.{◌≡◌, ℕ, ◌+◌, ◌<◌, ◌≤◌, Bool, true, false, not, List, [], ◌∷◌, ◌++◌, length, refl, ap, ◌∙◌, sym, subst, arith, append-nil, length-append, nat_lt}
+use Rattle.std.proofs.Common.{◌≡◌, ℕ, ◌+◌, ◌<◌, ◌≤◌, Bool, true, false, not, List, [], ◌∷◌, ◌++◌, length, refl, ap, ◌∙◌}
+use Rattle.std.proofs.Common.{sym, subst, arith, append-nil, length-append, nat_lt}
 use Rattle.std.specs.Prelude.{Option, Some, None, is_some, is_none, unwrap_or, Result, Ok, Err, flat_map}
 use Rattle.std.proofs.lemmas.Bool.{or_parts}
 use Rattle.std.proofs.lemmas.Bool.Decides.{nat_tests}
@@ -12,13 +13,15 @@ use Rattle.mp_replies.specs.State.{Files, Store, State, Open, store_at, is_close
 use Rattle.mp_replies.specs.Change.{Change, AddSamples, changed, extended}
 use Rattle.mp_replies.specs.Command.{Append}
 use Rattle.mp_replies.specs.Conditions.{first_of, when}
-use Rattle.mp_replies.specs.AppendCommand.{item_of, items_of, read_items, rows_in, bad_in, append_conditions, append_change}
+use Rattle.mp_replies.specs.AppendCommand.{item_of, items_of, read_items, rows_in, bad_in, append_conditions}
+use Rattle.mp_replies.specs.AppendCommand.{append_change}
 use Rattle.mp_replies.specs.Line.{Asked, Asks, asked_of}
 use Rattle.mp_replies.specs.Step.{verdict, verdict_by, verdict_of, cause, cause_in, after, after_by}
 use Rattle.mp_replies.specs.Output.{some_refused, state_after}
 use Rattle.mp_replies.specs.Laws.{AppendEach, AppendsAddUp}
 use Rattle.mp_replies.proofs.BadItems.{item_good}
-use Rattle.mp_replies.proofs.Channels.{with_rows, with_rows-is, length-with_rows, with_rows-append, samples_in-with_rows, open_with_channels, store_at-set}
+use Rattle.mp_replies.proofs.Channels.{with_rows, with_rows-is, length-with_rows, with_rows-append}
+use Rattle.mp_replies.proofs.Channels.{samples_in-with_rows, open_with_channels, store_at-set}
 
 -- ---- samples of items one behind the other
 

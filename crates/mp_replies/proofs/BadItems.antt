@@ -1,5 +1,6 @@
 -- The first bad item of a line.
-use Rattle.std.proofs.Common.{◌≡◌, ℕ, zero, suc, ◌+◌, ◌-◌, ◌<◌, ◌≤◌, ◌==◌, Bool, true, false, List, [], ◌∷◌, length, map, refl, ap, ◌∙◌, sym, arith}
+use Rattle.std.proofs.Common.{◌≡◌, ℕ, zero, suc, ◌+◌, ◌-◌, ◌<◌, ◌≤◌, ◌==◌, Bool, true, false, List, [], ◌∷◌, length}
+use Rattle.std.proofs.Common.{map, refl, ap, ◌∙◌, sym, arith}
 use Rattle.std.specs.Prelude.{Result, Ok, Err, IsOk, slice_index_or, if◌then◌else◌}
 use Rattle.std.proofs.lemmas.List.Elements.{All-cons, All-nil}
 use Rattle.mp_bytes.specs.Values.{values_in}
@@ -75,7 +76,8 @@ later_bad scale channels start item row items bad good first =
           start + j < bad → IsOk (item_of scale channels (start + j) (slice_index_or (item ∷ items) j []))) [
             | zero ↦ λ lt. let e : start + zero ≡ start = omega arith in rw (e, good) refl
             | suc j ↦
-                λ lt. let e : start + suc j ≡ start + 1 + j = omega arith in rw e (first.good_before j (omega (arith, lt)))
+                λ lt. let e : start + suc j ≡ start + 1 + j = omega arith in
+                rw e (first.good_before j (omega (arith, lt)))
           ];
     }
 

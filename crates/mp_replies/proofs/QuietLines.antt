@@ -1,5 +1,6 @@
 -- Which lines are answered by nothing.
-use Rattle.std.proofs.Common.{◌≡◌, ℕ, ◌≤◌, Bool, ◌||◌, ◌&&◌, not, true, false, if◌then◌else◌, List, [], ◌∷◌, length, refl, arith, ap, ◌∙◌, nat_lt}
+use Rattle.std.proofs.Common.{◌≡◌, ℕ, ◌≤◌, Bool, ◌||◌, ◌&&◌, not, true, false, if◌then◌else◌, List, [], ◌∷◌, length}
+use Rattle.std.proofs.Common.{refl, arith, ap, ◌∙◌, nat_lt}
 use Rattle.std.specs.Prelude.{Option, Some, None, Result, Ok, Err, ◌==◌, IsTrue, slice_index, filter}
 use Rattle.std.specs.List.{list_all}
 use Rattle.std.proofs.lemmas.Bool.Decides.{nat_tests}
@@ -14,7 +15,8 @@ use Rattle.mp_replies.specs.Conditions.{first_of}
 use Rattle.mp_replies.specs.Command.{Command}
 use Rattle.mp_replies.specs.Answer.{Report, Silent, Accepted, Ended}
 use Rattle.mp_replies.specs.Line.{Asked, Nothing, Asks, Faulty, asks, asked_in, asked_of, command_by}
-use Rattle.mp_replies.specs.Step.{Verdict, Passes, IsRefused, IsAccepted, verdict, verdict_by, verdict_of, change_by, conditions, after, answer, answer_by, is_last, report_by}
+use Rattle.mp_replies.specs.Step.{Verdict, Passes, IsRefused, IsAccepted, verdict, verdict_by, verdict_of, change_by}
+use Rattle.mp_replies.specs.Step.{conditions, after, answer, answer_by, is_last, report_by}
 use Rattle.mp_replies.specs.Laws.{QuietLinesAreSilent}
 
 -- ---- silent is the answer to what asks for nothing, and to nothing else

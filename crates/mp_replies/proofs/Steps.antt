@@ -9,10 +9,13 @@ use Rattle.mp_replies.specs.Command.{Command, Load, End}
 use Rattle.mp_replies.specs.Conditions.{Condition, first_of}
 use Rattle.mp_replies.specs.LoadCommand.{load_conditions, file_conditions, file_in}
 use Rattle.mp_replies.specs.Line.{Asked, Nothing, Asks, Faulty, asked_of, is_end, ends}
-use Rattle.mp_replies.specs.Step.{Verdict, Passes, IsRefused, IsAccepted, verdict, verdict_by, verdict_of, cause, cause_in, after, after_by, counted, answer, answer_by, change_by, conditions, is_last, report_by, fetches, fetches_by}
+use Rattle.mp_replies.specs.Step.{Verdict, Passes, IsRefused, IsAccepted, verdict, verdict_by, verdict_of, cause}
+use Rattle.mp_replies.specs.Step.{cause_in, after, after_by, counted, answer, answer_by, change_by, conditions, is_last}
+use Rattle.mp_replies.specs.Step.{report_by, fetches, fetches_by}
 use Rattle.mp_replies.specs.Report.{text_of}
 use Rattle.mp_replies.specs.Output.{reply, session_output}
-use Rattle.mp_replies.specs.Laws.{RefusedLinesChangeNothing, AnswersRefuseByCause, EndsAreAnswered, OtherLinesReadNoFile, TileAndWorkersChangeNothing}
+use Rattle.mp_replies.specs.Laws.{RefusedLinesChangeNothing, AnswersRefuseByCause, EndsAreAnswered}
+use Rattle.mp_replies.specs.Laws.{OtherLinesReadNoFile, TileAndWorkersChangeNothing}
 
 refused_after : (state : State) (v : Verdict) (why : Cause) → cause_in v ≡ Some why → after_by state v ≡ counted state
 refused_after state Passes why h = refl

@@ -1,5 +1,6 @@
 -- `append S ITEM ITEM ..`: samples behind those of each channel of a slot.
-use Rattle.std.specs.Prelude.{ℕ, ℤ, ◌+◌, ◌==◌, nat_lt, not, is_none, unwrap_or, List, [], ◌∷◌, length, if◌then◌else◌, Option, Some, None, option_map, Result, Ok, Err}
+use Rattle.std.specs.Prelude.{ℕ, ℤ, ◌+◌, ◌==◌, nat_lt, not, is_none, unwrap_or, List, [], ◌∷◌, length, if◌then◌else◌}
+use Rattle.std.specs.Prelude.{Option, Some, None, option_map, Result, Ok, Err}
 use Rattle.mp_bytes.specs.Values.{values_in}
 use Rattle.mp_defs.specs.Limits.{max_samples, least_sample, greatest_sample}
 use Rattle.mp_defs.specs.Series.{Series}

@@ -7,7 +7,8 @@ use Rattle.mp_bytes.specs.Lines.{max_line, most_kept, cut}
 use Rattle.mp_replies.specs.State.{Files, State}
 use Rattle.mp_replies.specs.Answer.{Answer}
 use Rattle.mp_replies.specs.Line.{Asked, asked_of, is_end, ends}
-use Rattle.mp_replies.specs.Step.{Verdict, verdict, verdict_of, cause, cause_in, after, after_by, answer, answer_by, fetches, fetches_by}
+use Rattle.mp_replies.specs.Step.{Verdict, verdict, verdict_of, cause, cause_in, after, after_by, answer, answer_by}
+use Rattle.mp_replies.specs.Step.{fetches, fetches_by}
 use Rattle.mp_replies.specs.Report.{text_of}
 use Rattle.mp_replies.specs.Output.{reply}
 use Rattle.mp_replies.specs.Laws.{LongLinesAreCut, LongLinesAreRunCut}

@@ -1,5 +1,6 @@
 -- `load S FILE COL,COL`, or with `header` behind: columns of a file in place of what stood in a slot.
-use Rattle.std.specs.Prelude.{ℕ, ◌==◌, Bool, true, false, not, nat_lt, List, [], ◌∷◌, length, codes, Option, Some, None, is_none, unwrap_or, option_map, option_and_then, Result, Ok, Err}
+use Rattle.std.specs.Prelude.{ℕ, ◌==◌, Bool, true, false, not, nat_lt, List, [], ◌∷◌, length, codes, Option, Some, None}
+use Rattle.std.specs.Prelude.{is_none, unwrap_or, option_map, option_and_then, Result, Ok, Err}
 use Rattle.std.specs.FinMap.{get}
 use Rattle.mp_bytes.specs.Bytes.{same_text}
 use Rattle.mp_defs.specs.Series.{Series}

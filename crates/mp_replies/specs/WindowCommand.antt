@@ -1,5 +1,6 @@
 -- `window R I`: the samples of a window.
-use Rattle.std.specs.Prelude.{ℕ, List, [], ◌∷◌, ◌++◌, take, drop, codes, decimal, flat_map, Option, None, option_map, option_and_then}
+use Rattle.std.specs.Prelude.{ℕ, List, [], ◌∷◌, ◌++◌, take, drop, codes, decimal, flat_map, Option, None, option_map}
+use Rattle.std.specs.Prelude.{option_and_then}
 use Rattle.mp_defs.specs.Series.{Series}
 use Rattle.mp_text.specs.SampleText.{sample_text}
 use Rattle.mp_replies.specs.Answer.{Report, WindowReport}

@@ -1,5 +1,6 @@
 -- The words that start the program: --window and the length of a window, and behind them --scale and a scale.
-use Rattle.std.specs.Prelude.{ℕ, nat_le, List, [], ◌∷◌, codes, if◌then◌else◌, Option, Some, None, option_map, option_and_then}
+use Rattle.std.specs.Prelude.{ℕ, nat_le, List, [], ◌∷◌, codes, if◌then◌else◌, Option, Some, None, option_map}
+use Rattle.std.specs.Prelude.{option_and_then}
 use Rattle.mp_bytes.specs.Bytes.{same_text}
 use Rattle.mp_bytes.specs.Digits.{number_of}
 use Rattle.mp_defs.specs.Limits.{min_window, max_window}

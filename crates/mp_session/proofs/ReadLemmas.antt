@@ -1,5 +1,6 @@
 -- How often samples are read, where they are added.
-use Rattle.std.proofs.Common.{◌≡◌, ℕ, ◌+◌, ◌*◌, ◌<◌, ◌≤◌, ◌==◌, Bool, true, false, if◌then◌else◌, List, [], ◌∷◌, length, map, refl, ap, ◌∙◌, sym, subst, arith, ⊎_elim}
+use Rattle.std.proofs.Common.{◌≡◌, ℕ, ◌+◌, ◌*◌, ◌<◌, ◌≤◌, ◌==◌, Bool, true, false, if◌then◌else◌, List, [], ◌∷◌, length}
+use Rattle.std.proofs.Common.{map, refl, ap, ◌∙◌, sym, subst, arith, ⊎_elim}
 use Rattle.std.specs.Prelude.{All}
 use Rattle.std.proofs.lemmas.List.{length-map}
 use Rattle.std.proofs.lemmas.List.Elements.{All-head}
@@ -13,7 +14,8 @@ use Rattle.mp_replies.specs.Command as asked
 use Rattle.mp_replies.specs.Line.{Asked, Asks}
 use Rattle.mp_replies.specs.State.{Store, channels_at, samples_in}
 use Rattle.mp_slots.specs.Slots as slots
-use Rattle.mp_slots.specs.Slots.{HasRoomFor, HaveRoom, Stored, count_in, count_of, items_in, lists_in, reads_to_add, series_in, slot_at, stores_of}
+use Rattle.mp_slots.specs.Slots.{HasRoomFor, HaveRoom, Stored, count_in, count_of, items_in, lists_in, reads_to_add}
+use Rattle.mp_slots.specs.Slots.{series_in, slot_at, stores_of}
 use Rattle.mp_slots.specs.StoreLaws.{channels_at-stores, count_at as channels_long}
 use Rattle.mp_commands.specs.declared.prepared.Change.{Change}
 use Rattle.mp_commands.specs.declared.prepared.Change.TheVariants.{Keep, PutChannels, AddSamples}
@@ -59,7 +61,8 @@ append_reads_same old new m stores slot count =
     ∙ (ap (λ (ss : List Store). samples_in (channels_at ss slot)) stores ∙ samples_at old slot) in
     ap (λ (n : ℕ). n * (count * (4 * (windows (count_in (slot_at new slot) + count) new.m + new.m)))) long
     ∙ (ap (λ (n : ℕ). length (slot_at old slot) * (count * (4 * (windows (n + count) new.m + new.m)))) same
-    ∙ ap (λ (k : ℕ). length (slot_at old slot) * (count * (4 * (windows (count_in (slot_at old slot) + count) k + k)))) m)
+    ∙ ap
+    (λ (k : ℕ). length (slot_at old slot) * (count * (4 * (windows (count_in (slot_at old slot) + count) k + k)))) m)
 
 -- ---- the line that was run
 

@@ -1,8 +1,11 @@
 -- From the lines that were run to what is told of them.
-use Rattle.std.proofs.Common.{◌≡◌, ◌≢◌, ◌⊎◌, inl, inr, ℕ, ◌+◌, ◌<◌, ◌≤◌, Bool, true, false, ◌||◌, List, [], ◌∷◌, ◌++◌, length, take, drop, get_or, append_assoc, map, refl, sym, ap, ◌∙◌, subst, arith, append-nil, length-append, ⊎_elim}
+use Rattle.std.proofs.Common.{◌≡◌, ◌≢◌, ◌⊎◌, inl, inr, ℕ, ◌+◌, ◌<◌, ◌≤◌, Bool, true, false, ◌||◌, List, [], ◌∷◌, ◌++◌}
+use Rattle.std.proofs.Common.{length, take, drop, get_or, append_assoc, map, refl, sym, ap, ◌∙◌, subst, arith}
+use Rattle.std.proofs.Common.{append-nil, length-append, ⊎_elim}
 use Rattle.std.specs.Prelude.{Option, Some, None, is_some, Result, Ok, Err, IfOk, OnOk, IsErrOf, IsTrue}
 use Rattle.std.specs.List.{concat, take-map}
-use Rattle.std.proofs.lemmas.List.{drop_more, get_or-map, length-map, nil_from_length, take_all, take-append-drop, take-append-le}
+use Rattle.std.proofs.lemmas.List.{drop_more, get_or-map, length-map, nil_from_length, take_all, take-append-drop}
+use Rattle.std.proofs.lemmas.List.{take-append-le}
 use Rattle.std.proofs.Math.Bool.{or-true}
 use Rattle.std.proofs.lemmas.Bool.{cases_Bool}
 use Rattle.std.proofs.lemmas.List.Folds.{concat-append}
@@ -16,7 +19,8 @@ use Rattle.mp_replies.specs.CutLaws.{after_cut, cause_cut, ends_cut, fetches_cut
 use Rattle.mp_replies.specs.State.{Files, State, opening}
 use Rattle.mp_replies.specs.Line.{ends}
 use Rattle.mp_replies.specs.Step.{cause, after, fetches}
-use Rattle.mp_replies.specs.Output.{lines_run, output, output_by, reply, replies, reports, session_output, some_ends, some_refused, state_after, until_end, usage}
+use Rattle.mp_replies.specs.Output.{lines_run, output, output_by, reply, replies, reports, session_output, some_ends}
+use Rattle.mp_replies.specs.Output.{some_refused, state_after, until_end, usage}
 use Rattle.mp_replies.specs.Words.{Setup, job}
 use Rattle.mp_session.specs.declared.halts.Halt.{Halt}
 use Rattle.mp_session.specs.declared.halts.Halt.TheVariants as halts
@@ -25,8 +29,10 @@ use Rattle.mp_session.specs.declared.top.Status.TheVariants as statuses
 use Rattle.mp_session.specs.Sessions.{StandsFor, ToldForAll, some_fetch}
 use Rattle.mp_session.specs.Statuses.{halted, is_whole, ran, status_by}
 use Rattle.mp_session.specs.Running.{Course, WereRun}
-use Rattle.mp_session.specs.Serving.{AreFirst, IsPast, IsWithin, RanAll, RanEnded, RanInto, RanSome, RanToFile, ToldForRun, ToldTaken, ToldToFile, ends_within}
-use Rattle.mp_session.proofs.RunLemmas.{not_both, replies-append, some_ends_cut, some_fetch-append, told_first, told_then}
+use Rattle.mp_session.specs.Serving.{AreFirst, IsPast, IsWithin, RanAll, RanEnded, RanInto, RanSome, RanToFile}
+use Rattle.mp_session.specs.Serving.{ToldForRun, ToldTaken, ToldToFile, ends_within}
+use Rattle.mp_session.proofs.RunLemmas.{not_both, replies-append, some_ends_cut, some_fetch-append, told_first}
+use Rattle.mp_session.proofs.RunLemmas.{told_then}
 
 -- all of the text is a front of it
 pub whole_text : (now : Option (List ℕ)) (before text : List ℕ) → now ≡ Some (before ++ text)

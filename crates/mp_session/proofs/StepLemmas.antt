@@ -7,7 +7,9 @@ use Rattle.mp_replies.specs.Answer.{Report}
 use Rattle.mp_replies.specs.Change.{changed}
 use Rattle.mp_replies.specs.Line.{Asked, asked_of}
 use Rattle.mp_replies.specs.State.{Files, State}
-use Rattle.mp_replies.specs.Step.{Verdict, Passes, IsRefused, IsAccepted, verdict, verdict_of, cause, cause_in, change_in, after, after_by, answer, answer_by, fetches, fetches_by, is_last, report_by}
+use Rattle.mp_replies.specs.Step.{Verdict, Passes, IsRefused, IsAccepted, verdict, verdict_of, cause, cause_in}
+use Rattle.mp_replies.specs.Step.{change_in, after, after_by, answer, answer_by, fetches, fetches_by, is_last}
+use Rattle.mp_replies.specs.Step.{report_by}
 use Rattle.mp_replies.specs.Output.{reply}
 use Rattle.mp_slots.specs.Slots.{stores_of}
 use Rattle.mp_commands.specs.declared.prepared.Prepared.{Prepared}

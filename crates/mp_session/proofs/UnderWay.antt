@@ -1,5 +1,6 @@
 -- A run between two lines.
-use Rattle.std.proofs.Common.{◌≡◌, inl, inr, ℕ, ◌+◌, Bool, true, false, ◌||◌, List, [], ◌∷◌, ◌++◌, length, take, refl, arith, ap, ◌∙◌, sym, subst, append_assoc, append-nil}
+use Rattle.std.proofs.Common.{◌≡◌, inl, inr, ℕ, ◌+◌, Bool, true, false, ◌||◌, List, [], ◌∷◌, ◌++◌, length, take, refl}
+use Rattle.std.proofs.Common.{arith, ap, ◌∙◌, sym, subst, append_assoc, append-nil}
 use Rattle.std.specs.Prelude.{Option, Some, if◌then◌else◌}
 use Rattle.std.proofs.Math.Bool.{or-false}
 use Rattle.std.proofs.Math.Seq.{take-append-add}
@@ -16,7 +17,8 @@ use Rattle.mp_replies.specs.Step.{fetches}
 use Rattle.mp_session.specs.Sessions.{Held, StandsFor}
 use Rattle.mp_session.specs.Running.{Course, WasBegun, WereRun, course_at}
 use Rattle.mp_session.specs.Serving.{AreFirst, IsWithin, RanAll, RanEnded, RanInto, RanSome, RanToFile, ends_within}
-use Rattle.mp_session.proofs.RunLemmas.{not_both, some_ends-append, some_ends_cut, until_end-append, until_end-one, were_run_none, were_run_on}
+use Rattle.mp_session.proofs.RunLemmas.{not_both, some_ends-append, some_ends_cut, until_end-append, until_end-one}
+use Rattle.mp_session.proofs.RunLemmas.{were_run_none, were_run_on}
 
 -- These lines were run, and none of them ended the run. They are those that the reader gave.
 pub record IsUnderWay {Out : Type 0} (sink : Ghosts Out) (told : Option Files) (limit : ℕ) (old now : Course Out)
@@ -72,7 +74,8 @@ module _ {Out : Type 0} {sink : Ghosts Out} {told : Option Files} where
         lines = u.lines ++ line ∷ [];
         run = were_run_on u.run record { texts = run.texts; run = run.run; wrote = run.wrote };
         none_ends = line_ends u line last is ∙ goes_on;
-        gave = gave_on u.gave (subst (λ l. Gave (l ∷ []) reader (after_line next) now.left later) (sym line_is) comes.gave);
+        gave = gave_on u.gave
+            (subst (λ l. Gave (l ∷ []) reader (after_line next) now.left later) (sym line_is) comes.gave);
       }
 
   -- it ended the run, and its LF is within the limit, as all is at the end of the input
@@ -186,7 +189,8 @@ module _ {Out : Type 0} {sink : Ghosts Out} {told : Option Files} where
       u run = record {
         lines = u.lines;
         refused = refused || also;
-        run = subst (λ ls. WereRun sink told ls old (course_at session later out) (refused || also)) (append-nil u.lines)
+        run = subst (λ ls. WereRun sink told ls old (course_at session later out) (refused || also))
+            (append-nil u.lines)
             (were_run_on u.run record { texts = run.texts; run = run.run; wrote = run.wrote });
         first = first_lines u;
       }

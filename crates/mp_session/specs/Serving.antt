@@ -1,5 +1,6 @@
 -- How a run ends, and what is said of a call that serves an input.
-use Rattle.std.specs.Prelude.{◌≡◌, ◌⊎◌, ℕ, ◌+◌, ◌<◌, ◌≤◌, Bool, true, false, IsTrue, List, [], ◌∷◌, ◌++◌, length, take, Option, Some, None}
+use Rattle.std.specs.Prelude.{◌≡◌, ◌⊎◌, ℕ, ◌+◌, ◌<◌, ◌≤◌, Bool, true, false, IsTrue, List, [], ◌∷◌, ◌++◌, length, take}
+use Rattle.std.specs.Prelude.{Option, Some, None}
 use Rattle.mp_outside.specs.Counts.{Rose}
 use Rattle.mp_outside.specs.declared.shelves.Shelf as shelves
 use Rattle.mp_outside.specs.declared.sources.Source as sources

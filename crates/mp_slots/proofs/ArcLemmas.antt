@@ -1,8 +1,10 @@
 -- What the windows of a profile name, and a board that is changed to it window by window.
-use Rattle.std.proofs.Common.{◌≡◌, ◌≢◌, ℕ, ◌+◌, ◌<◌, ◌≤◌, List, length, get_or, set, Option, None, Some, IfSome}
+use Rattle.std.proofs.Common.{◌≡◌, ◌≢◌, ℕ, zero, suc, ◌+◌, ◌*◌, ◌/◌, ◌<◌, ◌≤◌, List, [], ◌∷◌, true, false, refl, length}
+use Rattle.std.proofs.Common.{get_or, set, Option, None, Some, IfSome}
 use Rattle.std.proofs.Common.{length-set, get_or-set_same, get_or-set_other, sym, ap, subst, ◌∙◌, arith, ⊎_elim}
-use Rattle.std.specs.Prelude.{slice_get, Bool, ◌++◌}
-use Rattle.std.proofs.lemmas.Bool.{cases_eq}
+use Rattle.std.specs.Prelude.{slice_get, Bool, ◌++◌, min}
+use Rattle.std.proofs.Math.ListN.{get_or-eq_default}
+use Rattle.std.proofs.lemmas.Bool.{cases_eq, cases_lt}
 use Rattle.std.proofs.lemmas.List.{ext_get_or, get_or-map, length-append, length-map, set-get_or}
 use Rattle.std.proofs.lemmas.Option.{get_or_from_slice_get, slice_get-get_or, slice_get_within}
 use Rattle.mp_nums.specs.declared.nearest.Near.{Near}
@@ -16,7 +18,8 @@ use Rattle.mp_defs.specs.NearestLaws.{entries_are_nearest}
 use Rattle.mp_defs.specs.ColumnLaws.{columns_have_places}
 use Rattle.mp_arcs.specs.Arcs.{index_of, indices_of}
 use Rattle.mp_arcs.specs.Board.{NameWithin}
-use Rattle.mp_slots.specs.Channels.{NameNearest}
+use Rattle.mp_stream.specs.Blocks.{AreKnown, block_count}
+use Rattle.mp_slots.specs.Channels.{IsNamed, NameNearest, NameUnmarked}
 
 -- ---- the windows of a profile
 
@@ -73,35 +76,115 @@ names_window column k inside named =
     slice_get-get_or (indices_of column) k None within ∙ ap Some (index_there column k inside) in
     rw length-map at (named_at (index_of (get_or column k None)) (indices_of column) k named there)
 
--- the windows before a place name what a column says
-pub record AreNamed (column : List (Option Near)) (items : List (Option ℕ)) (place : ℕ) : Type 0 where
-  pub as_long : length items ≡ length column
-  pub same : (k : ℕ) → k < place → get_or items k None ≡ get_or (indices_of column) k None
+-- no window is named yet
+pub named_none : (column : List (Option Near)) (first : ℕ) (items : List (Option ℕ))
+    → IsNamed column first first items items
+named_none column first items = record {
+  as_long = refl;
+  within = λ i low high. absurd (omega (arith, low, high));
+  before = λ i lt. refl;
+  behind = λ i ge. refl;
+}
 
-pub named_next : (column : List (Option Near)) (items new : List (Option ℕ)) (place : ℕ) → place < length column
-    → new ≡ set items place (index_of (get_or column place None))
-    → AreNamed column items place → AreNamed column new (place + 1)
-named_next column items new place inside is kept =
+pub named_next : (column : List (Option Near)) (first place : ℕ) (old items new : List (Option ℕ)) → first ≤ place
+    → place < length items → new ≡ set items place (index_of (get_or column place None))
+    → IsNamed column first place old items → IsNamed column first (place + 1) old new
+named_next column first place old items new low inside is h =
     let named = index_of (get_or column place None) in
+    let other : (k : ℕ) → k ≢ place → get_or new k None ≡ get_or items k None = λ k ne.
+    ap (λ (xs : List (Option ℕ)). get_or xs k None) is ∙ get_or-set_other items place k named None ne in
     record {
-      as_long = ap length is ∙ (length-set items place named ∙ kept.as_long);
-      same = λ k before.
-          ap (λ (xs : List (Option ℕ)). get_or xs k None) is
-          ∙ ⊎_elim
+      as_long = ap length is ∙ (length-set items place named ∙ h.as_long);
+      within = λ k from before. ⊎_elim
           (λ (e : k ≡ place).
-          ap (λ n. get_or (set items place named) n None) e
-          ∙ (get_or-set_same items place named None (omega (arith, inside, kept.as_long))
-          ∙ (sym (index_there column place inside) ∙ ap (λ n. get_or (indices_of column) n None) (sym e))))
-          (λ (ne : k ≢ place).
-          get_or-set_other items place k named None ne ∙ kept.same k (omega (arith, before, ne)))
+          ap (λ (xs : List (Option ℕ)). get_or xs k None) is
+          ∙ (ap (λ n. get_or (set items place named) n None) e
+          ∙ (get_or-set_same items place named None inside
+          ∙ ap (λ n. index_of (get_or column n None)) (sym e))))
+          (λ (ne : k ≢ place). other k ne ∙ h.within k from (omega (arith, before, ne)))
           (cases_eq k place);
+      before = λ k lt. other k (λ e. omega (arith, e, lt, low)) ∙ h.before k lt;
+      behind = λ k ge. other k (λ e. omega (arith, e, ge)) ∙ h.behind k (omega (arith, ge));
     }
 
-pub all_named : (column : List (Option Near)) (items : List (Option ℕ)) (place : ℕ) → length column ≤ place
-    → AreNamed column items place → items ≡ indices_of column
-all_named column items place all kept =
-    ext_get_or None items (indices_of column) (kept.as_long ∙ sym (length-map column index_of))
-    (λ k inside. kept.same k (omega (arith, inside, all, kept.as_long)))
+-- what each window names, at places that aren't there too
+pub index_at : (column : List (Option Near)) (k : ℕ)
+    → get_or (indices_of column) k None ≡ index_of (get_or column k None)
+index_at [] k = refl
+index_at (x ∷ column) zero = refl
+index_at (x ∷ column) (suc k) = index_at column k
+
+pub each_named : (column : List (Option Near)) (items : List (Option ℕ)) → length items ≡ length column
+    → ((k : ℕ) → k < length column → get_or items k None ≡ index_of (get_or column k None))
+    → items ≡ indices_of column
+each_named column items long each =
+    ext_get_or None items (indices_of column) (long ∙ sym (length-map column index_of))
+    (λ k inside. each k (omega (arith, inside, long)) ∙ sym (index_at column k))
+
+-- ---- block by block
+
+-- the windows of the blocks before one, and of those that aren't marked, name their nearest ones
+pub record AreNamed (column : List (Option Near)) (changed : List Bool) (block : ℕ) (items : List (Option ℕ))
+    : Type 0 where
+  pub as_long : length items ≡ length column
+  pub named : (i : ℕ) → (block ≤ i / 32 → get_or changed (i / 32) false ≡ false)
+      → get_or items i None ≡ index_of (get_or column i None)
+
+-- a place behind the last window
+none_behind : (column : List (Option Near)) (items : List (Option ℕ)) (i : ℕ) → length items ≡ length column
+    → length column ≤ i → get_or items i None ≡ index_of (get_or column i None)
+none_behind column items i long ge =
+    get_or-eq_default items None (omega (arith, long, ge)) ∙ sym (ap index_of (get_or-eq_default column None ge))
+
+pub block_named : (column : List (Option Near)) (changed : List Bool) (block : ℕ) (is_marked : Bool)
+    (items new : List (Option ℕ)) → is_marked ≡ get_or changed block false
+    → (is_marked ≡ true → IsNamed column (block * 32) (min (length column) (block * 32 + 32)) items new)
+    → (is_marked ≡ false → new ≡ items) → AreNamed column changed block items
+    → AreNamed column changed (block + 1) new
+block_named column changed block true items new flag marked unmarked h =
+    let is = marked refl in
+    let long = is.as_long ∙ h.as_long in
+    record {
+      as_long = long;
+      named = λ i clear. ⊎_elim
+          (λ (e : i / 32 ≡ block). ⊎_elim
+          (λ (lt : i < length column). is.within i (omega (arith, e)) (omega (arith, e, lt)))
+          (λ (ge : length column ≤ i). none_behind column new i long ge)
+          (cases_lt i (length column)))
+          (λ (ne : i / 32 ≢ block). ⊎_elim
+          (λ (lt : i < block * 32). is.before i lt ∙ h.named i (λ le. clear (omega (arith, le, ne))))
+          (λ (ge : block * 32 ≤ i).
+          is.behind i (omega (arith, ge, ne)) ∙ h.named i (λ le. clear (omega (arith, le, ne))))
+          (cases_lt i (block * 32)))
+          (cases_eq (i / 32) block);
+    }
+block_named column changed block false items new flag marked unmarked h =
+    let is = unmarked refl in
+    record {
+      as_long = ap length is ∙ h.as_long;
+      named = λ i clear. ap (λ (xs : List (Option ℕ)). get_or xs i None) is ∙ h.named i (λ le. ⊎_elim
+          (λ (e : i / 32 ≡ block). ap (λ b. get_or changed b false) e ∙ sym flag)
+          (λ (ne : i / 32 ≢ block). clear (omega (arith, le, ne)))
+          (cases_eq (i / 32) block));
+    }
+
+pub all_named : (column : List (Option Near)) (changed : List Bool) (block : ℕ) (items : List (Option ℕ))
+    → block ≡ block_count (length column) → AreNamed column changed block items → items ≡ indices_of column
+all_named column changed block items all h =
+    each_named column items h.as_long (λ k lt. h.named k (λ le. absurd (omega (arith, le, lt, all))))
+
+-- windows named what is known of them
+pub known_named : (known column : List (Option Near)) (changed : List Bool) (indices : List (Option ℕ))
+    → indices ≡ indices_of known → AreKnown known column changed → NameUnmarked column changed indices
+known_named known column changed indices is h = λ i clear.
+    ap (λ (xs : List (Option ℕ)). get_or xs i None) is ∙ (index_at known i ∙ ap index_of (sym (h.each i clear)))
+
+-- a window that names none is pushed behind the others
+pub same_behind : (items : List (Option ℕ)) (i : ℕ) → get_or (items ++ None ∷ []) i None ≡ get_or items i None
+same_behind [] zero = refl
+same_behind [] (suc i) = refl
+same_behind (x ∷ items) zero = refl
+same_behind (x ∷ items) (suc i) = same_behind items i
 
 -- a window that names already what it is to name
 pub named_already : (items : List (Option ℕ)) (i : ℕ) (x : Option ℕ) → slice_get items i ≡ Some x

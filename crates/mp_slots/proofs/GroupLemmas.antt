@@ -16,14 +16,15 @@ use Rattle.mp_slots.specs.Slots.{reads_in, without_room}
 
 -- ---- room
 
-same_but_room : (a b : Streamed) → a.items ≡ b.items → a.m ≡ b.m → a.reads ≡ b.reads → without_room a ≡ without_room b
-same_but_room a b items m reads = cc
+same_but_room : (a b : Streamed) → a.items ≡ b.items → a.m ≡ b.m → a.reads ≡ b.reads → a.changed ≡ b.changed
+    → without_room a ≡ without_room b
+same_but_room a b items m reads changed = cc
 
 pub room_kept : (old now : Held) (k : ℕ) (new d : Streamed) → new.items ≡ (get_or now k d).items
-    → new.m ≡ (get_or now k d).m → new.reads ≡ (get_or now k d).reads
+    → new.m ≡ (get_or now k d).m → new.reads ≡ (get_or now k d).reads → new.changed ≡ (get_or now k d).changed
     → RoomWasMade old now → RoomWasMade old (set now k new)
-room_kept old now k new d items m reads h =
-    map-set_same without_room now k new d (same_but_room new (get_or now k d) items m reads) ∙ h
+room_kept old now k new d items m reads changed h =
+    map-set_same without_room now k new d (same_but_room new (get_or now k d) items m reads changed) ∙ h
 
 -- ---- samples of each channel
 

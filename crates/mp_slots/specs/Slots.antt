@@ -24,7 +24,7 @@ pub record Stored : Type 0 where
 
 -- what stands for a channel that isn't there
 abbrev pub nothing : Streamed
-nothing = record { items = []; m = 0; reads = 0; spare = 0 }
+nothing = record { items = []; m = 0; reads = 0; spare = 0; changed = [] }
 
 -- ---- channels
 

@@ -8,9 +8,9 @@ ghost use Rattle.mp_defs.specs.Series.{series_of};
 ghost use Rattle.mp_defs.specs.Window.{is_free, windows};
 ghost use Rattle.mp_replies.specs.Limits.{max_tile, max_workers};
 ghost use Rattle.mp_report.specs.Profiles.{columns_in};
-ghost use Rattle.mp_slots.specs.Channels.{HasGrown};
+ghost use Rattle.mp_slots.specs.Channels.{HasGrown, StaysKnown};
 
-use crate::arcs::follow;
+use crate::arcs::{follow, follow_changes};
 use mp_arcs::ArcBoard;
 use mp_nums::{Memory, Places, Sample};
 use mp_outside::{Gate, OpenGate};
@@ -48,14 +48,14 @@ pub struct Channel {
 
 impl Model for Channel {
     ghost use Rattle.std.specs.Prelude.{min};
-    ghost use Rattle.mp_slots.specs.Channels.{NameNearest};
+    ghost use Rattle.mp_slots.specs.Channels.{IsClear, NameNearest};
     ghost use Rattle.mp_stream.specs.Streams.{Streamed};
 
     ghost Value = { Streamed };
 
     ghost view = { λ c. record c.stream { spare = min c.stream.spare c.board.spare } };
 
-    ghost invariant = { λ c. NameNearest c.stream.m c.stream.items c.board.items };
+    ghost invariant = { λ c. NameNearest c.stream.m c.stream.items c.board.items × IsClear c.stream.changed };
 }
 
 impl Channel {
@@ -100,9 +100,11 @@ impl Channel {
         ensures m { IfOk result (λ channel. channel.m ≡ stream.m) }
         ensures reads { IfOk result (λ channel. channel.reads ≡ stream.reads) }
     {
+        let mut stream = stream;
         let mut board = ArcBoard::new(alloc);
         board.reserve(windows(stream.len(), stream.window()))?;
         follow(&mut board, stream.profile().all());
+        stream.clear_changed();
         Ok(Channel { stream, board })
     }
 
@@ -112,6 +114,7 @@ impl Channel {
         ensures items { self.new.items ≡ self.old.items }
         ensures m { self.new.m ≡ self.old.m }
         ensures reads { self.new.reads ≡ self.old.reads }
+        ensures changed { self.new.changed ≡ self.old.changed }
     {
         self.stream.reserve(more)?;
         self.board.reserve(more)
@@ -124,7 +127,12 @@ impl Channel {
         ensures { HasGrown samples.now self.old self.new }
     {
         append_each(&mut self.stream, samples);
-        follow(&mut self.board, self.stream.profile().all());
+        follow_changes(
+            &mut self.board,
+            self.stream.profile().all(),
+            self.stream.changed(),
+        );
+        self.stream.clear_changed();
     }
 
     /// The matrix profile of the samples.
@@ -197,7 +205,8 @@ impl Channel {
 fn append_each(stream: &mut Stream, samples: &[Sample])
     requires room { length samples.now ≤ stream.old.spare }
     requires fits { length stream.old.items + length samples.now ≤ max_samples }
-    ensures { HasGrown samples.now stream.old stream.new }
+    ensures grown { HasGrown samples.now stream.old stream.new }
+    ensures known { StaysKnown stream.old stream.new }
 {
     for sample in samples {
         stream.append(*sample).unwrap();

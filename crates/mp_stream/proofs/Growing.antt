@@ -26,13 +26,14 @@ use Rattle.mp_defs.specs.Laws.{IsNearest}
 use Rattle.mp_defs.specs.Profile.{column, entry, left_entry, right_entry, windows_of, matrix_profile}
 use Rattle.mp_defs.specs.ColumnLaws.{columns_have_places}
 use Rattle.mp_defs.specs.NearestLaws.{entries_are_nearest, entries_are_of_both_sides, zone_is_mutual}
-use Rattle.mp_partial.specs.Values.{merged_column}
+use Rattle.mp_partial.specs.Values.{Column, merged_column}
+use Rattle.mp_stream.specs.Blocks.{AreKnown, StayKnown}
 use Rattle.mp_series.specs.Samples.{number_in, numbers_in}
 use Rattle.mp_stream.specs.Limits.{limit_by, StartsAtMost, AllStartAtMost, AreLimits}
 use Rattle.mp_stream.specs.Rows.{IsTaken, row_candidate, sum_at, square_at, offered_before, with_best, IsRow}
 use Rattle.mp_stream.specs.Appended.{with_one, filled, AreNumbers}
 use Rattle.mp_stream.specs.Ranges.{AreWithin, Reaches, SumsFit}
-use Rattle.mp_stream.specs.Streams.{HaveRows, IsOf, IsOffered, last_row, without_last}
+use Rattle.mp_stream.specs.Streams.{HaveRows, IsKnown, IsOf, IsOffered, Streamed, last_row, without_last}
 use Rattle.mp_stream.specs.declared.kept.Kept.{Kept}
 use Rattle.mp_stream.specs.declared.ranges.Range.{Range}
 use Rattle.mp_stream.proofs.Moving.{sum_small}
@@ -62,6 +63,23 @@ all_entries m a all left right e f g =
     (λ i lt. columns_have_places.at_place both w i lt
     ∙ sym (entries_are_of_both_sides (is_allowed m) (zone_is_mutual.irreflexive m) m a i))
 
+-- what is known of a profile is known of that of other samples that it became
+pub known_through : (m : ℕ) (front items : List Sample) (old new : Kept) (known : Column) → IsOf m front old
+    → IsOf m items new → old.profile.all ≡ merged_column old.profile.left old.profile.right
+    → new.profile.all ≡ merged_column new.profile.left new.profile.right → StayKnown old.profile new.profile
+    → AreKnown known (matrix_profile m (series_of front)).all old.profile.changed
+    → AreKnown known (matrix_profile m (series_of items)).all new.profile.changed
+known_through m front items old new known h k lesser lesser' stay was =
+    let before = all_entries m (series_of front) _ _ _ lesser h.left h.right in
+    let after = all_entries m (series_of items) _ _ _ lesser' k.left k.right in
+    subst (λ (all : Column). AreKnown known all new.profile.changed) after
+    (stay known (subst (λ (all : Column). AreKnown known all old.profile.changed) (sym before) was))
+
+-- what is known of a stream is known of one that differs in room and reads alone
+pub known_same : (known : Column) (old new : Streamed) → new.items ≡ old.items → new.m ≡ old.m
+    → new.changed ≡ old.changed → IsKnown known old → IsKnown known new
+known_same known old new items m changed h = rw (items, m, changed) h
+
 -- ---- samples
 
 pub split_last : (items : List Sample) → 1 ≤ length items
@@ -70,6 +88,15 @@ split_last items le =
     let n = length items - 1 in
     let all : n + 1 ≡ length items = omega arith in
     sym (take-length items) ∙ ap (λ k. take k items) (sym all) ∙ take_more items n Missing (omega arith)
+
+pub front_is : (front items : List Sample) (sample : Sample) → items ≡ front ++ sample ∷ [] → without_last items ≡ front
+front_is front items sample e =
+    let long = length-append front (sample ∷ []) in
+    ap without_last e ∙ ap (λ n. take n (front ++ sample ∷ [])) (omega (arith, long)) ∙ front_taken front (sample ∷ [])
+  where
+    front_taken : (xs ys : List Sample) → take (length xs) (xs ++ ys) ≡ xs
+    front_taken [] ys = refl
+    front_taken (x ∷ xs) ys = ap (λ (l : List Sample). x ∷ l) (front_taken xs ys)
 
 pub without_last_long : (items : List Sample) → length (without_last items) ≡ length items - 1
 without_last_long items = length-take-le (length items - 1) items (omega arith)

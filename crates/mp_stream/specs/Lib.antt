@@ -1,3 +1,4 @@
+pub mod Blocks
 pub mod Ranges
 pub mod Limits
 pub mod Rows

@@ -6,6 +6,8 @@ use Rattle.mp_defs.specs.Window.{is_free, windows}
 use Rattle.mp_defs.specs.Least.{near}
 use Rattle.mp_defs.specs.Profile.{matrix_profile}
 use Rattle.mp_series.specs.Samples.{numbers_in}
+use Rattle.mp_partial.specs.Values.{Column}
+use Rattle.mp_stream.specs.Blocks.{AreKnown}
 use Rattle.mp_stream.specs.Ranges.{AreWithin, SumsFit}
 use Rattle.mp_stream.specs.Limits.{AreLimits, limit_by}
 use Rattle.mp_stream.specs.Rows.{sum_at, IsRow, IsTaken, row_candidate, offered_before, with_best}
@@ -13,12 +15,19 @@ use Rattle.mp_stream.specs.declared.kept.Kept.{Kept}
 use Rattle.mp_stream.specs.declared.narrow.Narrow.{Narrow}
 use Rattle.mp_stream.specs.declared.wide.Wide.{Wide}
 
--- its samples, its window length, how often samples were read, and how many more it can take without memory
+-- its samples, its window length, how often samples were read, how many more it can take without memory, and for each
+-- block of windows whether it is marked
 pub record Streamed : Type 0 where
   pub items : List Sample
   pub m : ℕ
   pub reads : ℕ
   pub spare : ℕ
+  pub changed : List Bool
+
+-- the nearest windows of those whose block isn't marked are known
+abbrev pub IsKnown : Column → Streamed → Type 0
+IsKnown known stream =
+    AreKnown known (matrix_profile stream.m (series_of stream.items)).all stream.changed
 
 -- for how many more windows there is room
 abbrev pub narrow_room : Narrow → ℕ

@@ -4,15 +4,18 @@ ghost use Rattle.std.specs.Prelude.{◌≡◌, ℕ, ◌+◌, ◌-◌, ◌*◌, �
 ghost use Rattle.mp_defs.specs.Series.{series_of};
 ghost use Rattle.mp_defs.specs.Window.{is_free, windows};
 ghost use Rattle.mp_defs.specs.Least.{near};
-ghost use Rattle.mp_series.specs.declared.limits.TheConstants.{MIN_WINDOW, MAX_WINDOW};
+ghost use Rattle.mp_defs.specs.Profile.{matrix_profile};
+ghost use Rattle.mp_series.specs.declared.limits.TheConstants.{MIN_WINDOW, MAX_SAMPLES, MAX_WINDOW};
 ghost use Rattle.mp_tiles.specs.declared.cuts.TheConstants.{MAX_TILE};
 ghost use Rattle.mp_claims.specs.declared.boards.TheConstants.{MAX_WORKERS};
 ghost use Rattle.mp_series.specs.Samples.{number_in, numbers_in};
+ghost use Rattle.mp_stream.specs.Blocks.{AreKnown, StayKnown};
 ghost use Rattle.mp_stream.specs.Limits.{AllStartAtMost, AreLimits, limit_of, coarse_limit};
 ghost use Rattle.mp_stream.specs.Ranges.{AreWithin, Reaches, SumsFit};
 ghost use Rattle.mp_stream.specs.Rows.{sum_at, IsRow, IsTaken, row_candidate, offered_before, with_best};
 
 use crate::limits::{GREATEST, coarsen, limits_of};
+use crate::marked::MarkedProfile;
 use crate::narrow::Narrow;
 use crate::offers::{offer_best, offer_row};
 use crate::ranges::{Range, range_of};
@@ -20,7 +23,6 @@ use crate::rows::{last_row, next_narrow_row, next_wide_row};
 use crate::wide::{Wide, widen_sums};
 use mp_nums::{Items, Memory, Sample};
 use mp_outside::Gate;
-use mp_partial::Profile;
 use mp_series::{Samples, excl, windows};
 use mp_workers::self_join;
 use std::alloc::Global;
@@ -32,13 +34,37 @@ use std::thread::Threads;
 /// without memory.
 #[derive(Debug, Drop)]
 pub(crate) struct Kept {
-    pub(crate) profile: Profile,
+    pub(crate) profile: MarkedProfile,
     pub(crate) free: Items<bool>,
     pub(crate) range: Range,
     pub(crate) limits: Items<u64>,
     pub(crate) is_narrow: bool,
     pub(crate) narrow: Narrow,
     pub(crate) wide: Wide,
+}
+
+/// The profile of the samples, computed by workers, with no block marked.
+fn whole_profile<R: Threads + Sync, G: Gate>(
+    rt: &R,
+    alloc: Global,
+    samples: &[Sample],
+    m: u32,
+    tile: u32,
+    workers: u32,
+    gate: &G,
+) -> Result<MarkedProfile, Memory>
+    requires shortest { MIN_WINDOW ≤ m }
+    requires longest { m ≤ MAX_WINDOW }
+    requires samples { length samples.now ≤ MAX_SAMPLES }
+    requires least { 1 ≤ tile }
+    requires greatest { tile ≤ MAX_TILE }
+    requires some { 1 ≤ workers }
+    requires workers { workers ≤ MAX_WORKERS }
+    ensures left { IfOk result (λ p. p.left ≡ (matrix_profile m (series_of samples.now)).left) }
+    ensures right { IfOk result (λ p. p.right ≡ (matrix_profile m (series_of samples.now)).right) }
+{
+    let profile = self_join(rt, alloc, samples, m, tile, workers, gate)?;
+    MarkedProfile::of(alloc, profile)
 }
 
 /// Whether each of so many windows is free.
@@ -118,6 +144,7 @@ fn count_offered(is_free: bool, m: u32, last: usize) -> usize
 impl Kept {
     ghost use Rattle.std.specs.Prelude.{List};
     ghost use Rattle.mp_nums.specs.declared.samples.Sample.{Sample};
+    ghost use Rattle.mp_partial.specs.Values.{Column};
     ghost use Rattle.mp_stream.specs.Streams.{HaveRows, IsOf, IsOffered, room_of, without_last};
 
     /// What is kept of the samples, of which workers compute the profile.
@@ -142,7 +169,7 @@ impl Kept {
         ensures reads { samples.new.reads
             ≤ samples.old.reads + length samples.old.items * (length samples.old.items + 2 * (m + 1)) }
     {
-        let profile = self_join(rt, alloc, samples.lend(), m, tile, workers, gate)?;
+        let profile = whole_profile(rt, alloc, samples.lend(), m, tile, workers, gate)?;
         let count = windows(samples.len(), m);
         let range = whole_range(samples);
         let wide = Wide {
@@ -167,6 +194,8 @@ impl Kept {
     pub(crate) fn reserve(&mut self, k: u64) -> Result<(), Memory>
         ensures ok { OnOk result (k ≤ room_of self.new) }
         ensures kept { (m : ℕ) (items : List Sample) → IsOf m items self.old → IsOf m items self.new }
+        ensures all { self.new.profile.all ≡ self.old.profile.all }
+        ensures changed { self.new.profile.changed ≡ self.old.profile.changed }
         ensures room { room_of self.old ≤ room_of self.new }
         ensures succeeds { k ≤ room_of self.old → IsOk result }
     {
@@ -186,6 +215,15 @@ impl Kept {
         self.profile.spare().min(of_lists)
     }
 
+    /// Clears the marks of all blocks of windows.
+    pub(crate) fn clear_changed(&mut self)
+        ensures kept { (m : ℕ) (items : List Sample) → IsOf m items self.old → IsOf m items self.new }
+        ensures room { room_of self.new ≡ room_of self.old }
+        ensures none { (block : ℕ) → slice_index_or self.new.profile.changed block false ≡ false }
+    {
+        self.profile.clear();
+    }
+
     /// Adds a window without distances.
     fn grow(&mut self, is_free: bool)
         requires { 0 < room_of self.old }
@@ -200,6 +238,7 @@ impl Kept {
         ensures next_narrow { length self.new.narrow.next.items ≡ length self.old.narrow.next.items + 1 }
         ensures next_wide { length self.new.wide.next.items ≡ length self.old.wide.next.items + 1 }
         ensures room { room_of self.old ≤ room_of self.new + 1 }
+        ensures known { StayKnown self.old.profile self.new.profile }
     {
         self.profile.grow();
         self.free.push(is_free).unwrap();
@@ -216,6 +255,7 @@ impl Kept {
             → IsOf m items self.new }
         ensures range { self.new.range ≡ range }
         ensures room { room_of self.new ≡ room_of self.old }
+        ensures known { StayKnown self.old.profile self.new.profile }
     {
         if self.is_narrow && !range.is_narrow(m) {
             widen_sums(self.narrow.sums.as_slice(), self.wide.sums.as_mut_slice());
@@ -246,6 +286,7 @@ impl Kept {
         ensures row { IsRow (numbers_in samples.old.items) m (length self.old.free.items - 1) self.new.narrow.sums.items }
         ensures limits { AreLimits limit_of self.new.profile.right self.new.limits.items }
         ensures room { room_of self.new ≡ room_of self.old }
+        ensures known { StayKnown self.old.profile self.new.profile }
         ensures items { samples.new.items ≡ samples.old.items }
         ensures spare { samples.new.spare ≡ samples.old.spare }
         ensures reads_rise { samples.old.reads ≤ samples.new.reads }
@@ -326,6 +367,7 @@ impl Kept {
         ensures wide { self.new.wide ≡ self.old.wide }
         ensures limits { AreLimits coarse_limit self.new.profile.right self.new.limits.items }
         ensures room { room_of self.new ≡ room_of self.old }
+        ensures known { StayKnown self.old.profile self.new.profile }
     {
         let last = self.profile.len() as usize - 1;
         let best = offer_row(
@@ -356,6 +398,7 @@ impl Kept {
         ensures limits { AreLimits coarse_limit self.new.profile.right self.new.limits.items }
         ensures row { IsRow (numbers_in samples.old.items) m (length self.old.free.items - 1) self.new.wide.sums.items }
         ensures room { room_of self.new ≡ room_of self.old }
+        ensures known { StayKnown self.old.profile self.new.profile }
         ensures items { samples.new.items ≡ samples.old.items }
         ensures spare { samples.new.spare ≡ samples.old.spare }
         ensures reads_rise { samples.old.reads ≤ samples.new.reads }
@@ -375,6 +418,7 @@ impl Kept {
         requires range { AreWithin self.old.range (numbers_in samples.old.items) }
         ensures kept { IsOf m samples.old.items self.new }
         ensures room { room_of self.old ≤ room_of self.new + 1 }
+        ensures known { StayKnown self.old.profile self.new.profile }
         ensures items { samples.new.items ≡ samples.old.items }
         ensures spare { samples.new.spare ≡ samples.old.spare }
         ensures reads_rise { samples.old.reads ≤ samples.new.reads }
@@ -391,7 +435,7 @@ impl Kept {
     }
 
     /// Adds what the last sample brings.
-    pub(crate) fn append(&mut self, samples: &mut Samples, m: u32, sample: Sample)
+    fn add_last(&mut self, samples: &mut Samples, m: u32, sample: Sample)
         requires shortest { MIN_WINDOW ≤ m }
         requires longest { m ≤ MAX_WINDOW }
         requires room { 0 < room_of self.old }
@@ -399,6 +443,7 @@ impl Kept {
         requires kept { IsOf m (without_last samples.old.items) self.old }
         ensures kept { IsOf m samples.old.items self.new }
         ensures room { room_of self.old ≤ room_of self.new + 1 }
+        ensures known { StayKnown self.old.profile self.new.profile }
         ensures items { samples.new.items ≡ samples.old.items }
         ensures spare { samples.new.spare ≡ samples.old.spare }
         ensures reads_rise { samples.old.reads ≤ samples.new.reads }
@@ -409,5 +454,27 @@ impl Kept {
         if u64::from(m) <= samples.len() {
             self.append_window(samples, m);
         }
+    }
+
+    /// Adds what the last sample brings. The blocks in which a window has a nearer one now are marked.
+    pub(crate) fn append(&mut self, samples: &mut Samples, m: u32, sample: Sample)
+        requires shortest { MIN_WINDOW ≤ m }
+        requires longest { m ≤ MAX_WINDOW }
+        requires room { 0 < room_of self.old }
+        requires last { samples.old.items ≡ without_last samples.old.items ++ sample ∷ [] }
+        requires kept { IsOf m (without_last samples.old.items) self.old }
+        ensures kept { IsOf m samples.old.items self.new }
+        ensures room { room_of self.old ≤ room_of self.new + 1 }
+        ensures known { (known : Column) →
+            AreKnown known (matrix_profile m (series_of (without_last samples.old.items))).all self.old.profile.changed
+            → AreKnown known (matrix_profile m (series_of samples.old.items)).all self.new.profile.changed }
+        ensures items { samples.new.items ≡ samples.old.items }
+        ensures spare { samples.new.spare ≡ samples.old.spare }
+        ensures reads_rise { samples.old.reads ≤ samples.new.reads }
+        ensures reads { samples.new.reads ≤ samples.old.reads + 2 * (windows (length samples.old.items) m + m) }
+    {
+        let _before = self.profile.inner();
+        self.add_last(samples, m, sample);
+        let _after = self.profile.inner();
     }
 }

@@ -9,6 +9,7 @@ mod bests;
 mod kept;
 mod laws;
 mod limits;
+mod marked;
 mod moves;
 mod narrow;
 mod narrow_rows;
@@ -19,9 +20,8 @@ mod rows;
 mod streams;
 mod sums;
 mod taking;
-#[cfg(test)]
-mod tests;
 mod wide;
 
 pub use laws::entries_grow;
+pub use marked::BLOCK;
 pub use streams::{AppendRefusal, Stream};

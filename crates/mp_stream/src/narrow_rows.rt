@@ -2,17 +2,18 @@
 
 ghost use Rattle.std.specs.Prelude.{◌≡◌, ℕ, ◌+◌, ◌-◌, ◌*◌, ◌^◌, ◌<◌, ◌≤◌, length, max, slice_index, None, IfSome};
 ghost use Rattle.mp_defs.specs.Least.{near};
+ghost use Rattle.mp_stream.specs.Blocks.{StayKnown};
 ghost use Rattle.mp_stream.specs.Limits.{AllStartAtMost, AreLimits, limit_of};
 ghost use Rattle.mp_stream.specs.Moves.{moved_by};
 ghost use Rattle.mp_stream.specs.Rows.{IsTaken, row_candidate};
 
 use crate::bests::Best;
 use crate::limits::GREATEST;
+use crate::marked::MarkedProfile;
 use crate::moves::Moves;
 use crate::narrow_sums::{move_below, move_rest};
 use crate::taking::{take, take_below};
 use mp_nums::Slot;
-use mp_partial::Profile;
 
 /// How many windows are tested at once.
 const GROUP: usize = 32;
@@ -26,7 +27,7 @@ fn take_group(
     sums: &mut [u64],
     free: &[bool],
     limits: &mut [u64],
-    profile: &mut Profile,
+    profile: &mut MarkedProfile,
     best: &mut Best,
 )
     requires count { length sums.old ≡ length moves.now.before.now + 1 }
@@ -45,6 +46,7 @@ fn take_group(
     ensures left { profile.new.left ≡ profile.old.left }
     ensures all { length profile.new.all ≡ length profile.old.all }
     ensures spare { profile.new.spare ≡ profile.old.spare }
+    ensures known { StayKnown profile.old profile.new }
     ensures limits { AreLimits limit_of profile.new.right limits.new }
     ensures best { best.new.found ≡ near (row_candidate free.now (moved_by moves.now)) end }
 {
@@ -60,7 +62,7 @@ fn take_groups(
     sums: &mut [u64],
     free: &[bool],
     limits: &mut [u64],
-    profile: &mut Profile,
+    profile: &mut MarkedProfile,
     best: &mut Best,
 )
     requires count { length sums.old ≡ length moves.now.before.now + 1 }
@@ -78,6 +80,7 @@ fn take_groups(
     ensures left { profile.new.left ≡ profile.old.left }
     ensures all { length profile.new.all ≡ length profile.old.all }
     ensures spare { profile.new.spare ≡ profile.old.spare }
+    ensures known { StayKnown profile.old profile.new }
     ensures limits { AreLimits limit_of profile.new.right limits.new }
     ensures best { best.new.found ≡ near (row_candidate free.now (moved_by moves.now)) end }
 {
@@ -114,7 +117,7 @@ fn take_some(
     sums: &mut [u64],
     free: &[bool],
     limits: &mut [u64],
-    profile: &mut Profile,
+    profile: &mut MarkedProfile,
 ) -> Slot
     requires count { length sums.old ≡ length moves.now.before.now + 1 }
     requires ordered { 1 ≤ end }
@@ -130,6 +133,7 @@ fn take_some(
     ensures left { profile.new.left ≡ profile.old.left }
     ensures all { length profile.new.all ≡ length profile.old.all }
     ensures spare { profile.new.spare ≡ profile.old.spare }
+    ensures known { StayKnown profile.old profile.new }
     ensures limits { AreLimits limit_of profile.new.right limits.new }
     ensures best { result ≡ near (row_candidate free.now (moved_by moves.now)) end }
 {
@@ -149,7 +153,7 @@ fn take_any(
     sums: &mut [u64],
     free: &[bool],
     limits: &mut [u64],
-    profile: &mut Profile,
+    profile: &mut MarkedProfile,
 ) -> Slot
     requires count { length sums.old ≡ length moves.now.before.now + 1 }
     requires within { end < length sums.old }
@@ -164,6 +168,7 @@ fn take_any(
     ensures left { profile.new.left ≡ profile.old.left }
     ensures all { length profile.new.all ≡ length profile.old.all }
     ensures spare { profile.new.spare ≡ profile.old.spare }
+    ensures known { StayKnown profile.old profile.new }
     ensures limits { AreLimits limit_of profile.new.right limits.new }
     ensures best { result ≡ near (row_candidate free.now (moved_by moves.now)) end }
 {
@@ -181,7 +186,7 @@ pub(crate) fn take_row(
     sums: &mut [u64],
     free: &[bool],
     limits: &mut [u64],
-    profile: &mut Profile,
+    profile: &mut MarkedProfile,
 ) -> Slot
     requires count { length sums.old ≡ length moves.now.before.now + 1 }
     requires within { end < length sums.old }
@@ -195,6 +200,7 @@ pub(crate) fn take_row(
     ensures left { profile.new.left ≡ profile.old.left }
     ensures all { length profile.new.all ≡ length profile.old.all }
     ensures spare { profile.new.spare ≡ profile.old.spare }
+    ensures known { StayKnown profile.old profile.new }
     ensures limits { AreLimits limit_of profile.new.right limits.new }
     ensures best { result ≡ near (row_candidate free.now (moved_by moves.now)) end }
     ensures before { IfSome result (λ best. best.index < end) }

@@ -4,12 +4,13 @@ ghost use Rattle.std.specs.Prelude.{◌≡◌, ℕ, ◌+◌, ◌-◌, ◌*◌, �
 ghost use Rattle.mp_nums.specs.Near.{nearer_of};
 ghost use Rattle.mp_defs.specs.Least.{near, near_at};
 ghost use Rattle.mp_partial.specs.Values.{offered};
+ghost use Rattle.mp_stream.specs.Blocks.{StayKnown};
 ghost use Rattle.mp_stream.specs.Limits.{AreLimits, coarse as coarse_of, coarse_limit as limit_of};
 ghost use Rattle.mp_stream.specs.Rows.{IsTaken, row_candidate, with_best};
 
 use crate::limits::{GREATEST, coarse, coarse_limit, either};
+use crate::marked::MarkedProfile;
 use mp_nums::{Near, Slot, Sq, nearer};
-use mp_partial::Profile;
 
 /// How many windows are tested at once.
 const GROUP: usize = 32;
@@ -42,7 +43,7 @@ fn offer_window(
     i: usize,
     j: usize,
     limit: &mut u64,
-    profile: &mut Profile,
+    profile: &mut MarkedProfile,
     best: &mut Slot,
 )
     requires order { i < j }
@@ -53,6 +54,7 @@ fn offer_window(
     ensures left { profile.new.left ≡ profile.old.left }
     ensures all { length profile.new.all ≡ length profile.old.all }
     ensures spare { profile.new.spare ≡ profile.old.spare }
+    ensures known { StayKnown profile.old profile.new }
     ensures limit { limit.new ≡ limit_of (slice_index_or profile.new.right i None) }
     ensures best { best.new ≡ (if is_free then nearer_of best.old (Some (near_at i sum)) else best.old) }
 {
@@ -75,7 +77,7 @@ fn offer_each(
     end: usize,
     free: &[bool],
     limits: &mut [u64],
-    profile: &mut Profile,
+    profile: &mut MarkedProfile,
     best: &mut Slot,
 )
     requires sums { length sums.now ≡ length profile.old.all }
@@ -89,6 +91,7 @@ fn offer_each(
     ensures left { profile.new.left ≡ profile.old.left }
     ensures all { length profile.new.all ≡ length profile.old.all }
     ensures spare { profile.new.spare ≡ profile.old.spare }
+    ensures known { StayKnown profile.old profile.new }
     ensures limits { AreLimits limit_of profile.new.right limits.new }
     ensures best { best.new ≡ near (row_candidate free.now (slice_index sums.now)) end }
 {
@@ -106,7 +109,7 @@ fn offer_group(
     end: usize,
     free: &[bool],
     limits: &mut [u64],
-    profile: &mut Profile,
+    profile: &mut MarkedProfile,
     best: &mut Slot,
 )
     requires sums { length sums.now ≡ length profile.old.all }
@@ -121,6 +124,7 @@ fn offer_group(
     ensures left { profile.new.left ≡ profile.old.left }
     ensures all { length profile.new.all ≡ length profile.old.all }
     ensures spare { profile.new.spare ≡ profile.old.spare }
+    ensures known { StayKnown profile.old profile.new }
     ensures limits { AreLimits limit_of profile.new.right limits.new }
     ensures best { best.new ≡ near (row_candidate free.now (slice_index sums.now)) end }
 {
@@ -130,12 +134,13 @@ fn offer_group(
 }
 
 /// Offers what was found to the last window on the left, where there is a window.
-pub(crate) fn offer_best(profile: &mut Profile, last: usize, best: Slot)
+pub(crate) fn offer_best(profile: &mut MarkedProfile, last: usize, best: Slot)
     requires last { last < length profile.old.all }
     requires before { IfSome best (λ best. best.index < last) }
     ensures left { profile.new.left ≡ with_best profile.old.left last best }
     ensures right { profile.new.right ≡ profile.old.right }
     ensures spare { profile.new.spare ≡ profile.old.spare }
+    ensures known { StayKnown profile.old profile.new }
 {
     if let Some(best) = best {
         profile.offer(last as u64, best.index, best.dist);
@@ -148,7 +153,7 @@ pub(crate) fn offer_row(
     end: usize,
     free: &[bool],
     limits: &mut [u64],
-    profile: &mut Profile,
+    profile: &mut MarkedProfile,
 ) -> Slot
     requires sums { length sums.now ≡ length profile.old.all }
     requires free { length free.now ≡ length profile.old.all }
@@ -159,6 +164,7 @@ pub(crate) fn offer_row(
     ensures right { IsTaken free.now (slice_index sums.now) (length sums.now - 1) 0 end profile.old.right profile.new.right }
     ensures left { profile.new.left ≡ profile.old.left }
     ensures spare { profile.new.spare ≡ profile.old.spare }
+    ensures known { StayKnown profile.old profile.new }
     ensures all { length profile.new.all ≡ length profile.old.all }
     ensures limits { AreLimits limit_of profile.new.right limits.new }
     ensures best { result ≡ near (row_candidate free.now (slice_index sums.now)) end }

@@ -5,16 +5,17 @@ ghost use Rattle.mp_defs.specs.Least.{near};
 ghost use Rattle.mp_defs.specs.Window.{windows};
 ghost use Rattle.mp_series.specs.Samples.{numbers_in};
 ghost use Rattle.mp_series.specs.declared.limits.TheConstants.{MAX_WINDOW};
+ghost use Rattle.mp_stream.specs.Blocks.{StayKnown};
 ghost use Rattle.mp_stream.specs.Limits.{AllStartAtMost, AreLimits, limit_of};
 ghost use Rattle.mp_stream.specs.Ranges.{AreWithin, SumsFit};
 ghost use Rattle.mp_stream.specs.Rows.{sum_at, IsRow, IsTaken, row_candidate};
 
+use crate::marked::MarkedProfile;
 use crate::moves::Moves;
 use crate::narrow_rows::take_row;
 use crate::ranges::Range;
 use crate::sums::{move_sums, window_sum};
 use mp_nums::{Items, Memory, Slot};
-use mp_partial::Profile;
 use mp_series::Samples;
 use std::alloc::Global;
 
@@ -71,7 +72,7 @@ pub(crate) fn next_narrow_row(
     end: usize,
     free: &[bool],
     limits: &mut [u64],
-    profile: &mut Profile,
+    profile: &mut MarkedProfile,
 ) -> Slot
     requires least { 1 ≤ m }
     requires width { m ≤ MAX_WINDOW }
@@ -92,6 +93,7 @@ pub(crate) fn next_narrow_row(
     ensures left { profile.new.left ≡ profile.old.left }
     ensures profile { length profile.new.all ≡ length profile.old.all }
     ensures room { profile.new.spare ≡ profile.old.spare }
+    ensures known { StayKnown profile.old profile.new }
     ensures limits { AreLimits limit_of profile.new.right limits.new }
     ensures best { result ≡ near (row_candidate free.now (λ (i : ℕ). sum_at (numbers_in samples.old.items) m i
         (length sums.old - 1))) end }

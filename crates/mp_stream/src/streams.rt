@@ -1,6 +1,6 @@
 //! A series whose profile grows with it.
 
-ghost use Rattle.std.specs.Prelude.{◌≡◌, ◌+◌, ◌*◌, ◌^◌, ◌<◌, ◌≤◌, ◌↔◌, [], ◌∷◌, ◌++◌, length, IsOk, IsErrOf, IsTrue, IfOk, OnOk, OnErr};
+ghost use Rattle.std.specs.Prelude.{◌≡◌, ℕ, ◌+◌, ◌*◌, ◌^◌, ◌<◌, ◌≤◌, ◌↔◌, [], ◌∷◌, ◌++◌, false, length, slice_index_or, IsOk, IsErrOf, IsTrue, IfOk, OnOk, OnErr};
 ghost use Rattle.mp_defs.specs.Series.{series_of};
 ghost use Rattle.mp_defs.specs.Window.{is_free, windows};
 ghost use Rattle.mp_defs.specs.Profile.{matrix_profile};
@@ -41,7 +41,8 @@ impl From<Memory> for AppendRefusal {
 }
 
 /// A series and its matrix profile, which is kept as samples are appended. It is seen as its samples, its window length,
-/// how often samples were read, and how many more samples it can take without memory.
+/// how often samples were read, how many more samples it can take without memory, and for each block of `BLOCK` windows
+/// whether it is marked: an append marks the blocks in which it finds a nearer window.
 #[derive(Debug, Drop)]
 pub struct Stream {
     samples: Samples,
@@ -56,7 +57,7 @@ impl Model for Stream {
 
     ghost Value = { Streamed };
 
-    ghost view = { λ s. record { items = s.samples.items; m = s.m; reads = s.samples.reads; spare = min s.samples.spare (room_of s.kept) } };
+    ghost view = { λ s. record { items = s.samples.items; m = s.m; reads = s.samples.reads; spare = min s.samples.spare (room_of s.kept); changed = s.kept.profile.changed } };
 
     ghost invariant = { λ s. (min_window ≤ s.m) × (s.m ≤ max_window) × IsOf s.m s.samples.items s.kept };
 }
@@ -64,7 +65,10 @@ impl Model for Stream {
 impl Stream {
     ghost use Rattle.std.specs.Borrow.{sem};
     ghost use Rattle.mp_defs.specs.Limits.{max_samples};
+    ghost use Rattle.mp_partial.specs.Values.{Column};
+    ghost use Rattle.mp_stream.specs.Blocks.{block_count};
     ghost use Rattle.mp_stream.specs.Lending.{CountsEveryPair};
+    ghost use Rattle.mp_stream.specs.Streams.{IsKnown};
 
     /// The samples at window length `m`, with their profile computed in tiles of at most `tile` diagonals by so many
     /// workers. It is the same for every tile, number of workers and gate. Where there is no memory, the samples are
@@ -103,6 +107,7 @@ impl Stream {
         ensures reads { self.new.reads ≡ self.old.reads }
         ensures spare { self.old.spare ≤ self.new.spare }
         ensures succeeds { k ≤ self.old.spare → IsOk result }
+        ensures changed { self.new.changed ≡ self.old.changed }
     {
         self.samples.reserve(k)?;
         self.kept.reserve(k)
@@ -118,6 +123,7 @@ impl Stream {
         ensures succeeds { 0 < self.old.spare → length self.old.items < max_samples → IsOk result }
         ensures reads_rise { self.old.reads ≤ self.new.reads }
         ensures reads { self.new.reads ≤ self.old.reads + 4 * (windows (length self.new.items) self.new.m + self.new.m) }
+        ensures known { (known : Column) → IsKnown known self.old → IsKnown known self.new }
     {
         if self.len() == MAX_SAMPLES {
             return Err(AppendRefusal::Full);
@@ -134,9 +140,27 @@ impl Stream {
         ensures left { result.now.left ≡ (matrix_profile self.now.m (series_of self.now.items)).left }
         ensures right { result.now.right ≡ (matrix_profile self.now.m (series_of self.now.items)).right }
     {
-        let profile = &self.kept.profile;
-        let _lesser = profile.all();
-        profile
+        self.kept.profile.inner()
+    }
+
+    /// For each block of `BLOCK` windows whether it is marked. In the others each window has the nearest one that it had
+    /// when the marks were cleared, and a window that came later has none.
+    pub fn changed(&self) -> &[bool]
+        ensures marks { result.now ≡ self.now.changed }
+        ensures blocks { length result.now ≡ block_count (windows (length self.now.items) self.now.m) }
+    {
+        self.kept.profile.changed()
+    }
+
+    /// Clears all marks.
+    pub fn clear_changed(&mut self)
+        ensures none { (block : ℕ) → slice_index_or self.new.changed block false ≡ false }
+        ensures items { self.new.items ≡ self.old.items }
+        ensures m { self.new.m ≡ self.old.m }
+        ensures reads { self.new.reads ≡ self.old.reads }
+        ensures spare { self.new.spare ≡ self.old.spare }
+    {
+        self.kept.clear_changed();
     }
 
     /// How many samples there are. It is no read.

@@ -4,12 +4,13 @@ ghost use Rattle.std.specs.Prelude.{◌≡◌, ℕ, ◌+◌, ◌-◌, ◌^◌, �
 ghost use Rattle.mp_nums.specs.Near.{nearer_of};
 ghost use Rattle.mp_defs.specs.Least.{near, near_at};
 ghost use Rattle.mp_partial.specs.Values.{offered};
+ghost use Rattle.mp_stream.specs.Blocks.{StayKnown};
 ghost use Rattle.mp_stream.specs.Limits.{limit_of, StartsAtMost, AllStartAtMost, AreLimits};
 ghost use Rattle.mp_stream.specs.Rows.{IsTaken, row_candidate};
 
 use crate::bests::Best;
+use crate::marked::MarkedProfile;
 use mp_nums::{Near, Sq};
-use mp_partial::Profile;
 
 /// Offers window `j` to window `i` on the right, and window `i` to the best of window `j`.
 #[inline]
@@ -18,7 +19,7 @@ fn take_window(
     i: usize,
     j: usize,
     limit: &mut u64,
-    profile: &mut Profile,
+    profile: &mut MarkedProfile,
     best: &mut Best,
 )
     requires order { i < j }
@@ -32,6 +33,7 @@ fn take_window(
     ensures left { profile.new.left ≡ profile.old.left }
     ensures all { length profile.new.all ≡ length profile.old.all }
     ensures spare { profile.new.spare ≡ profile.old.spare }
+    ensures known { StayKnown profile.old profile.new }
     ensures limit { limit.new ≡ limit_of (slice_index_or profile.new.right i None) }
     ensures best { best.new.found ≡ nearer_of best.old.found (Some (near_at i sum)) }
 {
@@ -59,7 +61,7 @@ fn take_free(
     i: usize,
     j: usize,
     limit: &mut u64,
-    profile: &mut Profile,
+    profile: &mut MarkedProfile,
     best: &mut Best,
 )
     requires order { i < j }
@@ -73,6 +75,7 @@ fn take_free(
     ensures left { profile.new.left ≡ profile.old.left }
     ensures all { length profile.new.all ≡ length profile.old.all }
     ensures spare { profile.new.spare ≡ profile.old.spare }
+    ensures known { StayKnown profile.old profile.new }
     ensures limit { limit.new ≡ limit_of (slice_index_or profile.new.right i None) }
     ensures best { best.new.found ≡ (if is_free then nearer_of best.old.found (Some (near_at i sum)) else best.old.found) }
 {
@@ -89,7 +92,7 @@ pub(crate) fn take(
     end: usize,
     free: &[bool],
     limits: &mut [u64],
-    profile: &mut Profile,
+    profile: &mut MarkedProfile,
     best: &mut Best,
 )
     requires sums { length sums.now ≡ length profile.old.all }
@@ -105,6 +108,7 @@ pub(crate) fn take(
     ensures left { profile.new.left ≡ profile.old.left }
     ensures all { length profile.new.all ≡ length profile.old.all }
     ensures spare { profile.new.spare ≡ profile.old.spare }
+    ensures known { StayKnown profile.old profile.new }
     ensures limits { AreLimits limit_of profile.new.right limits.new }
     ensures best { best.new.found ≡ near (row_candidate free.now (slice_index sums.now)) end }
 {
@@ -123,7 +127,7 @@ pub(crate) fn take_below(
     end: usize,
     free: &[bool],
     limits: &mut [u64],
-    profile: &mut Profile,
+    profile: &mut MarkedProfile,
     best: &mut Best,
 )
     requires above { is_below ≡ false → (i : ℕ) → first ≤ i → i < end
@@ -141,6 +145,7 @@ pub(crate) fn take_below(
     ensures left { profile.new.left ≡ profile.old.left }
     ensures all { length profile.new.all ≡ length profile.old.all }
     ensures spare { profile.new.spare ≡ profile.old.spare }
+    ensures known { StayKnown profile.old profile.new }
     ensures limits { AreLimits limit_of profile.new.right limits.new }
     ensures best { best.new.found ≡ near (row_candidate free.now (slice_index sums.now)) end }
 {

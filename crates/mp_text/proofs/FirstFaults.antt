@@ -1,12 +1,14 @@
 -- The fault of a table is the first one.
-use Rattle.std.proofs.Common.{◌≡◌, ℕ, zero, suc, ◌+◌, ◌-◌, ◌<◌, ◌≤◌, ◌==◌, Bool, true, false, List, [], ◌∷◌, length, refl, ap, ◌∙◌, sym, arith}
+use Rattle.std.proofs.Common.{◌≡◌, ℕ, zero, suc, ◌+◌, ◌-◌, ◌<◌, ◌≤◌, ◌==◌, Bool, true, false, List, [], ◌∷◌, length}
+use Rattle.std.proofs.Common.{refl, ap, ◌∙◌, sym, arith}
 use Rattle.std.specs.Prelude.{ℤ, Option, Some, None, Result, Ok, Err, IsOk, slice_index_or, if◌then◌else◌}
 use Rattle.std.proofs.lemmas.Bool.Decides.{nat_tests}
 use Rattle.csv.specs.Records.{field_at}
 use Rattle.mp_defs.specs.Limits.{max_samples}
 use Rattle.mp_text.specs.declared.refusal.SampleFault.{SampleFault}
 use Rattle.mp_text.specs.Rows.{Row, onto}
-use Rattle.mp_text.specs.Table.{Fault, BadField, NoField, TooManyRows, Fields, reading, judged, cell_of, row_of, rows_of, in_columns}
+use Rattle.mp_text.specs.Table.{Fault, BadField, NoField, TooManyRows, Fields, reading, judged, cell_of, row_of}
+use Rattle.mp_text.specs.Table.{rows_of, in_columns}
 use Rattle.mp_text.specs.TableLaws.{record_of, IsFirstBadField, TableFaultsAreTheFirst}
 
 -- ---- fields
@@ -114,7 +116,8 @@ later_from scale columns start fields rest fault good first =
           → IsOk (row_of scale (start + j) (slice_index_or (fields ∷ rest) j []) columns)) [
             | zero ↦ λ lt. let e : start + zero ≡ start = omega arith in rw e good
             | suc j ↦
-                λ lt. let e : start + suc j ≡ start + 1 + j = omega arith in rw e (first.good_before j (omega (arith, lt)))
+                λ lt. let e : start + suc j ≡ start + 1 + j = omega arith in
+                rw e (first.good_before j (omega (arith, lt)))
           ];
       is_faulty = λ most. rw at (first.is_faulty most);
     }

@@ -1,5 +1,7 @@
 -- Numbers that are read back from the texts that are written of them.
-use Rattle.std.proofs.Common.{◌≡◌, ℕ, zero, suc, ◌+◌, ◌-◌, ◌/◌, ◌%◌, ◌^◌, ◌<◌, Bool, true, false, not, List, [], ◌∷◌, ◌++◌, length, take, drop, reverse, fold, decimal, ℤ, pos, negsuc, unsigned_abs, FitsSigned, w64, Some, Ok, refl, sym, ap, ◌∙◌, arith, append_assoc}
+use Rattle.std.proofs.Common.{◌≡◌, ℕ, zero, suc, ◌+◌, ◌-◌, ◌/◌, ◌%◌, ◌^◌, ◌<◌, Bool, true, false, not, List, [], ◌∷◌}
+use Rattle.std.proofs.Common.{◌++◌, length, take, drop, reverse, fold, decimal, ℤ, pos, negsuc, unsigned_abs}
+use Rattle.std.proofs.Common.{FitsSigned, w64, Some, Ok, refl, sym, ap, ◌∙◌, arith, append_assoc}
 use Rattle.std.specs.List.{list_all, position_or_len, before_first, after_first}
 use Rattle.std.specs.Char.{is_ascii_digit}
 use Rattle.std.proofs.lemmas.Bool.Decides.{nat_tests}
@@ -14,8 +16,10 @@ use Rattle.std.proofs.Math.Nat.{div-div-eq-div-mul, pow-succ', div-le_self}
 use Rattle.std.proofs.Math.Seq.{take-append_seam, drop-append-add}
 use Rattle.mp_bytes.specs.Bytes.{is_blank, is_empty}
 use Rattle.mp_bytes.specs.Digits.{next_digit, value_of}
-use Rattle.mp_text.specs.SampleText.{Numeral, is_point, without_leading_blanks, without_trailing_blanks, trimmed, is_missing, has_form, parted, numeral_of}
-use Rattle.mp_text.specs.SampleText.{fixed, is_exact, signed, units_of, is_within, number_of, sample_of, last_digits, fraction_text, magnitude_text}
+use Rattle.mp_text.specs.SampleText.{Numeral, is_point, without_leading_blanks, without_trailing_blanks, trimmed}
+use Rattle.mp_text.specs.SampleText.{is_missing, has_form, parted, numeral_of}
+use Rattle.mp_text.specs.SampleText.{fixed, is_exact, signed, units_of, is_within, number_of, sample_of, last_digits}
+use Rattle.mp_text.specs.SampleText.{fraction_text, magnitude_text}
 use Rattle.mp_text.specs.SampleLaws.{WrittenNumbersAreReadBack, MissingSamplesAreReadBack}
 
 -- ---- digits

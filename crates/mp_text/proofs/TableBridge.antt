@@ -1,5 +1,6 @@
 -- The table is what is gathered of it, and its fault is the first that is met.
-use Rattle.std.proofs.Common.{◌≡◌, ℕ, ◌+◌, Bool, true, false, List, [], ◌∷◌, ◌++◌, length, get_or, map, refl, sym, ap, ◌∙◌, arith, append_assoc, Option, Some, None, Result, Ok, Err, ◌==◌, ◌≢◌, if◌then◌else◌}
+use Rattle.std.proofs.Common.{◌≡◌, ℕ, ◌+◌, Bool, true, false, List, [], ◌∷◌, ◌++◌, length, get_or, map, refl, sym, ap}
+use Rattle.std.proofs.Common.{◌∙◌, arith, append_assoc, Option, Some, None, Result, Ok, Err, ◌==◌, ◌≢◌, if◌then◌else◌}
 use Rattle.std.specs.Prelude.{ℤ, IfOk}
 use Rattle.std.specs.Result.{IfErr}
 use Rattle.std.specs.List.{range_with_len}
@@ -13,8 +14,10 @@ use Rattle.mp_text.specs.declared.refusal.SampleFault.{SampleFault}
 use Rattle.mp_text.specs.declared.refusal.TableFault.{TableFault}
 use Rattle.mp_text.specs.declared.refusal.TableFault.TheVariants as table
 use Rattle.mp_text.specs.Rows.{Row, onto, column_at, columns_of}
-use Rattle.mp_text.specs.Table.{Fault, BadField, NoField, TooManyRows, Fields, reading, judged, cell_of, row_of, rows_of, in_columns, table_of, told}
-use Rattle.mp_text.specs.Gathering.{cell, cell_fault, column_of, first_of, gathered_of, reading_fault, record_fault, sample_in, table_fault, unless_faulty}
+use Rattle.mp_text.specs.Table.{Fault, BadField, NoField, TooManyRows, Fields, reading, judged, cell_of, row_of}
+use Rattle.mp_text.specs.Table.{rows_of, in_columns, table_of, told}
+use Rattle.mp_text.specs.Gathering.{cell, cell_fault, column_of, first_of, gathered_of, reading_fault, record_fault}
+use Rattle.mp_text.specs.Gathering.{sample_in, table_fault, unless_faulty}
 
 -- the fault of a table, of which want of memory is none
 seen : TableFault → Fault

@@ -1,7 +1,10 @@
 -- Series that are gathered record by record.
-use Rattle.std.proofs.Common.{◌≡◌, ℕ, ◌+◌, ◌<◌, ◌≤◌, List, [], ◌∷◌, ◌++◌, length, get_or, set, take, drop, map, refl, sym, ap, ◌∙◌, arith, append_assoc, Vec, Option, Some, None, Result, Ok, Err, OnOk, Bool, false, true, replicate, ◌==◌}
+use Rattle.std.proofs.Common.{◌≡◌, ℕ, ◌+◌, ◌<◌, ◌≤◌, List, [], ◌∷◌, ◌++◌, length, get_or, set, take, drop, map, refl}
+use Rattle.std.proofs.Common.{sym, ap, ◌∙◌, arith, append_assoc, Vec, Option, Some, None, Result, Ok, Err, OnOk, Bool}
+use Rattle.std.proofs.Common.{false, true, replicate, ◌==◌}
 use Rattle.std.specs.declared.alloc.Global.{Global}
-use Rattle.std.proofs.lemmas.List.{map-set, get_or-map, map-append, take_more, drop_more, take-append-drop, length-map, length-take-le, append-nil}
+use Rattle.std.proofs.lemmas.List.{map-set, get_or-map, map-append, take_more, drop_more, take-append-drop, length-map}
+use Rattle.std.proofs.lemmas.List.{length-take-le, append-nil}
 use Rattle.std.specs.Result.{is_err, IfErr, IsErrAnd}
 use Rattle.std.specs.Bool.{MatchBool}
 use Rattle.std.proofs.lemmas.Bool.Decides.{nat_tests}
@@ -11,7 +14,8 @@ use Rattle.mp_nums.specs.declared.samples.Sample.{Sample}
 use Rattle.mp_defs.specs.Series.{Series, reading_of, series_of}
 use Rattle.mp_defs.specs.Limits.{max_samples}
 use Rattle.std.proofs.lemmas.Simd.{map-map}
-use Rattle.mp_text.specs.Gathering.{added, cell, cell_fault, column_of, first_of, record_fault, table_fault, gathered_of, unless_faulty}
+use Rattle.mp_text.specs.Gathering.{added, cell, cell_fault, column_of, first_of, record_fault, table_fault}
+use Rattle.mp_text.specs.Gathering.{gathered_of, unless_faulty}
 use Rattle.mp_text.specs.Table.{Fields}
 use Rattle.csv.specs.Records.{field_at}
 

@@ -1,5 +1,6 @@
 -- What holds of the fault of every table.
-use Rattle.std.specs.Prelude.{◌≡◌, ℕ, ℤ, ◌+◌, ◌-◌, ◌<◌, ◌≤◌, List, [], length, slice_index_or, Option, IsOk, Result, Err}
+use Rattle.std.specs.Prelude.{◌≡◌, ℕ, ℤ, ◌+◌, ◌-◌, ◌<◌, ◌≤◌, List, [], length, slice_index_or, Option, IsOk, Result}
+use Rattle.std.specs.Prelude.{Err}
 use Rattle.csv.specs.Records.{field_at}
 use Rattle.mp_defs.specs.Limits.{max_samples}
 use Rattle.mp_text.specs.Table.{Fault, BadField, NoField, TooManyRows, Fields, cell_of, row_of, table_of}

@@ -17,8 +17,6 @@ mod offers;
 mod runs;
 mod scans;
 mod strips;
-#[cfg(test)]
-mod tests;
 mod vectors;
 mod windows;
 

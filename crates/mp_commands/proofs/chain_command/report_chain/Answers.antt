@@ -26,22 +26,25 @@ anchored-requires-clause-start c =
     c.profile-profile.ensures in
     omega (arith, long, ap length c.right.ensures, c.in_default.ensures.window)
 
-pub returns-clause-ok : goal.returns-clause-ok
-returns-clause-ok c = λ files.
-    let held = c.args.slots.now in
-    let start = c.args.start in
-    let columns = matrix_profile held.m (series_at (stores_of held) c.args.at) in
-    let left : c.left.result.now ≡ columns.left =
-    c.left.ensures ∙ ap (λ (cs : Columns). cs.left) c.profile-profile.ensures in
-    let right : c.right.result.now ≡ columns.right =
-    c.right.ensures ∙ ap (λ (cs : Columns). cs.right) c.profile-profile.ensures in
-    let chain : c.as_slice.result.now ≡ chain_in columns start =
-    c.as_slice.ensures
-    ∙ (c.in_ok-chain.ensures
-    ∙ (ap (λ (l : List (Option Near)). chain_from l c.right.result.now start) left
-    ∙ ap (λ (r : List (Option Near)). chain_from columns.left r start) right)) in
-    answer_accepted (state_over c.args.context held) files (asked.Chain c.args.at start) c.in_ok-text.text
-    (sym c.in_default.ensures.cause) refl
-    (c.in_ok-text.ensures
-    ∙ (ap (λ (n : ℕ). chain_text n c.as_slice.result.now) c.line.ensures
-    ∙ ap (chain_text (c.args.context.lines + 1)) chain))
+pub returns : goal.returns
+returns c = record {
+  ok = λ files.
+      let held = c.args.slots.now in
+      let start = c.args.start in
+      let columns = matrix_profile held.m (series_at (stores_of held) c.args.at) in
+      let left : c.left.result.now ≡ columns.left =
+      c.left.ensures ∙ ap (λ (cs : Columns). cs.left) c.profile-profile.ensures in
+      let right : c.right.result.now ≡ columns.right =
+      c.right.ensures ∙ ap (λ (cs : Columns). cs.right) c.profile-profile.ensures in
+      let chain : c.as_slice.result.now ≡ chain_in columns start =
+      c.as_slice.ensures
+      ∙ (c.in_ok-chain.ensures
+      ∙ (ap (λ (l : List (Option Near)). chain_from l c.right.result.now start) left
+      ∙ ap (λ (r : List (Option Near)). chain_from columns.left r start) right)) in
+      answer_accepted (state_over c.args.context held) files (asked.Chain c.args.at start) c.in_ok-text.text
+      (sym c.in_default.ensures.cause) refl
+      (c.in_ok-text.ensures
+      ∙ (ap (λ (n : ℕ). chain_text n c.as_slice.result.now) c.line.ensures
+      ∙ ap (chain_text (c.args.context.lines + 1)) chain));
+  memory = tt;
+}

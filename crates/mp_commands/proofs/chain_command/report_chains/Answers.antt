@@ -19,29 +19,32 @@ all_chains-requires c =
     columns_of_profile held.m (series_at (stores_of held) c.args.at) c.profile-profile.result.now _ _
     c.profile-profile.ensures c.left.ensures c.right.ensures
 
-pub returns-clause-ok : goal.returns-clause-ok
-returns-clause-ok c = λ files.
-    let held = c.args.slots.now in
-    let columns = matrix_profile held.m (series_at (stores_of held) c.args.at) in
-    let left : c.left.result.now ≡ columns.left =
-    c.left.ensures ∙ ap (λ (cs : Columns). cs.left) c.profile-profile.ensures in
-    let right : c.right.result.now ≡ columns.right =
-    c.right.ensures ∙ ap (λ (cs : Columns). cs.right) c.profile-profile.ensures in
-    let found : map (λ (chain : Listed ℕ). chain.items) c.in_ok-chains.chains.items ≡ chains_in columns =
-    c.in_ok-chains.ensures
-    ∙ (ap (λ (l : List (Option Near)). chains_of l c.right.result.now) left
-    ∙ ap (λ (r : List (Option Near)). chains_of columns.left r) right) in
-    let listed : map (λ (chain : Listed ℕ). chain.items) c.as_slice-2.result.now ≡ chains_in columns =
-    ap (map (λ (chain : Listed ℕ). chain.items)) c.as_slice-2.ensures.value ∙ found in
-    let place : c.longest-place.result ≡ longest_of (chains_in columns) =
-    c.longest-place.ensures
-    ∙ ap longest_of (ap (map (λ (chain : Listed ℕ). chain.items)) c.as_slice.ensures.value ∙ found) in
-    let line = c.args.context.lines + 1 in
-    answer_accepted (state_over c.args.context held) files (asked.Chains c.args.at) c.in_ok-text.text
-    (sym c.in_default.ensures.cause) refl
-    (c.in_ok-text.ensures
-    ∙ (ap (λ (n : ℕ).
-    chains_text n (map (λ (chain : Listed ℕ). chain.items) c.as_slice-2.result.now) c.longest-place.result)
-    c.line.ensures
-    ∙ (ap (λ (cs : List (List ℕ)). chains_text line cs c.longest-place.result) listed
-    ∙ ap (chains_text line (chains_in columns)) place)))
+pub returns : goal.returns
+returns c = record {
+  ok = λ files.
+      let held = c.args.slots.now in
+      let columns = matrix_profile held.m (series_at (stores_of held) c.args.at) in
+      let left : c.left.result.now ≡ columns.left =
+      c.left.ensures ∙ ap (λ (cs : Columns). cs.left) c.profile-profile.ensures in
+      let right : c.right.result.now ≡ columns.right =
+      c.right.ensures ∙ ap (λ (cs : Columns). cs.right) c.profile-profile.ensures in
+      let found : map (λ (chain : Listed ℕ). chain.items) c.in_ok-chains.chains.items ≡ chains_in columns =
+      c.in_ok-chains.ensures
+      ∙ (ap (λ (l : List (Option Near)). chains_of l c.right.result.now) left
+      ∙ ap (λ (r : List (Option Near)). chains_of columns.left r) right) in
+      let listed : map (λ (chain : Listed ℕ). chain.items) c.as_slice-2.result.now ≡ chains_in columns =
+      ap (map (λ (chain : Listed ℕ). chain.items)) c.as_slice-2.ensures.value ∙ found in
+      let place : c.longest-place.result ≡ longest_of (chains_in columns) =
+      c.longest-place.ensures
+      ∙ ap longest_of (ap (map (λ (chain : Listed ℕ). chain.items)) c.as_slice.ensures.value ∙ found) in
+      let line = c.args.context.lines + 1 in
+      answer_accepted (state_over c.args.context held) files (asked.Chains c.args.at) c.in_ok-text.text
+      (sym c.in_default.ensures.cause) refl
+      (c.in_ok-text.ensures
+      ∙ (ap (λ (n : ℕ).
+      chains_text n (map (λ (chain : Listed ℕ). chain.items) c.as_slice-2.result.now) c.longest-place.result)
+      c.line.ensures
+      ∙ (ap (λ (cs : List (List ℕ)). chains_text line cs c.longest-place.result) listed
+      ∙ ap (chains_text line (chains_in columns)) place)));
+  memory = tt;
+}

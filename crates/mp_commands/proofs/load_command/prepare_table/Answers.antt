@@ -7,7 +7,8 @@ use Rattle.mp_replies.specs.Text.{ok_text}
 use Rattle.mp_text.specs.Table.{data_records}
 use Rattle.std.proofs.lemmas.Simd.{map-map}
 use Rattle.mp_commands.specs.Preparing.{state_over}
-use Rattle.mp_commands.proofs.LoadLemmas.{can_put_table, even_table, few_columns, loaded, some_columns, table_is, table_long}
+use Rattle.mp_commands.proofs.LoadLemmas.{can_put_table, even_table, few_columns, loaded, some_columns, table_is}
+use Rattle.mp_commands.proofs.LoadLemmas.{table_long}
 use Rattle.mp_commands.proofs.load_command.prepare_table.Goals as goal
 
 pub read_table-requires-clause-some : goal.read_table-requires-clause-some
@@ -55,17 +56,22 @@ returns-clause-ok g c = λ files found.
     (sym (map-map series_of (λ channel. channel.items) channels)
     ∙ ap (map series_of) c.in_ok-channels.ensures.items))
 
-pub returns-clause-can : goal.returns-clause-can
-returns-clause-can g c =
-    let cols = c.as_slice.result.now in
-    let t =
-    table_is c.scale-scale.result cols (data_records c.args.load.header c.args.bytes.now) (map series_of c.in-Ok.bundle)
-    c.in-Ok.ensures.table in
-    let some = some_columns c.args.load.columns.field.now c.in_ok-columns.columns.items c.in_ok-columns.ensures in
-    let few = few_columns c.args.load.columns.field.now c.in_ok-columns.columns.items c.in_ok-columns.ensures in
-    let long = ap length c.as_slice.ensures.value in
-    let m = c.plan.ensures ∙ c.window_len.ensures.m in
-    can_put_table c.args.slots.now.m c.args.load.slot cols c.in-Ok.bundle c.in_ok-channels.channels.items
-    c.requires.slot
-    (omega (arith, long, some)) (omega (arith, long, few)) t c.in_ok-channels.ensures.items
-    (rw m at c.in_ok-channels.ensures.window)
+pub returns-clause-ready : goal.returns-clause-ready
+returns-clause-ready g c = record {
+  can =
+      let cols = c.as_slice.result.now in
+      let t =
+      table_is c.scale-scale.result cols (data_records c.args.load.header c.args.bytes.now)
+      (map series_of c.in-Ok.bundle) c.in-Ok.ensures.table in
+      let some = some_columns c.args.load.columns.field.now c.in_ok-columns.columns.items c.in_ok-columns.ensures in
+      let few = few_columns c.args.load.columns.field.now c.in_ok-columns.columns.items c.in_ok-columns.ensures in
+      let long = ap length c.as_slice.ensures.value in
+      let m = c.plan.ensures ∙ c.window_len.ensures.m in
+      can_put_table c.args.slots.now.m c.args.load.slot cols c.in-Ok.bundle c.in_ok-channels.channels.items
+      c.requires.slot
+      (omega (arith, long, some)) (omega (arith, long, few)) t c.in_ok-channels.ensures.items
+      (rw m at c.in_ok-channels.ensures.window);
+  kept = λ h. absurd (cc h);
+  renewed = λ other put. put;
+  adds = tt;
+}

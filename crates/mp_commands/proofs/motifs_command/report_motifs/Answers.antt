@@ -30,23 +30,26 @@ motifs-requires-clause-profile g c κs within =
     ∙ (ap (λ (s : Series). (matrix_profile held.m s).all) same
     ∙ ap (λ (n : ℕ). (matrix_profile n (series_of c.series.result.now)).all) (sym c.window_len.ensures.m)))
 
-pub returns-clause-ok : goal.returns-clause-ok
-returns-clause-ok g c = λ files.
-    let old = c.args.slots.now in
-    let at = c.args.at in
-    let query = motif_query c.args.query.count c.args.query.cutoff c.args.query.radius c.args.query.neighbours
-    c.args.query.matches in
-    let line = c.args.context.lines + 1 in
-    let copy : series_of c.series.result.now ≡ series_at (stores_of old) at =
-    only_series _ c.series.result.now (series_at (stores_of old) at) c.series.ensures c.in_ok-list.ensures.series in
-    let window : c.window_len.result ≡ old.m = c.window_len.ensures.m ∙ c.copies.ensures.m in
-    let found : map repeated_of c.as_slice.result.now ≡ motifs old.m (series_at (stores_of old) at) query =
-    ap (map repeated_of) c.as_slice.ensures.value
-    ∙ (c.in_ok-found.ensures
-    ∙ (ap (λ (s : Series). motifs c.window_len.result s query) copy
-    ∙ ap (λ (n : ℕ). motifs n (series_at (stores_of old) at) query) window)) in
-    answer_accepted (state_over c.args.context old) files (asked.Motifs at query) c.in_ok-text.text
-    (sym c.in_default.ensures.cause) refl
-    (c.in_ok-text.ensures
-    ∙ (ap (λ (n : ℕ). motifs_text n (map repeated_of c.as_slice.result.now)) c.line.ensures
-    ∙ ap (motifs_text line) found))
+pub returns-clause-report : goal.returns-clause-report
+returns-clause-report g c = record {
+  ok = λ files.
+      let old = c.args.slots.now in
+      let at = c.args.at in
+      let query = motif_query c.args.query.count c.args.query.cutoff c.args.query.radius c.args.query.neighbours
+      c.args.query.matches in
+      let line = c.args.context.lines + 1 in
+      let copy : series_of c.series.result.now ≡ series_at (stores_of old) at =
+      only_series _ c.series.result.now (series_at (stores_of old) at) c.series.ensures c.in_ok-list.ensures.series in
+      let window : c.window_len.result ≡ old.m = c.window_len.ensures.m ∙ c.copies.ensures.m in
+      let found : map repeated_of c.as_slice.result.now ≡ motifs old.m (series_at (stores_of old) at) query =
+      ap (map repeated_of) c.as_slice.ensures.value
+      ∙ (c.in_ok-found.ensures
+      ∙ (ap (λ (s : Series). motifs c.window_len.result s query) copy
+      ∙ ap (λ (n : ℕ). motifs n (series_at (stores_of old) at) query) window)) in
+      answer_accepted (state_over c.args.context old) files (asked.Motifs at query) c.in_ok-text.text
+      (sym c.in_default.ensures.cause) refl
+      (c.in_ok-text.ensures
+      ∙ (ap (λ (n : ℕ). motifs_text n (map repeated_of c.as_slice.result.now)) c.line.ensures
+      ∙ ap (motifs_text line) found));
+  memory = tt;
+}

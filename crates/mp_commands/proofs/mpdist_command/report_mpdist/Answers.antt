@@ -39,29 +39,32 @@ mpdist-requires-clause-na g c = first_small _ _ c.in_ok-list.ensures.small c.ser
 pub mpdist-requires-clause-nb : goal.mpdist-requires-clause-nb
 mpdist-requires-clause-nb g c = second_small _ _ c.in_ok-list.ensures.small c.series-second.ensures
 
-pub returns-clause-ok : goal.returns-clause-ok
-returns-clause-ok g c = λ files.
-    let held = c.args.slots.now in
-    let a = series_at (stores_of held) c.args.a in
-    let b = series_at (stores_of held) c.args.b in
-    let xs = c.series-first.result.now in
-    let ys = c.series-second.result.now in
-    let first : series_of xs ≡ a = first_copy _ _ _ _ c.in_ok-list.ensures.series c.series-first.ensures in
-    let second : series_of ys ≡ b = second_copy _ _ _ _ _ c.in_ok-list.ensures.series c.series-second.ensures in
-    let m : c.plan-plan.result.m ≡ held.m =
-    c.plan-plan.ensures ∙ (c.window_len.ensures.m ∙ c.in_ok-list.ensures.m) in
-    let there : c.as_slice.result.now ≡ ab_join c.plan-plan.result.m (series_of xs) (series_of ys) =
-    c.as_slice.ensures ∙ c.in_ok-there.ensures in
-    let back : c.as_slice-2.result.now ≡ ab_join c.plan-plan.result.m (series_of ys) (series_of xs) =
-    c.as_slice-2.ensures ∙ c.in_ok-back.ensures in
-    let long : length xs ≡ length a = sym (length-map xs reading_of) ∙ ap length first in
-    let other : length ys ≡ length b = sym (length-map ys reading_of) ∙ ap length second in
-    let dist : c.in_ok-dist.dist ≡ mpdist_between held.m a b =
-    c.in_ok-dist.ensures
-    ∙ mpdist_same held.m c.plan-plan.result.m a b (series_of xs) (series_of ys) _ _ _ _ m first second there back long
-    other in
-    answer_accepted (state_over c.args.context held) files (asked.Mpdist c.args.a c.args.b) c.in_ok-mpdist_text.field-0
-    (sym c.in_default.ensures.cause) refl
-    (c.in_ok-mpdist_text.ensures
-    ∙ (ap (λ (n : ℕ). mpdist_text n c.in_ok-dist.dist) c.line.ensures
-    ∙ ap (mpdist_text (c.args.context.lines + 1)) dist))
+pub returns-clause-report : goal.returns-clause-report
+returns-clause-report g c = record {
+  ok = λ files.
+      let held = c.args.slots.now in
+      let a = series_at (stores_of held) c.args.a in
+      let b = series_at (stores_of held) c.args.b in
+      let xs = c.series-first.result.now in
+      let ys = c.series-second.result.now in
+      let first : series_of xs ≡ a = first_copy _ _ _ _ c.in_ok-list.ensures.series c.series-first.ensures in
+      let second : series_of ys ≡ b = second_copy _ _ _ _ _ c.in_ok-list.ensures.series c.series-second.ensures in
+      let m : c.plan-plan.result.m ≡ held.m =
+      c.plan-plan.ensures ∙ (c.window_len.ensures.m ∙ c.in_ok-list.ensures.m) in
+      let there : c.as_slice.result.now ≡ ab_join c.plan-plan.result.m (series_of xs) (series_of ys) =
+      c.as_slice.ensures ∙ c.in_ok-there.ensures in
+      let back : c.as_slice-2.result.now ≡ ab_join c.plan-plan.result.m (series_of ys) (series_of xs) =
+      c.as_slice-2.ensures ∙ c.in_ok-back.ensures in
+      let long : length xs ≡ length a = sym (length-map xs reading_of) ∙ ap length first in
+      let other : length ys ≡ length b = sym (length-map ys reading_of) ∙ ap length second in
+      let dist : c.in_ok-dist.dist ≡ mpdist_between held.m a b =
+      c.in_ok-dist.ensures
+      ∙ mpdist_same held.m c.plan-plan.result.m a b (series_of xs) (series_of ys) _ _ _ _ m first second there back long
+      other in
+      answer_accepted (state_over c.args.context held) files (asked.Mpdist c.args.a c.args.b)
+      c.in_ok-mpdist_text.field-0 (sym c.in_default.ensures.cause) refl
+      (c.in_ok-mpdist_text.ensures
+      ∙ (ap (λ (n : ℕ). mpdist_text n c.in_ok-dist.dist) c.line.ensures
+      ∙ ap (mpdist_text (c.args.context.lines + 1)) dist));
+  memory = tt;
+}

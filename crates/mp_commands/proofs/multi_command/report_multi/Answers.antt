@@ -63,22 +63,25 @@ profile_of-requires-clause-present g c κs within =
       c.in_default.ensures.present,
     )
 
-pub returns-clause-ok : goal.returns-clause-ok
-returns-clause-ok g c = λ files.
-    let held = c.args.slots.now in
-    let slot = c.args.slot in
-    let k = c.args.k in
-    let line = c.args.context.lines + 1 in
-    let copied : map series_of c.in_ok-channels.channels ≡ channels_at (stores_of held) slot =
-    copied_channels held slot _ _ c.in_ok-channels.channels c.as_slice.ensures.value c.in_ok-refs.ensures
-    c.in_ok-channels.ensures.series in
-    let window : c.plan.result.m ≡ held.m = c.plan.ensures ∙ (c.window_len.ensures.m ∙ c.copies.ensures.m) in
-    let found : c.as_slice-2.result.now ≡ multi_of held.m k (channels_at (stores_of held) slot) =
-    c.as_slice-2.ensures
-    ∙ (c.in_ok-profile.ensures
-    ∙ (ap (λ (n : ℕ). multi_of n k (map series_of c.in_ok-channels.channels)) window
-    ∙ ap (multi_of held.m k) copied)) in
-    answer_accepted (state_over c.args.context held) files (asked.Multi slot k) c.in_ok-text.text
-    (sym c.in_default.ensures.cause) refl
-    (c.in_ok-text.ensures
-    ∙ (ap (λ (n : ℕ). multi_text n c.as_slice-2.result.now) c.line.ensures ∙ ap (multi_text line) found))
+pub returns-clause-report : goal.returns-clause-report
+returns-clause-report g c = record {
+  ok = λ files.
+      let held = c.args.slots.now in
+      let slot = c.args.slot in
+      let k = c.args.k in
+      let line = c.args.context.lines + 1 in
+      let copied : map series_of c.in_ok-channels.channels ≡ channels_at (stores_of held) slot =
+      copied_channels held slot _ _ c.in_ok-channels.channels c.as_slice.ensures.value c.in_ok-refs.ensures
+      c.in_ok-channels.ensures.series in
+      let window : c.plan.result.m ≡ held.m = c.plan.ensures ∙ (c.window_len.ensures.m ∙ c.copies.ensures.m) in
+      let found : c.as_slice-2.result.now ≡ multi_of held.m k (channels_at (stores_of held) slot) =
+      c.as_slice-2.ensures
+      ∙ (c.in_ok-profile.ensures
+      ∙ (ap (λ (n : ℕ). multi_of n k (map series_of c.in_ok-channels.channels)) window
+      ∙ ap (multi_of held.m k) copied)) in
+      answer_accepted (state_over c.args.context held) files (asked.Multi slot k) c.in_ok-text.text
+      (sym c.in_default.ensures.cause) refl
+      (c.in_ok-text.ensures
+      ∙ (ap (λ (n : ℕ). multi_text n c.as_slice-2.result.now) c.line.ensures ∙ ap (multi_text line) found));
+  memory = tt;
+}

@@ -7,19 +7,27 @@ use Rattle.mp_commands.proofs.ChannelLemmas.{can_put_empty, empty_series}
 use Rattle.mp_commands.proofs.OpenLemmas.{opened}
 use Rattle.mp_commands.proofs.open_command.prepare_open.Goals as goal
 
-pub returns-clause-ok : goal.returns-clause-ok
-returns-clause-ok g c = λ files.
-    let channels = c.in_ok-channels.channels.items in
-    opened (state_over c.args.context c.args.slots.now) files c.args.slot c.args.channels c.in_ok-text.text _
-    (sym c.in_default.ensures.cause) refl
-    (c.in_ok-text.ensures ∙ ap (λ (n : ℕ). ok_text n (Some 0)) c.line.ensures)
-    (ap (PutChannels c.args.slot)
-    (empty_series channels c.in_ok-channels.ensures.empty
-    ∙ ap (λ (n : ℕ). replicate n []) (sym c.in_ok-channels.channels.ok.0 ∙ c.in_ok-channels.ensures.len)))
+pub returns-clause-prepared : goal.returns-clause-prepared
+returns-clause-prepared g c = λ told. record {
+  ok = λ files h.
+      let channels = c.in_ok-channels.channels.items in
+      opened (state_over c.args.context c.args.slots.now) files c.args.slot c.args.channels c.in_ok-text.text _
+      (sym c.in_default.ensures.cause) refl
+      (c.in_ok-text.ensures ∙ ap (λ (n : ℕ). ok_text n (Some 0)) c.line.ensures)
+      (ap (PutChannels c.args.slot)
+      (empty_series channels c.in_ok-channels.ensures.empty
+      ∙ ap (λ (n : ℕ). replicate n []) (sym c.in_ok-channels.channels.ok.0 ∙ c.in_ok-channels.ensures.len)));
+  stop = tt;
+}
 
-pub returns-clause-can : goal.returns-clause-can
-returns-clause-can g c =
-    can_put_empty c.args.slots.now.m c.args.slot c.in_ok-channels.channels.items c.in_default.ensures.slot
-    (omega (arith, c.in_default.ensures.some, c.in_ok-channels.channels.ok.0, c.in_ok-channels.ensures.len))
-    (omega (arith, c.in_default.ensures.few, c.in_ok-channels.channels.ok.0, c.in_ok-channels.ensures.len))
-    c.in_ok-channels.ensures.empty (rw c.window_len.ensures.m at c.in_ok-channels.ensures.window)
+pub returns-clause-ready : goal.returns-clause-ready
+returns-clause-ready g c = record {
+  can =
+      can_put_empty c.args.slots.now.m c.args.slot c.in_ok-channels.channels.items c.in_default.ensures.slot
+      (omega (arith, c.in_default.ensures.some, c.in_ok-channels.channels.ok.0, c.in_ok-channels.ensures.len))
+      (omega (arith, c.in_default.ensures.few, c.in_ok-channels.channels.ok.0, c.in_ok-channels.ensures.len))
+      c.in_ok-channels.ensures.empty (rw c.window_len.ensures.m at c.in_ok-channels.ensures.window);
+  kept = λ h. absurd (cc h);
+  renewed = λ other put. put;
+  adds = tt;
+}

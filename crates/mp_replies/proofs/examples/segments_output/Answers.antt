@@ -13,5 +13,6 @@ use Rattle.mp_replies.specs.Output.{reply, output}
 use Rattle.mp_replies.proofs.examples.segments_output.Goals as goal
 
 pub returns : goal.returns
-unfolding digits near distance is_free links motifs_among in_rising_order mpdist_of first_of picks asked_of verdict cause after answer reply ends output
+unfolding digits near distance is_free links motifs_among in_rising_order mpdist_of first_of picks asked_of verdict
+    cause after answer reply ends output
 returns c = λ files. refl

@@ -4,7 +4,8 @@ use Rattle.mp_feed.specs.declared.readers.Next.TheVariants.{Line}
 use Rattle.mp_feed.specs.WritingLaws.{wrote_faults}
 use Rattle.mp_session.specs.Running.{course_at}
 use Rattle.mp_session.proofs.RunLemmas.{were_run_none}
-use Rattle.mp_session.proofs.UnderWay.{under_way_start, under_way_on, all_to_end, all_to_last, all_at_end, into_line, some_lines, lines_before_fault, lines_within, to_file}
+use Rattle.mp_session.proofs.UnderWay.{under_way_start, under_way_on, all_to_end, all_to_last, all_at_end, into_line}
+use Rattle.mp_session.proofs.UnderWay.{some_lines, lines_before_fault, lines_within, to_file}
 use Rattle.mp_session.proofs.runs.run_lines.Goals as goal
 use Rattle.mp_session.proofs.runs.run_lines.Goals.{then-ran-via-then-ran, then-ran-via-else-ran+then-last}
 

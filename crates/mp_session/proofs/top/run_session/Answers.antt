@@ -1,6 +1,8 @@
 use Rattle.mp_replies.specs.State.{opening}
 use Rattle.mp_session.proofs.EndLemmas.{if_ok}
-use Rattle.mp_session.proofs.ServeLemmas.{ok_on, by_outcome, all_told, all_some, all_refused, all_read, some_front, into_front, some_quiet, into_quiet, some_whole, some_flushed, told_taken, told_within, past_limit, stopped_at_file, told_to_file}
+use Rattle.mp_session.proofs.ServeLemmas.{ok_on, by_outcome, all_told, all_some, all_refused, all_read, some_front}
+use Rattle.mp_session.proofs.ServeLemmas.{into_front, some_quiet, into_quiet, some_whole, some_flushed, told_taken}
+use Rattle.mp_session.proofs.ServeLemmas.{told_within, past_limit, stopped_at_file, told_to_file}
 use Rattle.mp_session.proofs.top.run_session.Goals as goal
 
 pub returns-clause-told : goal.returns-clause-told

@@ -1,4 +1,5 @@
-use Rattle.std.proofs.Common.{⊎_elim, ℕ, ◌+◌, ◌≤◌, List, ◌++◌, length, map, take, refl, ap, ◌∙◌, ◌≡◌, sym, subst, arith, inl, inr, true, false}
+use Rattle.std.proofs.Common.{⊎_elim, ℕ, ◌+◌, ◌≤◌, List, ◌++◌, length, map, take, refl, ap, ◌∙◌, ◌≡◌, sym, subst, arith}
+use Rattle.std.proofs.Common.{inl, inr, true, false}
 use Rattle.std.specs.Prelude.{IsErrOf, Some, string_bytes}
 use Rattle.mp_bytes.specs.Lines.{ended_lines}
 use Rattle.mp_feed.specs.Writing.{TellsPrefix}
@@ -9,7 +10,10 @@ use Rattle.mp_session.specs.declared.halts.Halt.TheVariants as halts
 use Rattle.mp_session.specs.Serving.{ToldTaken, ToldToFile}
 use Rattle.mp_session.specs.Sessions.{some_fetch}
 use Rattle.mp_session.specs.Statuses.{ran}
-use Rattle.mp_session.proofs.ServeLemmas.{output_is, output_is_usage, usage_is_some, same_setup, on_whole, whole_status, on_read_fault, on_write_fault, on_input_limit, on_memory, on_words, on_shelf_fault, when_calm, when_early, not_past, no_read_fault, no_limit, not_whole, no_setup}
+use Rattle.mp_session.proofs.ServeLemmas.{output_is, output_is_usage, usage_is_some, same_setup, on_whole, whole_status}
+use Rattle.mp_session.proofs.ServeLemmas.{on_read_fault, on_write_fault, on_input_limit, on_memory, on_words}
+use Rattle.mp_session.proofs.ServeLemmas.{on_shelf_fault, when_calm, when_early, not_past, no_read_fault, no_limit}
+use Rattle.mp_session.proofs.ServeLemmas.{not_whole, no_setup}
 use Rattle.mp_session.proofs.top.serve_within.Goals as goal
 
 pub returns-in_default : goal.returns-in_default

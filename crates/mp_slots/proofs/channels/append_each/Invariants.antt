@@ -1,5 +1,6 @@
 use Rattle.std.proofs.Common.{◌≡◌, ◌+◌, ◌*◌, ◌≤◌, ◌++◌, length, take}
 use Rattle.mp_defs.specs.Window.{windows}
+use Rattle.mp_slots.specs.Channels.{StaysKnown}
 use Rattle.mp_slots.proofs.channels.append_each.Given as goal
 
 abbrev pub invariant-loop-sample : goal.invariant-loop-sample
@@ -7,6 +8,7 @@ invariant-loop-sample l = record {
   items : l.stream.items ≡ l.initial.stream.items ++ take l.sample-index l.samples;
   m : l.stream.m ≡ l.initial.stream.m;
   room : length l.samples ≤ l.stream.spare + l.sample-index;
+  known : StaysKnown l.initial.stream l.stream;
   rise : l.initial.stream.reads ≤ l.stream.reads;
   reads : l.stream.reads
       ≤ l.initial.stream.reads

@@ -6,7 +6,8 @@ use Rattle.mp_slots.proofs.groups.reserve_all.Goals as goal
 pub returns-in_err-reserve-clause-same : goal.returns-in_err-reserve-clause-same
 returns-in_err-reserve-clause-same c =
     room_kept c.args.channels.now c.loop-k.channels c.loop-k.k c.reserve.new.self c.index-channels-k.result
-    c.reserve.ensures.items c.reserve.ensures.m c.reserve.ensures.reads c.loop-k.invariant.same
+    c.reserve.ensures.items c.reserve.ensures.m c.reserve.ensures.reads c.reserve.ensures.changed
+    c.loop-k.invariant.same
 
 pub loop-k-preserved : goal.loop-k-preserved
 loop-k-preserved c = record {
@@ -15,7 +16,8 @@ loop-k-preserved c = record {
       (λ channel. c.args.more ≤ channel.spare) c.loop-k.invariant.room c.in_ok-reserve.ensures.ok;
   same =
       room_kept c.args.channels.now c.loop-k.channels c.loop-k.k c.reserve.new.self c.index-channels-k.result
-      c.reserve.ensures.items c.reserve.ensures.m c.reserve.ensures.reads c.loop-k.invariant.same;
+      c.reserve.ensures.items c.reserve.ensures.m c.reserve.ensures.reads c.reserve.ensures.changed
+      c.loop-k.invariant.same;
 }
 
 pub returns-clause-ok : goal.returns-clause-ok

@@ -1,5 +1,6 @@
 use Rattle.std.proofs.Common.{◌≡◌, ℕ, ◌+◌, ◌-◌, ◌*◌, ◌<◌, get_or, length}
 use Rattle.mp_defs.specs.Least.{near}
+use Rattle.mp_stream.specs.Blocks.{StayKnown}
 use Rattle.mp_stream.specs.Limits.{AllStartAtMost, AreLimits, limit_of}
 use Rattle.mp_stream.specs.Moves.{moved_by}
 use Rattle.mp_stream.specs.Rows.{IsTaken, row_candidate}
@@ -15,6 +16,7 @@ invariant-loop-g l =
       left : l.profile.left ≡ l.fn.profile.left;
       all : length l.profile.all ≡ length l.fn.profile.all;
       spare : l.profile.spare ≡ l.fn.profile.spare;
+      known : StayKnown l.fn.profile l.profile;
       limits : AreLimits limit_of l.profile.right l.limits;
       earlier : AllStartAtMost j l.profile.right;
       best : l.best.found ≡ near (row_candidate l.free (moved_by l.moves)) at;

@@ -16,6 +16,7 @@ loop-i-preserved c =
       left = c.offer_window.ensures.left ∙ inv.left;
       all = c.offer_window.ensures.all ∙ inv.all;
       spare = c.offer_window.ensures.spare ∙ inv.spare;
+      known = λ known was. c.offer_window.ensures.known known (inv.known known was);
       limits = limits_one _ _ _ _ _ _ _ _ _ here one inv.limits c.offer_window.ensures.limit;
       best = best_more _ _ _ _ _ inv.best c.offer_window.ensures.best;
     }

@@ -11,6 +11,7 @@ loop-g-init c = record {
   left = refl;
   all = refl;
   spare = refl;
+  known = λ known was. was;
   limits = c.requires.limits;
   best = sym (grows_by_one_candidate.no_candidates (row_candidate c.args.free.now (λ i. get_or c.args.sums.now i 0)));
 }

@@ -22,6 +22,7 @@ loop-i-preserved c =
       left = c.take_free.ensures.left ∙ inv.left;
       all = c.take_free.ensures.all ∙ inv.all;
       spare = c.take_free.ensures.spare ∙ inv.spare;
+      known = λ known was. c.take_free.ensures.known known (inv.known known was);
       limits = limits_one _ _ _ _ _ _ _ _ _ here one inv.limits c.take_free.ensures.limit;
       earlier = starts_taken _ _ _ _ _ _ _ one inv.earlier;
       best = best_more _ _ _ _ _ inv.best c.take_free.ensures.best;

@@ -17,7 +17,8 @@ scanned c =
     let tile = c.args.tile.now in
     let pairs = in_block tile.first (tile.last + 1) tile.first_row (tile.last_row + 1) in
     let found : IsPatched pairs m a a c.args.into.now c.scan_offsets.new.into =
-    subst (λ n. IsPatched pairs n a a c.args.into.now c.scan_offsets.new.into) (omega (arith, c.of-windows.ensures.rest))
+    subst (λ n. IsPatched pairs n a a c.args.into.now c.scan_offsets.new.into)
+    (omega (arith, c.of-windows.ensures.rest))
     (subst (λ s. IsPatched pairs (c.of-windows.result.rest + 1) (series_of s) (series_of s) c.args.into.now
     c.scan_offsets.new.into) c.of-windows.ensures.samples c.scan_offsets.ensures.scanned) in
     patch_offers.same m a a pairs (has_pair 0 tile) _ _ tt found

@@ -3,7 +3,8 @@ use Rattle.std.specs.List.{before_first, position_or_len}
 use Rattle.std.proofs.lemmas.Bool.{cases_Bool}
 use Rattle.mp_feed.specs.Feeding.{Holding, is_lf, has_lf, fed}
 use Rattle.mp_bytes.specs.Lines.{cut}
-use Rattle.mp_feed.proofs.FeedSteps.{unwrap_or-first_lf, is_some-first_lf, IsCutLine-fed, used_of-lf, used_of-no_lf, position_or_len-no_lf}
+use Rattle.mp_feed.proofs.FeedSteps.{unwrap_or-first_lf, is_some-first_lf, IsCutLine-fed, used_of-lf, used_of-no_lf}
+use Rattle.mp_feed.proofs.FeedSteps.{position_or_len-no_lf}
 use Rattle.mp_feed.proofs.feeds.Feed.feed.Goals as goal
 
 -- the line ends at the first LF, or at the piece's end

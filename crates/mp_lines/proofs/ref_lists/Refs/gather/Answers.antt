@@ -16,11 +16,13 @@ loop-text-preserved c =
     let steps : fields_in c.loop-text.text-iterator.text.now ≡ text ∷ left = c.in-Some.ensures.steps in
     let counted : AreCounted all (text ∷ left) count =
     subst (λ fields. AreCounted all fields count) steps c.loop-text.invariant.counted in
-    let below : count < length room = omega (arith, counted_fits all text left count c.args.self.counted counted, c.loop-text.auto.room, c.requires) in
+    let below : count < length room =
+    omega (arith, counted_fits all text left count c.args.self.counted counted, c.loop-text.auto.room, c.requires) in
     record {
       counted = search rules;
       gathered =
           front_more (refs all) (take count room) text left c.unwrap.result (sym c.read_ref.ensures ∙ c.unwrap.ensures)
           (c.loop-text.invariant.gathered ∙ ap (λ fields. in_front (take count room) (refs fields)) steps)
-          ∙ ap (λ (first : List Ref). in_front first (refs left)) (sym (take_more_set room count c.unwrap.result below));
+          ∙ ap (λ (first : List Ref). in_front first (refs left))
+          (sym (take_more_set room count c.unwrap.result below));
     }

@@ -3,7 +3,8 @@ use Rattle.std.proofs.lemmas.List.{length-take}
 use Rattle.std.proofs.lemmas.Result.{IfOk-weaker, on_err_weaker}
 use Rattle.mp_outside.proofs.Outcomes.{IfOk-both, either}
 use Rattle.mp_outside.proofs.PlannedLemmas.{faults-after_call, calm-after_call, cause-after_call}
-use Rattle.mp_outside.proofs.SinkLemmas.{written-after_writing, flushed-after_writing, room-after_writing, after_writing-none}
+use Rattle.mp_outside.proofs.SinkLemmas.{written-after_writing, flushed-after_writing, room-after_writing}
+use Rattle.mp_outside.proofs.SinkLemmas.{after_writing-none}
 use Rattle.mp_outside.proofs.mem_sinks.MemSinkSink.TheImpl.Goals as goal
 
 pub write-tells : goal.write-tells

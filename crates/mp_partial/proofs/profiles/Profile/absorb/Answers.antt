@@ -3,7 +3,8 @@ use Rattle.mp_partial.specs.Values.{Column, merged_column}
 use Rattle.mp_partial.specs.Profiled.{Profiled, IsProfile}
 use Rattle.mp_partial.specs.Patching.{placed}
 use Rattle.mp_partial.specs.PatchingLaws.{length_placed}
-use Rattle.mp_partial.proofs.Merging.{absorbed_has, covered_left, covered_right, merged_has, merged_twice, profile_absorbed}
+use Rattle.mp_partial.proofs.Merging.{absorbed_has, covered_left, covered_right, merged_has, merged_twice}
+use Rattle.mp_partial.proofs.Merging.{profile_absorbed}
 use Rattle.mp_partial.proofs.profiles.Profile.absorb.Goals as goal
 
 long : (size first n : ℕ) (slots : Column) → size ≡ n → length (placed size first slots) ≡ n
@@ -14,7 +15,8 @@ merge_side-requires-clause-covered c = covered_right _ _ _ c.self.invariant
 
 pub merge_side-requires-2-clause-both : goal.merge_side-requires-2-clause-both
 merge_side-requires-2-clause-both c =
-    ap length c.merge_side.ensures.both ∙ merged_has _ _ (long _ _ _ _ c.self.invariant.right_is) ∙ sym c.self.invariant.left_is
+    ap length c.merge_side.ensures.both ∙ merged_has _ _ (long _ _ _ _ c.self.invariant.right_is)
+    ∙ sym c.self.invariant.left_is
 
 pub merge_side-requires-2-clause-covered : goal.merge_side-requires-2-clause-covered
 merge_side-requires-2-clause-covered c =
@@ -23,7 +25,8 @@ merge_side-requires-2-clause-covered c =
 whole : (c : goal.After-merge_side-2)
     → IsProfile c.merge_side-2.new.both.items c.merge_side-2.new.side.items c.merge_side.new.side.items
 whole c =
-    profile_absorbed _ _ _ _ _ _ _ _ c.self.invariant (long _ _ _ _ c.self.invariant.right_is) (long _ _ _ _ c.self.invariant.left_is)
+    profile_absorbed _ _ _ _ _ _ _ _ c.self.invariant (long _ _ _ _ c.self.invariant.right_is)
+    (long _ _ _ _ c.self.invariant.left_is)
     (merged_twice _ _ _ _ _ c.merge_side.ensures.both c.merge_side-2.ensures.both) c.merge_side-2.ensures.side
     c.merge_side.ensures.side
 

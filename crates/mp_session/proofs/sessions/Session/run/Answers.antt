@@ -13,23 +13,23 @@ use Rattle.mp_session.proofs.sessions.Session.run.Goals as goal
 pub returns-in_err-prepared-clause-unfetched : goal.returns-in_err-prepared-clause-unfetched
 returns-in_err-prepared-clause-unfetched g c = λ state h none.
     let inside = subst (λ (s : Held). StandsFor s state) (sym c.self.view_is) h in
-    c.prepare.ensures.unfetched (unfetched_in _ state _ (state_is _ state c.self.invariant inside) none)
+    c.prepare.ensures.shelf.unfetched (unfetched_in _ state _ (state_is _ state c.self.invariant inside) none)
 
 pub returns-in_err-prepared-clause-no_fault : goal.returns-in_err-prepared-clause-no_fault
 returns-in_err-prepared-clause-no_fault g c = λ state h none fault.
     let inside = subst (λ (s : Held). StandsFor s state) (sym c.self.view_is) h in
-    c.in_err-prepared.ensures.no_fault (unfetched_in _ state _ (state_is _ state c.self.invariant inside) none)
+    c.in_err-prepared.ensures.shelf.no_fault (unfetched_in _ state _ (state_is _ state c.self.invariant inside) none)
     (passed_on c.from_residual.result _ _ c.from_residual.ensures.1 fault)
 
 pub returns-in_err-reply-clause-unfetched : goal.returns-in_err-reply-clause-unfetched
 returns-in_err-reply-clause-unfetched g c = λ state h none.
     let inside = subst (λ (s : Held). StandsFor s state) (sym c.self.view_is) h in
-    c.prepare.ensures.unfetched (unfetched_in _ state _ (state_is _ state c.self.invariant inside) none)
+    c.prepare.ensures.shelf.unfetched (unfetched_in _ state _ (state_is _ state c.self.invariant inside) none)
 
 pub returns-clause-unfetched : goal.returns-clause-unfetched
 returns-clause-unfetched g c = λ state h none.
     let inside = subst (λ (s : Held). StandsFor s state) (sym c.self.view_is) h in
-    c.prepare.ensures.unfetched (unfetched_in _ state _ (state_is _ state c.self.invariant inside) none)
+    c.prepare.ensures.shelf.unfetched (unfetched_in _ state _ (state_is _ state c.self.invariant inside) none)
 
 pub returns-clause-text : goal.returns-clause-text
 returns-clause-text g c = λ state files h told.
@@ -37,7 +37,7 @@ returns-clause-text g c = λ state files h told.
     let prepared = c.in_ok-prepared.prepared in
     let inside = subst (λ (s : Held). StandsFor s state) (sym c.self.view_is) h in
     let same = state_is _ state c.self.invariant inside in
-    let step = prepared_in _ state files line prepared _ same c.in_ok-prepared.ensures.ok told in
+    let step = prepared_in _ state files line prepared _ same c.in_ok-prepared.ensures.prepared.ok told in
     c.in_ok-reply.ensures.text
     ∙ (ap (λ (n : ℕ). shown (n + 1) prepared.answer) (sym inside.lines_is)
     ∙ text_is state files line prepared step)
@@ -48,7 +48,7 @@ returns-clause-kind g c = λ state files h told.
     let prepared = c.in_ok-prepared.prepared in
     let inside = subst (λ (s : Held). StandsFor s state) (sym c.self.view_is) h in
     let same = state_is _ state c.self.invariant inside in
-    let step = prepared_in _ state files line prepared _ same c.in_ok-prepared.ensures.ok told in
+    let step = prepared_in _ state files line prepared _ same c.in_ok-prepared.ensures.prepared.ok told in
     c.in_ok-reply.ensures.kind ∙ kind_is state files line prepared step
 
 pub returns-clause-after : goal.returns-clause-after
@@ -57,7 +57,7 @@ returns-clause-after g c = λ state files h told.
     let prepared = c.in_ok-prepared.prepared in
     let inside = subst (λ (s : Held). StandsFor s state) (sym c.self.view_is) h in
     let same = state_is _ state c.self.invariant inside in
-    let step = prepared_in _ state files line prepared _ same c.in_ok-prepared.ensures.ok told in
+    let step = prepared_in _ state files line prepared _ same c.in_ok-prepared.ensures.prepared.ok told in
     let mid : Held =
     record {
       settings = c.self.inside.settings;
@@ -71,7 +71,7 @@ returns-clause-after g c = λ state files h told.
       scale_is = inside.scale_is;
       lines_is = inside.lines_is;
       begun_is = inside.begun_is;
-      stores_is = inside.stores_is ∙ sym c.prepare.ensures.stores;
+      stores_is = inside.stores_is ∙ sym c.prepare.ensures.slots.stores;
     } in
     let made =
     subst (λ (b : Bool). HasCommitted mid c.commit.new.self prepared.change b)
@@ -87,6 +87,6 @@ returns-clause-most_reads g c = λ slot fresh.
     let kept = ap (λ (s : Held). s.slots) c.self.view_is in
     let is = c.in_ok-prepared.ensures in
     subst (λ (s : Stored). reads_at new slot ≤ reads_at s slot + most_reads s asked slot) kept
-    (most_is old mid new asked c.in_ok-prepared.prepared.change slot fresh (is.renewed slot) is.adds
-    (c.commit.ensures.rest slot) c.commit.ensures.added c.prepare.ensures.m c.prepare.ensures.stores
-    c.prepare.ensures.read)
+    (most_is old mid new asked c.in_ok-prepared.prepared.change slot fresh (is.ready.renewed slot) is.ready.adds
+    (c.commit.ensures.rest slot) c.commit.ensures.added c.prepare.ensures.slots.m c.prepare.ensures.slots.stores
+    c.prepare.ensures.slots.read)

@@ -1,0 +1,6 @@
+//! Tests of `mp_stream`: appends compared with the plain double loop. They stand above it, since a crate with tests is
+//! proved twice.
+#![tactic(auto)]
+
+#[cfg(test)]
+mod stream;

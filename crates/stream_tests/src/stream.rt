@@ -1,0 +1,260 @@
+ghost use Rattle.std.specs.Prelude.{◌≤◌};
+ghost use Rattle.mp_series.specs.declared.limits.TheConstants.{MIN_WINDOW, MAX_WINDOW};
+
+use mp_nums::{Near, Sample, Slot, Sq};
+use mp_outside::OpenGate;
+use mp_plain::profile;
+use mp_series::{Samples, windows};
+use mp_stream::{BLOCK, Stream};
+use std::alloc::Global;
+use std::process::Abort;
+use std::test::Fail;
+use std::thread::Threads;
+
+const GAP: Sample = Sample::Missing;
+
+fn near(dist: u128, index: u64) -> Slot {
+    Some(Near {
+        dist: Sq(dist),
+        index,
+    })
+}
+
+/// An empty stream of windows of `m` samples.
+fn empty<R: Threads + Sync>(rt: &R, alloc: Global, m: u32) -> Result<Stream, Fail>
+    requires shortest { MIN_WINDOW ≤ m }
+    requires longest { m ≤ MAX_WINDOW }
+{
+    let samples = Samples::new(alloc);
+    Ok(Stream::from(rt, alloc, samples, m, 256, 4, &OpenGate)?)
+}
+
+/// A stream of the samples, at windows of 3 samples.
+fn stream_of<R: Threads + Sync>(rt: &R, alloc: Global, series: &[Sample]) -> Result<Stream, Fail> {
+    let samples = Samples::of(alloc, series)?;
+    Ok(Stream::from(rt, alloc, samples, 3, 256, 4, &OpenGate)?)
+}
+
+/// Compares the profile with the one that compares every pair.
+fn expect_whole(rt: &impl Abort, alloc: Global, stream: &mut Stream) -> Result<(), Fail> {
+    let m = stream.window();
+    let whole = profile(alloc, stream.lend(), m)?;
+    assert_eq!(rt; stream.profile().all(), whole.all.as_slice());
+    assert_eq!(rt; stream.profile().left(), whole.left.as_slice());
+    assert_eq!(rt; stream.profile().right(), whole.right.as_slice());
+    Ok(())
+}
+
+/// Appends the samples, and looks at the reads of each append.
+fn append_each(rt: &impl Abort, stream: &mut Stream, samples: &[Sample]) -> Result<(), Fail> {
+    for sample in samples {
+        let before = stream.reads();
+        stream.append(*sample)?;
+        let windows = (stream.len() + 1).saturating_sub(u64::from(stream.window()));
+        let most = 4 * (u128::from(windows) + u128::from(stream.window()));
+        assert!(rt; stream.reads().saturating_sub(before) <= most);
+    }
+    Ok(())
+}
+
+#[test]
+fn samples_one_by_one(rt: HostRuntime) -> Result<(), Fail> {
+    let mut stream = empty(&rt, rt.alloc(), 3)?;
+    assert_eq!(rt; stream.profile().len(), 0);
+    append_each(&rt, &mut stream, &[1, 2, 3, 1, 2, 3].map(Sample::Value))?;
+    assert_eq!(rt;
+        stream.profile().all(),
+        [near(0, 3), near(6, 3), near(6, 0), near(0, 0)].as_slice()
+    );
+    assert_eq!(rt;
+        stream.profile().left(),
+        [None, None, near(6, 0), near(0, 0)].as_slice()
+    );
+    assert_eq!(rt;
+        stream.profile().right(),
+        [near(0, 3), near(6, 3), None, None].as_slice()
+    );
+    Ok(())
+}
+
+#[test]
+fn room_for_more_samples(rt: HostRuntime) -> Result<(), Fail> {
+    let mut stream = empty(&rt, rt.alloc(), 3)?;
+    stream.reserve(3)?;
+    assert!(rt; 3 <= stream.spare());
+    Ok(())
+}
+
+#[test]
+fn a_whole_series(rt: HostRuntime) -> Result<(), Fail> {
+    let mut stream = stream_of(&rt, rt.alloc(), &[1, 2, 3, 1, 2, 3].map(Sample::Value))?;
+    expect_whole(&rt, rt.alloc(), &mut stream)?;
+    append_each(&rt, &mut stream, &[3, 1, 2].map(Sample::Value))?;
+    expect_whole(&rt, rt.alloc(), &mut stream)
+}
+
+/// The next number of a sequence that looks like chance.
+fn next(state: u64) -> u64 {
+    state
+        .wrapping_mul(6_364_136_223_846_793_005)
+        .wrapping_add(1_442_695_040_888_963_407)
+}
+
+/// One of three numbers, so that distances are often equal, or a missing sample.
+fn tied(state: u64) -> Sample {
+    match state >> 59 {
+        0 => GAP,
+        1..=12 => Sample::Value(-1),
+        13..=25 => Sample::Value(2),
+        _ => Sample::Value(0),
+    }
+}
+
+#[test]
+fn ties_and_missing_samples(rt: HostRuntime) -> Result<(), Fail> {
+    let mut state = 1;
+    for m in 3..21 {
+        let mut stream = empty(&rt, rt.alloc(), m)?;
+        for _ in 0..90 {
+            state = next(state);
+            append_each(&rt, &mut stream, &[tied(state)])?;
+            expect_whole(&rt, rt.alloc(), &mut stream)?;
+        }
+    }
+    Ok(())
+}
+
+/// A small number at first, and later one of the whole range of 32 bits now and then, or a missing sample.
+fn widening(state: u64, k: u32) -> Sample {
+    match state >> 60 {
+        0 => GAP,
+        1 if 60 <= k => Sample::Value(i32::MIN),
+        2 if 60 <= k => Sample::Value(i32::MAX),
+        3 if 60 <= k => Sample::Value((state >> 33) as i32),
+        _ => Sample::Value((state >> 58) as i32 % 3),
+    }
+}
+
+#[test]
+fn a_range_that_outgrows_64_bits(rt: HostRuntime) -> Result<(), Fail> {
+    let mut state = 3;
+    for m in 3..21 {
+        let mut stream = empty(&rt, rt.alloc(), m)?;
+        stream.reserve(120)?;
+        for k in 0..120 {
+            state = next(state);
+            append_each(&rt, &mut stream, &[widening(state, k)])?;
+            expect_whole(&rt, rt.alloc(), &mut stream)?;
+        }
+    }
+    Ok(())
+}
+
+#[test]
+fn a_wide_series_that_grows(rt: HostRuntime) -> Result<(), Fail> {
+    let mut stream = stream_of(&rt, rt.alloc(), &[i32::MAX, i32::MIN, 5].map(Sample::Value))?;
+    let mut state = 9;
+    for k in 60..160 {
+        state = next(state);
+        append_each(&rt, &mut stream, &[widening(state, k)])?;
+        expect_whole(&rt, rt.alloc(), &mut stream)?;
+    }
+    Ok(())
+}
+
+#[test]
+fn windows_without_missing_samples(rt: HostRuntime) -> Result<(), Fail> {
+    let one = Sample::Value(1);
+    let mut stream = stream_of(&rt, rt.alloc(), &[one, one, one, GAP, one, one])?;
+    append_each(&rt, &mut stream, &[one, one, GAP])?;
+    let free: [bool; 7] = [true, false, false, false, true, true, false];
+    assert_eq!(rt; windows(stream.len(), stream.window()), free.len() as u64);
+    for i in 0..free.len() {
+        assert_eq!(rt; stream.free(i as u64), free[i], "window {i}");
+    }
+    Ok(())
+}
+
+/// The greatest number, 0 or a small one.
+fn spread(state: u64, greatest: i32) -> Sample {
+    match state >> 61 {
+        0 | 1 => Sample::Value(greatest),
+        2 => Sample::Value(0),
+        _ => Sample::Value((state >> 40) as i32),
+    }
+}
+
+/// Appends samples that reach up to a greatest number, at windows of 8 samples.
+fn expect_up_to<R: Threads + Sync + Abort>(
+    rt: &R,
+    alloc: Global,
+    greatest: i32,
+) -> Result<(), Fail> {
+    let mut stream = empty(rt, alloc, 8)?;
+    let mut state = 7;
+    for _ in 0..60 {
+        state = next(state);
+        append_each(rt, &mut stream, &[spread(state, greatest)])?;
+        expect_whole(rt, alloc, &mut stream)?;
+    }
+    Ok(())
+}
+
+#[test]
+fn ranges_about_the_greatest_sum_of_64_bits(rt: HostRuntime) -> Result<(), Fail> {
+    // 8 times the square of 2^30 is 2^63.
+    expect_up_to(&rt, rt.alloc(), (1 << 30) - 1)?;
+    expect_up_to(&rt, rt.alloc(), 1 << 30)?;
+    expect_up_to(&rt, rt.alloc(), i32::MAX)
+}
+
+#[test]
+fn the_ends_of_32_bits(rt: HostRuntime) -> Result<(), Fail> {
+    let mut stream = empty(&rt, rt.alloc(), 3)?;
+    for sample in [
+        5,
+        -3,
+        4,
+        5,
+        i32::MIN,
+        i32::MIN,
+        i32::MIN,
+        i32::MAX,
+        i32::MAX,
+        i32::MAX,
+        5,
+        -3,
+    ] {
+        append_each(&rt, &mut stream, &[Sample::Value(sample)])?;
+        expect_whole(&rt, rt.alloc(), &mut stream)?;
+    }
+    Ok(())
+}
+
+/// Whether each block of windows that isn't marked has the nearest windows that were known.
+fn are_known(stream: &Stream, known: &[Slot]) -> bool {
+    let (all, changed) = (stream.profile().all(), stream.changed());
+    let mut are = true;
+    for i in 0..all.len() {
+        let block = i / BLOCK as usize;
+        let before = if i < known.len() { known[i] } else { None };
+        are = are & (block < changed.len() && (changed[block] || all[i] == before));
+    }
+    are
+}
+
+#[test]
+fn blocks_that_are_not_marked_stay(rt: HostRuntime) -> Result<(), Fail> {
+    let mut state = 5;
+    let mut stream = empty(&rt, rt.alloc(), 4)?;
+    for _ in 0..40 {
+        let known = Vec::from_slice(rt.alloc(), stream.profile().all())?;
+        stream.clear_changed();
+        for _ in 0..3 {
+            state = next(state);
+            append_each(&rt, &mut stream, &[tied(state)])?;
+        }
+        assert!(rt; are_known(&stream, known.as_slice()));
+    }
+    Ok(())
+}
