@@ -10,7 +10,7 @@ program="$here/../crates/scan_bench/out/scan_bench"
 work="$(mktemp -d)"
 trap 'rm -rf "$work"' EXIT
 
-tr -d '\r' < "$here/../crates/stored_runs/data/ecg.csv" | awk -F, 'NR > 1 { print $2 }' | head -n 16384 > "$work/ecg"
+tr -d '\r' < "$here/../crates/stored_runs/data/series/ecg.csv" | awk -F, 'NR > 1 { print $2 }' | head -n 16384 > "$work/ecg"
 awk '{ print int($1 / 32) }' "$work/ecg" > "$work/coarse"
 awk '{ print NR % 1000 == 500 ? "?" : $1 }' "$work/ecg" > "$work/gaps"
 awk '{ print ($1 - 1203) * 3890000 }' "$work/ecg" > "$work/wide"

@@ -2,16 +2,19 @@
 # Nanoseconds for each append and earlier window at window 128, where the 20,000 samples of `ecg.csv` are appended one by
 # one: of a stream and of `stream.cpp` with sums of 64 bits, and of both with sums of 128 bits where the samples are spread
 # over the whole range of 32 bits. Each is timed five times in turn, the least counts, and both have to find the same
-# profile. Needs g++ and the program: `rt run` in crates/stream_bench once.
+# profile. Then the same samples, one in each `append` line of a session: all that the program takes for them, beside the
+# C++ program with sums of 64 bits. Needs g++ and the programs: `rt run` in crates/stream_bench and in crates/mprof once.
 set -eu
 here="$(dirname "$0")"
 stream="$here/../crates/stream_bench/out/stream_bench"
+mprof="$here/../crates/mprof/out/mprof"
 work="$(mktemp -d)"
 trap 'rm -rf "$work"' EXIT
 
 g++ -O3 -march=x86-64-v2 -o "$work/plain" "$here/stream.cpp"
-tr -d '\r' < "$here/../crates/stored_runs/data/ecg.csv" | awk -F, 'NR > 1 { print $2 }' > "$work/64"
+tr -d '\r' < "$here/../crates/stored_runs/data/series/ecg.csv" | awk -F, 'NR > 1 { print $2 }' > "$work/64"
 awk '{ print ($1 - 1203) * 3890000 }' "$work/64" > "$work/128"
+sed 's/^/append 0 /' "$work/64" > "$work/lines"
 
 # the name of a program, the samples, and the words that run it
 run() {
@@ -28,6 +31,9 @@ for _ in 1 2 3 4 5; do
         run stream "$bits" "$stream" 128 timed
         run plain "$bits" "$work/plain" "$bits" 128
     done
+    start=$(date +%s%N)
+    "$mprof" --window 128 < "$work/lines" > "$work/out"
+    echo $(($(date +%s%N) - start)) >> "$work/session"
 done
 
 for bits in 64 128; do
@@ -40,3 +46,9 @@ for bits in 64 128; do
         printf "%d bits: stream %.2f, C++ %.2f, ratio %.2f\n", bits, stream / pairs, plain / pairs, stream / plain
     }'
 done
+
+least_session=$(sort -n "$work/session" | head -n 1)
+least_plain=$(sort -n "$work/plain.64" | head -n 1)
+awk -v session="$least_session" -v plain="$least_plain" 'BEGIN {
+    printf "a session of 20,000 lines: %.2f seconds, C++ %.2f, ratio %.2f\n", session / 1e9, plain / 1e9, session / plain
+}'

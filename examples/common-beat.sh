@@ -1,0 +1,33 @@
+#!/bin/sh
+# What do several recordings have in common?
+. "$(dirname "$0")/common.sh"
+session ecg_common_beat
+
+for file in ecg-4000 ecg-8000 ecg-10650 ecg-17500; do
+    column $file.csv 1 > "$work/$file"
+done
+report 8 | while read -r place distance start; do
+    file=$(echo ecg-4000 ecg-8000 ecg-10650 ecg-17500 | cut -d' ' -f $((place + 1)))
+    windows $file.csv 1 200 "$start" > "$work/found$place"
+    awk -v start="$start" 'NF { print $1 - start, $2 }' "$work/found$place" > "$work/aligned$place"
+done
+
+draw 720 <<'END'
+mv(adc) = (adc - 1024) / 200.0
+eval panels(5)
+set xrange [0:2500]
+set yrange [-1.5:2.2]
+set ytics 1
+set ylabel "mV"
+files = "ecg-4000 ecg-8000 ecg-10650 ecg-17500"
+do for [place = 0:3] {
+    set label 1 "recording ".place at graph 0.01, 0.95
+    plot work.word(files, place + 1) using 1:(mv($2)) every 2 with lines ls 1, \
+         work."found".place using 1:(mv($2)) with lines ls 3
+}
+set label 1 "the four windows, one over the other"
+set xlabel "sample, 360 a second"
+set xrange [0:200]
+set yrange [-1:1.5]
+plot for [place = 0:3] work."aligned".place using 1:(mv($2)) with lines linewidth 1 linecolor place + 1
+END
