@@ -1,5 +1,4 @@
 pub mod AppendLemmas
-pub mod ArcLemmas
 pub mod ChannelLemmas
 pub mod ColumnLemmas
 pub mod EndLemmas

@@ -13,7 +13,10 @@ use Rattle.mp_replies.specs.Step.{Verdict, Passes, IsRefused, IsAccepted, verdic
 use Rattle.mp_replies.specs.Step.{cause_in, after, after_by, counted, answer, answer_by, change_by, conditions, is_last}
 use Rattle.mp_replies.specs.Step.{report_by, fetches, fetches_by}
 use Rattle.mp_replies.specs.Report.{text_of}
-use Rattle.mp_replies.specs.Output.{reply, session_output}
+use Rattle.mp_replies.specs.Output.{reply, output_for, session_output}
+use Rattle.mp_replies.specs.Summary.{summary_of}
+use Rattle.mp_replies.specs.Words.{Setup}
+use Rattle.mp_replies.specs.declared.makes.Make.{Make}
 use Rattle.mp_replies.specs.Laws.{RefusedLinesChangeNothing, AnswersRefuseByCause, EndsAreAnswered}
 use Rattle.mp_replies.specs.Laws.{OtherLinesReadNoFile, TileAndWorkersChangeNothing}
 
@@ -133,7 +136,14 @@ no_file_read state line files others h =
 
 -- ---- what a run is started with
 
-pub tile_and_workers : TileAndWorkersChangeNothing
-tile_and_workers a b files bytes window scale =
+same_output : (a b : Setup) (make : Option Make) (files : Files) (bytes : List ℕ) → a.window ≡ b.window
+    → a.scale ≡ b.scale → output_for a make files bytes ≡ output_for b make files bytes
+same_output a b None files bytes window scale =
     ap (λ (w : ℕ). session_output (opening w a.scale) files bytes) window
     ∙ ap (λ (s : ℕ). session_output (opening b.window s) files bytes) scale
+same_output a b (Some make) files bytes window scale = ap (λ (w : ℕ). summary_of w make) window
+
+pub tile_and_workers : TileAndWorkersChangeNothing
+tile_and_workers a b files bytes window scale make =
+    ap (λ (made : Option Make). output_for a.setup made files bytes) make
+    ∙ same_output a.setup b.setup b.make files bytes window scale

@@ -13,7 +13,7 @@ use Rattle.mp_replies.specs.Conditions.{first_of}
 use Rattle.mp_replies.specs.Line.{Nothing, Asks, Faulty, asked_of}
 use Rattle.mp_replies.specs.LoadCommand.{file_conditions, file_in, table_in}
 use Rattle.mp_replies.specs.MotifsCommand.{motif_query}
-use Rattle.mp_replies.specs.Words.{job}
+use Rattle.mp_replies.specs.Words.{Setup, job, session_job}
 use Rattle.mp_replies.specs.State.{Files, State, opening, Closed, Open}
 use Rattle.mp_replies.specs.Step.{cause}
 use Rattle.mp_replies.specs.Output.{output}
@@ -39,18 +39,45 @@ pub record SpelledItems : Type 0 where
   pub both_missing : item_of 0 2 1 (codes ",") ≡ Ok (None ∷ None ∷ [])
   pub one_value : item_of 0 2 5 (codes "1") ≡ Err 5
 
+abbrev setup : ℕ → ℕ → ℕ → ℕ → Setup
+setup window scale tile workers = record { window = window; scale = scale; tile = tile; workers = workers }
+
 -- words in the grammar and outside it
 pub record SpelledWords : Type 0 where
-  pub window : job (codes "--window" ∷ codes "003" ∷ [])
-      ≡ Some record { window = 3; scale = 0; tile = 256; workers = 4 }
+  pub window : job (codes "--window" ∷ codes "003" ∷ []) ≡ Some (session_job (setup 3 0 256 4))
+  pub in_one_word : job (codes "--window=003" ∷ []) ≡ Some (session_job (setup 3 0 256 4))
   pub with_scale : job (codes "--window" ∷ codes "12" ∷ codes "--scale" ∷ codes "2" ∷ [])
-      ≡ Some record { window = 12; scale = 2; tile = 256; workers = 4 }
-  pub fine_scale : job (codes "--window" ∷ codes "12" ∷ codes "--scale" ∷ codes "10" ∷ []) ≡ None
-  pub scale_alone : job (codes "--scale" ∷ codes "2" ∷ []) ≡ None
+      ≡ Some (session_job (setup 12 2 256 4))
+  pub in_any_order : job (codes "--workers=32" ∷ codes "--scale" ∷ codes "9" ∷ codes "--tile=65536"
+      ∷ codes "--window" ∷ codes "16384" ∷ []) ≡ Some (session_job (setup 16384 9 65536 32))
+  pub made : job (codes "--count" ∷ codes "262144" ∷ codes "--generate=18446744073709551615" ∷ codes "--window=8" ∷ [])
+      ≡ Some record {
+        setup = setup 8 0 256 4;
+        make = Some record { number = 18446744073709551615; count = 262144 };
+      }
+  pub twenty_digits : job (codes "--window" ∷ codes "00000000000000000003" ∷ []) ≡ Some (session_job (setup 3 0 256 4))
+  pub one_digit_more : job (codes "--window" ∷ codes "000000000000000000003" ∷ []) ≡ None
+  pub no_words : job [] ≡ None
   pub short_window : job (codes "--window" ∷ codes "2" ∷ []) ≡ None
   pub long_window : job (codes "--window" ∷ codes "16385" ∷ []) ≡ None
+  pub twice : job (codes "--window" ∷ codes "3" ∷ codes "--window" ∷ codes "3" ∷ []) ≡ None
+  pub count_alone : job (codes "--window" ∷ codes "3" ∷ codes "--count" ∷ codes "5" ∷ []) ≡ None
+  pub number_alone : job (codes "--window" ∷ codes "3" ∷ codes "--generate" ∷ codes "5" ∷ []) ≡ None
+  pub great_count : job (codes "--window=3" ∷ codes "--generate=0" ∷ codes "--count=262145" ∷ []) ≡ None
+  pub great_number : job (codes "--window=3" ∷ codes "--count=0" ∷ codes "--generate=18446744073709551616" ∷ []) ≡ None
   pub signed_window : job (codes "--window" ∷ codes "+3" ∷ []) ≡ None
-  pub no_words : job [] ≡ None
+  pub two_dashes : job (codes "--window" ∷ codes "3" ∷ codes "--" ∷ []) ≡ None
+  pub word_alone : job (codes "--window" ∷ codes "3" ∷ codes "x" ∷ []) ≡ None
+  pub help : job (codes "--window" ∷ codes "3" ∷ codes "--help" ∷ []) ≡ None
+  pub short_option : job (codes "-w" ∷ codes "3" ∷ []) ≡ None
+  pub no_value : job (codes "--window=" ∷ []) ≡ None
+  pub option_as_value : job (codes "--window" ∷ codes "--scale=1" ∷ []) ≡ None
+  pub scale_alone : job (codes "--scale" ∷ codes "2" ∷ []) ≡ None
+  pub fine_scale : job (codes "--window=12" ∷ codes "--scale=10" ∷ []) ≡ None
+  pub no_tile : job (codes "--window=12" ∷ codes "--tile=0" ∷ []) ≡ None
+  pub great_tile : job (codes "--window=12" ∷ codes "--tile=65537" ∷ []) ≡ None
+  pub no_workers : job (codes "--window=12" ∷ codes "--workers=0" ∷ []) ≡ None
+  pub many_workers : job (codes "--window=12" ∷ codes "--workers=33" ∷ []) ≡ None
 
 abbrev channel : ℕ → ℕ → Ref
 channel s c = record { slot = s; channel = c }
@@ -236,3 +263,12 @@ ConsensusOutput =
     ++ codes "open 2 1\nconsensus 0 1 2\n")
     ≡ codes "ok 1 0\nok 2 0\nok 3 4\nok 4 4\nok 5 4\nconsensus 6 3 0 0\n0 0 0\n1 0 1\n2 3 0\n"
     ++ codes "ok 7 0\nconsensus 8 -\n"
+
+-- series that are made: of one window, and of windows that have a nearest one
+abbrev pub MadeOutput : Type 0
+MadeOutput =
+    (files : Files) (bytes : List ℕ)
+    → (output (codes "--window" ∷ codes "3" ∷ codes "--generate" ∷ codes "0" ∷ codes "--count" ∷ codes "3" ∷ []) files
+    bytes ≡ codes "generated 3 1\nbest -\ndiscord -\nsegment -\n")
+    × (output (codes "--window=3" ∷ codes "--generate=0" ∷ codes "--count=6" ∷ codes "--scale=2" ∷ []) files bytes
+    ≡ codes "generated 6 4\nbest 118633 0 2\ndiscord 119349 1 3\nsegment -\n")

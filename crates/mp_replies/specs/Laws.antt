@@ -7,7 +7,7 @@ use Rattle.mp_bytes.specs.Lines.{max_line, cut}
 use Rattle.mp_text.specs.Rows.{Row}
 use Rattle.mp_replies.specs.declared.causes.Cause.{Cause}
 use Rattle.mp_replies.specs.declared.causes.Cause.TheVariants as words
-use Rattle.mp_replies.specs.Words.{Setup}
+use Rattle.mp_replies.specs.Words.{Job}
 use Rattle.mp_replies.specs.State.{Files, State, channels_at}
 use Rattle.mp_replies.specs.Answer.{Silent, Refused, Ended, Report}
 use Rattle.mp_replies.specs.Command.{Command, Append, Match, Motifs, Discords, Segments, Consensus}
@@ -55,8 +55,8 @@ LongLinesAreRunCut = (state : State) (line : List ℕ) (files : Files) → IsRun
 -- the tile and the workers change no byte
 abbrev pub TileAndWorkersChangeNothing : Type 0
 TileAndWorkersChangeNothing =
-    (a b : Setup) (files : Files) (bytes : List ℕ) → a.window ≡ b.window → a.scale ≡ b.scale
-    → output_by (Some a) files bytes ≡ output_by (Some b) files bytes
+    (a b : Job) (files : Files) (bytes : List ℕ) → a.setup.window ≡ b.setup.window → a.setup.scale ≡ b.setup.scale
+    → a.make ≡ b.make → output_by (Some a) files bytes ≡ output_by (Some b) files bytes
 
 -- a line ends the run exactly where its answer is that of an accepted line that ends it
 abbrev pub EndsAreAnswered : Type 0

@@ -1,7 +1,7 @@
 pub mod Limits
-pub mod Words
 pub mod State
 pub mod Numbers
+pub mod Words
 pub mod Conditions
 pub mod Change
 pub mod Command
@@ -24,6 +24,7 @@ pub mod ChainsCommand
 pub mod SegmentsCommand
 pub mod MpdistCommand
 pub mod ConsensusCommand
+pub mod Summary
 pub mod Line
 pub mod Step
 pub mod Report
@@ -31,4 +32,5 @@ pub mod Output
 pub mod Laws
 pub mod CutLaws
 pub mod LimitLaws
+pub mod ArcLaws
 pub mod Examples

@@ -3,7 +3,7 @@ use Rattle.std.specs.Prelude.{◌≡◌, ℕ, ◌+◌, ◌≤◌, ◌&&◌, Bool
 use Rattle.std.specs.Prelude.{map}
 use Rattle.std.specs.Prelude.{slice_index, codes, if◌then◌else◌, Option, Some, None, Result, Ok, Err, option_map}
 use Rattle.std.specs.Prelude.{option_and_then}
-use Rattle.std.proofs.Common.{refl, ap, sym, subst, arith}
+use Rattle.std.proofs.Common.{refl, ap, subst, arith}
 use Rattle.std.proofs.lemmas.Bool.Decides.{nat_tests}
 use Rattle.std.proofs.lemmas.List.{length-map}
 use Rattle.mp_bytes.specs.Bytes.{number_sign, same_text}
@@ -23,11 +23,11 @@ use Rattle.mp_replies.specs.DiscordsCommand.{discords_by, discords_of}
 use Rattle.mp_replies.specs.EntryCommand.{entry_of}
 use Rattle.mp_replies.specs.JoinCommand.{join_of}
 use Rattle.mp_replies.specs.Limits.{max_digits, max_factor, max_motifs, max_count, max_refs, min_refs}
-use Rattle.mp_replies.specs.Line.{Asked, Nothing, Asks, Faulty, Form, asked_in, asked_of, asks, by_form, command_by}
+use Rattle.mp_replies.specs.Line.{Nothing, Asks, Faulty, Form, asked_in, asked_of, asks, by_form, command_by}
 use Rattle.mp_replies.specs.Line.{command_in, forms, unless_malformed}
 use Rattle.mp_replies.specs.Line.{open_form, load_form, append_form, window_form, profile_form, entry_form, join_form}
 use Rattle.mp_replies.specs.Line.{multi_form, match_form, motifs_form, discords_form, chain_form, chains_form}
-use Rattle.mp_replies.specs.Line.{segments_form, mpdist_form, consensus_form, end_form}
+use Rattle.mp_replies.specs.Line.{segments_form, mpdist_form, end_form}
 use Rattle.mp_replies.specs.LoadCommand.{load_of, load_with}
 use Rattle.mp_replies.specs.MatchCommand.{match_by, match_of}
 use Rattle.mp_replies.specs.MotifsCommand.{motifs_by, motifs_of}

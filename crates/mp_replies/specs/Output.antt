@@ -3,8 +3,10 @@ use Rattle.std.specs.Prelude.{ℕ, ◌+◌, Bool, false, ◌||◌, is_some, List
 use Rattle.std.specs.Prelude.{None}
 use Rattle.std.specs.List.{concat}
 use Rattle.mp_bytes.specs.Lines.{lines}
-use Rattle.mp_replies.specs.Words.{Setup, job}
+use Rattle.mp_replies.specs.Words.{Job, Setup, job}
 use Rattle.mp_replies.specs.State.{Files, State, opening}
+use Rattle.mp_replies.specs.Summary.{summary_of}
+use Rattle.mp_replies.specs.declared.makes.Make.{Make}
 use Rattle.mp_replies.specs.Line.{ends}
 use Rattle.mp_replies.specs.Step.{cause, after, answer}
 use Rattle.mp_replies.specs.Report.{text_of}
@@ -58,9 +60,14 @@ lines_run bytes = until_end (lines bytes)
 abbrev pub session_output : State → Files → List ℕ → List ℕ
 session_output state files bytes = reports state files (lines_run bytes)
 
-abbrev pub output_by : Option Setup → Files → List ℕ → List ℕ
+-- the reports of a session, or the summary of a made series, which knows no scale, no file and no input
+abbrev pub output_for : Setup → Option Make → Files → List ℕ → List ℕ
+output_for setup None files bytes = session_output (opening setup.window setup.scale) files bytes
+output_for setup (Some make) files bytes = summary_of setup.window make
+
+abbrev pub output_by : Option Job → Files → List ℕ → List ℕ
 output_by None files bytes = usage
-output_by (Some setup) files bytes = session_output (opening setup.window setup.scale) files bytes
+output_by (Some job) files bytes = output_for job.setup job.make files bytes
 
 -- by the words, the files and the input
 unfoldable pub output : List (List ℕ) → Files → List ℕ → List ℕ

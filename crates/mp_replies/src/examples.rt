@@ -23,6 +23,7 @@ ghost use Rattle.mp_replies.specs.Examples.{
   SegmentsOutput,
   MultiOutput,
   ConsensusOutput,
+  MadeOutput,
 };
 
 /// Lines and fields, with and without the last line's end.
@@ -35,7 +36,7 @@ pub fn spelled_items()
     ensures { SpelledItems }
 {}
 
-/// Words with a window, and with a scale behind.
+/// Words in the grammar, and outside it.
 pub fn spelled_words()
     ensures { SpelledWords }
 {}
@@ -133,4 +134,9 @@ pub fn multi_output()
 /// What three channels have in common.
 pub fn consensus_output()
     ensures { ConsensusOutput }
+{}
+
+/// Series that are made, with and without a nearest window.
+pub fn made_output()
+    ensures { MadeOutput }
 {}

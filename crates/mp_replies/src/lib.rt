@@ -6,13 +6,14 @@
 mod causes;
 mod examples;
 mod laws;
+mod makes;
 mod refs;
 
 pub use causes::Cause;
 pub use examples::{
     asked_lines, bad_item_is_named, chain_output, consensus_output, end_output, entry_output,
-    full_series_is_refused, join_output, lines_end_or_not, load_output, loaded_files, multi_output,
-    open_output, pattern_output, plain_output, refusals_output, refused_piece_output,
+    full_series_is_refused, join_output, lines_end_or_not, load_output, loaded_files, made_output,
+    multi_output, open_output, pattern_output, plain_output, refusals_output, refused_piece_output,
     scaled_output, segments_output, short_output, spelled_items, spelled_words,
 };
 pub use laws::{
@@ -20,4 +21,5 @@ pub use laws::{
     limits_are_kept, long_lines_are_cut, other_lines_read_no_file, quiet_lines_are_silent,
     refused_lines_change_nothing, tile_and_workers_change_nothing, words_stand_in_order,
 };
+pub use makes::Make;
 pub use refs::Ref;

@@ -9,6 +9,7 @@ mod numbers;
 mod profiles;
 mod segments;
 mod slots;
+mod summaries;
 #[cfg(test)]
 mod tests;
 
@@ -20,3 +21,4 @@ pub use mp_replies::Cause;
 pub use profiles::{entry_text, profile_text, window_text};
 pub use segments::segments_text;
 pub use slots::{SlotsName, slots_text};
+pub use summaries::generated_text;

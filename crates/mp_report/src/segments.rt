@@ -36,7 +36,7 @@ fn push_segments(text: &mut Vec<u8>, places: &[u64], curve: &[Ratio]) -> Result<
     Ok(())
 }
 
-fn push_segment(text: &mut Vec<u8>, place: u64, curve: &[Ratio]) -> Result<(), Memory>
+pub(crate) fn push_segment(text: &mut Vec<u8>, place: u64, curve: &[Ratio]) -> Result<(), Memory>
     requires { place < length curve.now }
     ensures { OnOk result (text.new.items ≡ text.old.items ++ segment_text (map parts_of curve.now) place) }
 {

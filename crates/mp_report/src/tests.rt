@@ -2,8 +2,8 @@
 
 use crate::{
     Cause, SlotsName, chain_text, chains_text, consensus_text, discords_text, entry_text,
-    match_text, motifs_text, mpdist_text, ok_text, profile_text, refused_text, segments_text,
-    slots_text, window_text,
+    generated_text, match_text, motifs_text, mpdist_text, ok_text, profile_text, refused_text,
+    segments_text, slots_text, window_text,
 };
 use mp_nums::{
     Centre, Discord, Items, Memory, Motif, Near, NearList, Places, Ratio, Sample, Slot, Sq, Text,
@@ -65,18 +65,19 @@ fn refused_lines_have_words(rt: HostRuntime) -> Result<(), Fail> {
     Ok(())
 }
 
-// The pairs of windows of 1 2 3 1 2 3 that are more than 1 apart, at window length 3.
+/// The pairs of windows of 1 2 3 1 2 3 that are more than 1 apart, at window length 3.
+const FOUND: [(u64, u64, u128); 6] = [
+    (0, 2, 6),
+    (0, 3, 0),
+    (1, 3, 6),
+    (2, 0, 6),
+    (3, 0, 0),
+    (3, 1, 6),
+];
+
 #[test]
 fn a_profile_has_a_line_for_each_window(rt: HostRuntime) -> Result<(), Fail> {
-    let found = [
-        (0, 2, 6),
-        (0, 3, 0),
-        (1, 3, 6),
-        (2, 0, 6),
-        (3, 0, 0),
-        (3, 1, 6),
-    ];
-    let profile = profile_of(rt.alloc(), 4, &found)?;
+    let profile = profile_of(rt.alloc(), 4, &FOUND)?;
     let bytes = b"profile 2 4\n0 0 3 - 3\n1 6 3 - 3\n2 6 0 0 -\n3 0 0 0 -\n";
     same(&rt, &profile_text(rt.alloc(), 2, &profile)?, bytes);
     let none = profile_of(rt.alloc(), 0, &[])?;
@@ -229,5 +230,25 @@ fn channels_are_compared(rt: HostRuntime) -> Result<(), Fail> {
     same(&rt, &text, b"consensus 6 3 0 0\n0 0 0\n1 0 1\n2 3 0\n");
     let text = consensus_text(alloc, 8, None)?;
     same(&rt, &text, b"consensus 8 -\n");
+    Ok(())
+}
+
+#[test]
+fn a_summary_names_two_windows_and_a_regime(rt: HostRuntime) -> Result<(), Fail> {
+    let alloc = rt.alloc();
+    let whole = Ratio::new(1, 1);
+    let profile = profile_of(alloc, 4, &FOUND)?;
+    let curve = [whole, Ratio::new(4, 6), whole, whole];
+    same(
+        &rt,
+        &generated_text(alloc, 6, &profile, 1, Some(1), &curve)?,
+        b"generated 6 4\nbest 0 0 3\ndiscord 6 1 3\nsegment 1 4/6\n",
+    );
+    let none = profile_of(alloc, 1, &[])?;
+    same(
+        &rt,
+        &generated_text(alloc, 3, &none, 1, None, &[whole])?,
+        b"generated 3 1\nbest -\ndiscord -\nsegment -\n",
+    );
     Ok(())
 }

@@ -2,7 +2,8 @@
 use Rattle.std.proofs.Common.{◌≡◌, ◌≢◌, ◌⊎◌, inl, inr, ℕ, ◌+◌, ◌<◌, ◌≤◌, Bool, true, false, ◌||◌, List, [], ◌∷◌, ◌++◌}
 use Rattle.std.proofs.Common.{length, take, drop, get_or, append_assoc, map, refl, sym, ap, ◌∙◌, subst, arith}
 use Rattle.std.proofs.Common.{append-nil, length-append, ⊎_elim}
-use Rattle.std.specs.Prelude.{Option, Some, None, is_some, Result, Ok, Err, IfOk, OnOk, IsErrOf, IsTrue}
+use Rattle.std.specs.Prelude.{Option, Some, None, is_some, option_and_then, codes, Result, Ok, Err, IfOk, OnOk}
+use Rattle.std.specs.Prelude.{IsErrOf, IsTrue}
 use Rattle.std.specs.List.{concat, take-map}
 use Rattle.std.proofs.lemmas.List.{drop_more, get_or-map, length-map, nil_from_length, take_all, take-append-drop}
 use Rattle.std.proofs.lemmas.List.{take-append-le}
@@ -21,7 +22,9 @@ use Rattle.mp_replies.specs.Line.{ends}
 use Rattle.mp_replies.specs.Step.{cause, after, fetches}
 use Rattle.mp_replies.specs.Output.{lines_run, output, output_by, reply, replies, reports, session_output, some_ends}
 use Rattle.mp_replies.specs.Output.{some_refused, state_after, until_end, usage}
-use Rattle.mp_replies.specs.Words.{Setup, job}
+use Rattle.mp_replies.specs.Summary.{summary_of}
+use Rattle.mp_replies.specs.Words.{Job, Setup, job, job_with, session_job}
+use Rattle.mp_replies.specs.declared.makes.Make.{Make}
 use Rattle.mp_session.specs.declared.halts.Halt.{Halt}
 use Rattle.mp_session.specs.declared.halts.Halt.TheVariants as halts
 use Rattle.mp_session.specs.declared.top.Status.{Status}
@@ -29,8 +32,8 @@ use Rattle.mp_session.specs.declared.top.Status.TheVariants as statuses
 use Rattle.mp_session.specs.Sessions.{StandsFor, ToldForAll, some_fetch}
 use Rattle.mp_session.specs.Statuses.{halted, is_whole, ran, status_by}
 use Rattle.mp_session.specs.Running.{Course, WereRun}
-use Rattle.mp_session.specs.Serving.{AreFirst, IsPast, IsWithin, RanAll, RanEnded, RanInto, RanSome, RanToFile}
-use Rattle.mp_session.specs.Serving.{ToldForRun, ToldTaken, ToldToFile, ends_within}
+use Rattle.mp_session.specs.Serving.{AreFirst, AsksSummary, Call, WritesSummary, IsPast, IsWithin, RanAll, RanEnded}
+use Rattle.mp_session.specs.Serving.{RanInto, RanSome, RanToFile, ToldForRun, ToldTaken, ToldToFile, ends_within}
 use Rattle.mp_session.proofs.RunLemmas.{not_both, replies-append, some_ends_cut, some_fetch-append, told_first}
 use Rattle.mp_session.proofs.RunLemmas.{told_then}
 
@@ -431,10 +434,26 @@ module _ {Out : Type 0} {sink : Ghosts Out} {shelf : Option Files} where
 
 -- ---- by the words
 
-pub output_is : (words : List (List ℕ)) (setup : Setup) (files : Files) (bytes : List ℕ) → Some setup ≡ job words
+pub output_is : (words : List (List ℕ)) (setup : Setup) (files : Files) (bytes : List ℕ)
+    → Some (session_job setup) ≡ job words
     → session_output (opening setup.window setup.scale) files bytes ≡ output words files bytes
 unfolding output
 output_is words setup files bytes e = ap (λ j. output_by j files bytes) e
+
+pub output_is_summary : (words : List (List ℕ)) (setup : Setup) (make : Make) (files : Files) (bytes : List ℕ)
+    → Some (job_with setup (Some make)) ≡ job words → summary_of setup.window make ≡ output words files bytes
+unfolding output
+output_is_summary words setup make files bytes e = ap (λ j. output_by j files bytes) e
+
+begun_long : (rest : List ℕ) → 0 < length (codes "generated " ++ rest)
+begun_long rest = omega (arith, length-append (codes "generated ") rest)
+
+summary_long : (m : ℕ) (make : Make) → 0 < length (summary_of m make)
+summary_long m make = begun_long _
+
+pub summary_is_some : (m : ℕ) (make : Make) → summary_of m make ≢ []
+summary_is_some m make none =
+    let long : 0 < length (summary_of m make) = summary_long m make in omega (arith, long, ap length none)
 
 pub output_is_usage : (words : List (List ℕ)) (files : Files) (bytes : List ℕ) → job words ≡ None
     → usage ≡ output words files bytes
@@ -444,9 +463,27 @@ output_is_usage words files bytes e = ap (λ j. output_by j files bytes) (sym e)
 pub usage_is_some : usage ≢ []
 usage_is_some none = omega (arith, ap length none)
 
-pub same_setup : (words : List (List ℕ)) (one other : Setup) → Some one ≡ job words → job words ≡ Some other
-    → one ≡ other
-same_setup words one other e is = let both : Some one ≡ Some other = e ∙ is in cc
+pub same_setup : (words : List (List ℕ)) (one other : Setup) → Some (session_job one) ≡ job words
+    → job words ≡ Some (session_job other) → one ≡ other
+same_setup words one other e is =
+    let both : Some (session_job one) ≡ Some (session_job other) = e ∙ is in
+    let jobs : session_job one ≡ session_job other = cc in ap (λ (j : Job). j.setup) jobs
+
+-- words that ask for a session ask for no summary
+pub not_both_jobs : (words : List (List ℕ)) (one other : Setup) (make : Make) {P : Type 0}
+    → job words ≡ Some (session_job one) → job words ≡ Some (job_with other (Some make)) → P
+not_both_jobs words one other make e is =
+    let both : Some (session_job one) ≡ Some (job_with other (Some make)) = sym e ∙ is in
+    let makes : None ≡ Some make = ap (λ (o : Option Job). option_and_then (λ (j : Job). j.make) o) both in
+    absurd (cc makes)
+
+pub same_summary : (words : List (List ℕ)) (one other : Setup) (make made : Make)
+    → Some (job_with one (Some make)) ≡ job words → job words ≡ Some (job_with other (Some made))
+    → summary_of one.window make ≡ summary_of other.window made
+same_summary words one other make made e is =
+    let both : Some (job_with one (Some make)) ≡ Some (job_with other (Some made)) = e ∙ is in
+    let jobs : job_with one (Some make) ≡ job_with other (Some made) = cc in
+    ap (λ (j : Job). elim j.make as (λ _. List ℕ) [ None ↦ [] | Some m ↦ summary_of j.setup.window m ]) jobs
 
 -- ---- by the status
 
@@ -628,6 +665,61 @@ not_whole statuses.WriteFault ended whole = cc
 not_whole statuses.InputLimit ended whole = cc
 not_whole statuses.Memory ended whole = cc
 
--- no setup stands for such words
-pub no_setup : (words : List (List ℕ)) (setup : Setup) {P : Type 0} → job words ≡ None → job words ≡ Some setup → P
-no_setup words setup none is = let both : None ≡ Some setup = sym none ∙ is in absurd (cc both)
+-- no job stands for such words
+pub no_job : (words : List (List ℕ)) (asked : Job) {P : Type 0} → job words ≡ None → job words ≡ Some asked → P
+no_job words asked none is = let both : None ≡ Some asked = sym none ∙ is in absurd (cc both)
+
+-- ---- a summary
+
+pub no_summary : {Sh Out : Type 0} (call : Call Sh Out)
+    → ((setup : Setup) (make : Make) → AsksSummary call setup make → ⊥) → WritesSummary call
+no_summary call none = record {
+  status = λ setup make asks. absurd (none setup make asks);
+  written = λ setup make before asks room is. absurd (none setup make asks);
+  flushed = λ setup make asks is. absurd (none setup make asks);
+  unfinished = λ setup make before asks room is. absurd (none setup make asks);
+  front = λ setup make before asks room. absurd (none setup make asks);
+  memory = λ setup make asks is. absurd (none setup make asks);
+  unread = λ setup make asks. absurd (none setup make asks);
+  unfetched = λ setup make asks. absurd (none setup make asks);
+}
+
+-- how writing it ends
+abbrev pub EndsSummary : Status → Type 0
+EndsSummary status = (status ≡ statuses.Done) ⊎ ((status ≡ statuses.WriteFault) ⊎ (status ≡ statuses.Memory))
+
+-- these statuses alone
+abbrev is_of_summary : Status → Bool
+is_of_summary statuses.Done = true
+is_of_summary statuses.Refused = false
+is_of_summary statuses.Words = false
+is_of_summary statuses.ReadFault = false
+is_of_summary statuses.WriteFault = true
+is_of_summary statuses.InputLimit = false
+is_of_summary statuses.Memory = true
+
+pub of_summary : (status : Status) → EndsSummary status → is_of_summary status ≡ true
+of_summary status ended = ⊎_elim
+    (λ (e : status ≡ statuses.Done). ap is_of_summary e)
+    (λ (others : (status ≡ statuses.WriteFault) ⊎ (status ≡ statuses.Memory)). ⊎_elim
+    (λ (e : status ≡ statuses.WriteFault). ap is_of_summary e)
+    (λ (e : status ≡ statuses.Memory). ap is_of_summary e) others)
+    ended
+
+pub not_of_summary : (status other : Status) {P : Type 0} → EndsSummary status → is_of_summary other ≡ false
+    → status ≡ other → P
+not_of_summary status other ended none is = not_both (of_summary status ended) (ap is_of_summary is ∙ none)
+
+pub summary_done : (status : Status) → EndsSummary status → IsTrue (is_whole status) → status ≡ statuses.Done
+summary_done statuses.Done ended whole = refl
+summary_done statuses.Refused ended whole = not_both (of_summary statuses.Refused ended) refl
+summary_done statuses.Words ended whole = cc
+summary_done statuses.ReadFault ended whole = cc
+summary_done statuses.WriteFault ended whole = cc
+summary_done statuses.InputLimit ended whole = cc
+summary_done statuses.Memory ended whole = cc
+
+-- ---- nothing was done
+
+pub nothing_written : (now : Option (List ℕ)) (before text : List ℕ) → now ≡ Some before → TellsPrefix now before text
+nothing_written now before text told = (0, omega arith, told ∙ ap Some (sym (append-nil before)))

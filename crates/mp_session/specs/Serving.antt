@@ -12,7 +12,9 @@ use Rattle.mp_replies.specs.State.{Files, State, opening}
 use Rattle.mp_bytes.specs.Lines.{ended_lines}
 use Rattle.mp_replies.specs.Output.{lines_run, output, reports, some_ends, some_refused, state_after, until_end, usage}
 use Rattle.mp_replies.specs.Step.{fetches}
-use Rattle.mp_replies.specs.Words.{Setup, job}
+use Rattle.mp_replies.specs.Summary.{summary_of}
+use Rattle.mp_replies.specs.Words.{Setup, job, job_with, session_job}
+use Rattle.mp_replies.specs.declared.makes.Make.{Make}
 use Rattle.mp_session.specs.declared.top.Status.{Status}
 use Rattle.mp_session.specs.declared.top.Status.TheVariants as statuses
 use Rattle.mp_session.specs.Running.{Course, WereRun, WasBegun}
@@ -113,10 +115,11 @@ pub record ToldToFile (state : State) (files : Files) (bytes before : List ℕ) 
 abbrev pub ToldForRun : Option Files → State → Files → List ℕ → Type 0
 ToldForRun told state files bytes = ToldForAll told state files (lines_run bytes)
 
--- by the words. Words outside the grammar run no line
+-- by the words. Words outside the grammar, and those that ask for a made series, run no line
 abbrev pub ToldForWords : Option Files → List (List ℕ) → Files → List ℕ → Type 0
 ToldForWords told words files bytes =
-    (setup : Setup) → job words ≡ Some setup → ToldForRun told (opening setup.window setup.scale) files bytes
+    (setup : Setup) → job words ≡ Some (session_job setup)
+    → ToldForRun told (opening setup.window setup.scale) files bytes
 
 -- ---- a call
 
@@ -172,10 +175,18 @@ pub record HasRoom {Sh Out : Type 0} (call : Call Sh Out) (before text : List �
   pub tells : call.old.written ≡ Some before
   pub fits : length before + length text ≤ call.old.room
 
--- both, where the words are of the grammar and ask for this setup
+-- the words ask for a session of this setup
+abbrev pub AsksSession : {Sh Out : Type 0} → Call Sh Out → Setup → Type 0
+AsksSession call setup = job call.words ≡ Some (session_job setup)
+
+-- the words ask for the summary of a made series
+abbrev pub AsksSummary : {Sh Out : Type 0} → Call Sh Out → Setup → Make → Type 0
+AsksSummary call setup make = job call.words ≡ Some (job_with setup (Some make))
+
+-- both, where the words ask for a session of this setup
 pub record IsTold {Sh Out : Type 0} (call : Call Sh Out) (setup : Setup) (files : Files) (bytes before : List ℕ)
     : Type 0 where
-  pub setup_is : job call.words ≡ Some setup
+  pub setup_is : AsksSession call setup
   pub input : TellsInput call files bytes
   pub room : HasRoom call before (output call.words files bytes)
 
@@ -225,17 +236,17 @@ pub record WritesOutput {Sh Out : Type 0} (call : Call Sh Out) : Type 0 where
 -- What is read: to the end or to an accepted `end`, within the limit.
 pub record ReadsInput {Sh Out : Type 0} (call : Call Sh Out) : Type 0 where
   -- whether some line was refused
-  pub refused : (setup : Setup) (files : Files) (bytes : List ℕ) → job call.words ≡ Some setup
+  pub refused : (setup : Setup) (files : Files) (bytes : List ℕ) → AsksSession call setup
       → TellsInput call files bytes → IsTrue (is_whole call.status)
       → call.status ≡ ran (some_refused (opening setup.window setup.scale) files (lines_run bytes))
   -- where no line ends the run, nothing is left of the input, and it was no longer than the limit
-  pub read : (bytes : List ℕ) → call.old.left ≡ Some bytes → some_ends (lines_run bytes) ≡ false
-      → IsTrue (is_whole call.status) → call.new.left ≡ Some []
-  pub within : (bytes : List ℕ) → call.old.left ≡ Some bytes → some_ends (lines_run bytes) ≡ false
-      → IsTrue (is_whole call.status) → length bytes ≤ call.limit
+  pub read : (setup : Setup) (bytes : List ℕ) → AsksSession call setup → call.old.left ≡ Some bytes
+      → some_ends (lines_run bytes) ≡ false → IsTrue (is_whole call.status) → call.new.left ≡ Some []
+  pub within : (setup : Setup) (bytes : List ℕ) → AsksSession call setup → call.old.left ≡ Some bytes
+      → some_ends (lines_run bytes) ≡ false → IsTrue (is_whole call.status) → length bytes ≤ call.limit
   -- and where one does, its LF, if it has one, stands within the limit
-  pub end_within : (bytes : List ℕ) → call.old.left ≡ Some bytes → IsTrue (is_whole call.status)
-      → IsWithin call.limit bytes
+  pub end_within : (setup : Setup) (bytes : List ℕ) → AsksSession call setup → call.old.left ≡ Some bytes
+      → IsTrue (is_whole call.status) → IsWithin call.limit bytes
   -- `InputLimit` comes only of an input that isn't within the limit, and only where more bytes were given
   pub past : (bytes : List ℕ) → call.old.left ≡ Some bytes → call.status ≡ statuses.InputLimit
       → IsPast call.limit bytes
@@ -260,27 +271,51 @@ pub record RefusesWords {Sh Out : Type 0} (call : Call Sh Out) : Type 0 where
       × (call.new.read_faults ≡ call.old.read_faults)
   pub unfetched : job call.words ≡ None → call.new.shelf ≡ call.old.shelf
 
+-- A made series: its summary is written, no input is read and no file fetched, whatever the source and the shelf tell.
+pub record WritesSummary {Sh Out : Type 0} (call : Call Sh Out) : Type 0 where
+  pub status : (setup : Setup) (make : Make) → AsksSummary call setup make
+      → (call.status ≡ statuses.Done) ⊎ ((call.status ≡ statuses.WriteFault) ⊎ (call.status ≡ statuses.Memory))
+  -- it is written whole and flushed where the run is done, and only there
+  pub written : (setup : Setup) (make : Make) (before : List ℕ) → AsksSummary call setup make
+      → HasRoom call before (summary_of setup.window make) → call.status ≡ statuses.Done
+      → call.new.written ≡ Some (before ++ summary_of setup.window make)
+  pub flushed : (setup : Setup) (make : Make) → AsksSummary call setup make → call.status ≡ statuses.Done
+      → call.new.flushed ≡ true
+  pub unfinished : (setup : Setup) (make : Make) (before : List ℕ) → AsksSummary call setup make
+      → HasRoom call before (summary_of setup.window make) → call.status ≡ statuses.WriteFault
+      → ¬ ((call.new.written ≡ Some (before ++ summary_of setup.window make)) × (call.new.flushed ≡ true))
+  -- a front of it where a write failed, and nothing for want of memory
+  pub front : (setup : Setup) (make : Make) (before : List ℕ) → AsksSummary call setup make
+      → HasRoom call before (summary_of setup.window make)
+      → TellsPrefix call.new.written before (summary_of setup.window make)
+  pub memory : (setup : Setup) (make : Make) → AsksSummary call setup make → call.status ≡ statuses.Memory
+      → call.new.sink ≡ call.old.sink
+  pub unread : (setup : Setup) (make : Make) → AsksSummary call setup make
+      → (call.new.left ≡ call.old.left) × (call.new.given ≡ call.old.given)
+      × (call.new.read_faults ≡ call.old.read_faults)
+  pub unfetched : (setup : Setup) (make : Make) → AsksSummary call setup make → call.new.shelf ≡ call.old.shelf
+
 -- Why a run ended early, and where it doesn't.
 pub record EndsByCause {Sh Out : Type 0} (call : Call Sh Out) : Type 0 where
   pub read_fault : call.status ≡ statuses.ReadFault
       → Rose call.old.read_faults call.new.read_faults ⊎ Rose call.old.fetch_faults call.new.fetch_faults
   pub write_fault : call.status ≡ statuses.WriteFault → Rose call.old.write_faults call.new.write_faults
   -- an input that isn't within the limit ends at it, or earlier by a fault or for want of memory
-  pub limited : (setup : Setup) (bytes : List ℕ) → job call.words ≡ Some setup → call.old.left ≡ Some bytes
+  pub limited : (setup : Setup) (bytes : List ℕ) → AsksSession call setup → call.old.left ≡ Some bytes
       → IsPast call.limit bytes
       → (call.status ≡ statuses.InputLimit) ⊎ ((call.status ≡ statuses.ReadFault)
       ⊎ ((call.status ≡ statuses.WriteFault) ⊎ (call.status ≡ statuses.Memory)))
   -- one that is within it is run to its end where nothing fails: by its bytes, and by how many were given
-  pub complete : (setup : Setup) (bytes : List ℕ) → job call.words ≡ Some setup → IsCalm call
+  pub complete : (setup : Setup) (bytes : List ℕ) → AsksSession call setup → IsCalm call
       → call.old.left ≡ Some bytes → IsWithin call.limit bytes
       → IsTrue (is_whole call.status) ⊎ (call.status ≡ statuses.Memory)
-  pub complete_given : (setup : Setup) → job call.words ≡ Some setup → IsCalm call
+  pub complete_given : (setup : Setup) → AsksSession call setup → IsCalm call
       → call.new.given ≤ call.old.given + call.limit
       → IsTrue (is_whole call.status) ⊎ (call.status ≡ statuses.Memory)
   -- the files of the shelf stay, and a fetch fails only where it ends the run
   pub files : call.new.files ≡ call.old.files
   pub calm : ¬ (call.status ≡ statuses.ReadFault) → call.new.fetch_faults ≡ call.old.fetch_faults
-  pub fileless : (setup : Setup) (files : Files) (bytes : List ℕ) → job call.words ≡ Some setup
+  pub fileless : (setup : Setup) (files : Files) (bytes : List ℕ) → AsksSession call setup
       → call.old.left ≡ Some bytes
       → some_fetch (opening setup.window setup.scale) files (lines_run bytes) ≡ false
       → call.new.fetch_faults ≡ call.old.fetch_faults
@@ -290,4 +325,5 @@ pub record IsServed {Sh Out : Type 0} (call : Call Sh Out) : Type 0 where
   pub writes : WritesOutput call
   pub reads : ReadsInput call
   pub refuses : RefusesWords call
+  pub summary : WritesSummary call
   pub ends : EndsByCause call

@@ -8,5 +8,5 @@ pub mod top;
 
 pub use mp_commands::{Reply, ReplyKind, Stop};
 pub use mp_lines::{Fed, Feed};
-pub use mp_words::Settings;
+pub use mp_words::{Job, Make, Settings, WordsAnswer, read_words};
 pub use sessions::Session;

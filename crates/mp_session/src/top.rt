@@ -1,12 +1,15 @@
 //! Serving an input, from its first byte to its last.
 
-ghost use Rattle.std.specs.Prelude.{◌≡◌, ◌⊎◌, ℕ, ◌+◌, ◌-◌, ◌^◌, ◌<◌, ◌≤◌, List, [], ◌++◌, length, take, drop, map, string_bytes, Some, None, IfOk, OnOk, OnErr, IsErrOf, IsTrue, true, false};
+ghost use Rattle.std.specs.Prelude.{◌≡◌, ◌⊎◌, ℕ, ◌+◌, ◌-◌, ◌^◌, ◌<◌, ◌≤◌, List, [], ◌++◌, length, take, drop, map};
+ghost use Rattle.std.specs.Prelude.{string_bytes, Some, None, IfOk, OnOk, OnErr, IsErrOf, IsTrue, true, false};
 ghost use Rattle.mp_bytes.specs.Lines.{ended_lines};
+ghost use Rattle.mp_defs.specs.Limits.{max_samples};
 ghost use Rattle.mp_feed.specs.Writing.{TellsPrefix};
 ghost use Rattle.mp_outside.specs.Counts.{Rose};
 ghost use Rattle.mp_replies.specs.Limits.{input_limit};
 ghost use Rattle.mp_replies.specs.Output.{lines_run, reports, session_output, some_ends, some_refused, usage};
 ghost use Rattle.mp_replies.specs.State.{Files, opening};
+ghost use Rattle.mp_replies.specs.Summary.{summary_of};
 ghost use Rattle.mp_session.specs.Serving.{IsPast, IsServed, IsWithin, ToldForRun, ToldTaken, ToldToFile, outside_at};
 ghost use Rattle.mp_session.specs.Sessions.{some_fetch};
 ghost use Rattle.mp_session.specs.Statuses.{status_by};
@@ -15,8 +18,10 @@ use crate::halts::Halt;
 use crate::runs::run_lines;
 use crate::sessions::Session;
 use mp_feed::write_report;
+use mp_made::summary;
+use mp_nums::Memory;
 use mp_outside::{Failed, Gate, Shelf, Sink, Source};
-use mp_words::{Settings, read_words};
+use mp_words::{Job, Make, Settings, WordsAnswer, read_words};
 use std::alloc::Global;
 use std::thread::Threads;
 
@@ -46,9 +51,10 @@ pub enum Status {
     Memory = 6,
 }
 
-/// Runs the session that the words ask for on the whole input. The words are those behind the program's name. The report
-/// of each line is written whole, and the sink flushed, before the next line is run. A line without a report neither
-/// writes nor flushes. Words outside the grammar have the usage written and flushed, and no input is read.
+/// Runs the session that the words ask for on the whole input. The words are those behind the program's name. The
+/// report of each line is written whole, and the sink flushed, before the next line is run. A line without a report
+/// neither writes nor flushes. Words outside the grammar have the usage written and flushed, and no input is read.
+/// Words that ask for a made series have its summary written and flushed, and no input is read either.
 ///
 /// `rt` is what starts threads, `shelf` what fetches files, and `gate` what a worker passes before each piece of its
 /// work. The profile of a line is shared among as many workers as the words say. An accepted `end` ends the run, and no
@@ -99,10 +105,57 @@ pub fn serve_within<R: Threads + Sync, H: Shelf, S: Source, K: Sink, G: Gate>(
       status = result;
     }) }
 {
-    let Some(settings) = read_words(words) else {
-        return refuse_words(out);
+    let Job { settings, make } = match read_words(alloc, words) {
+        Ok(job) => job,
+        Err(WordsAnswer::Words) => return refuse_words(out),
+        Err(WordsAnswer::Memory) => return Status::Memory,
     };
-    status_of(run_session(rt, alloc, settings, shelf, input, out, gate, limit))
+    match make {
+        Some(make) => write_summary(rt, alloc, settings, make, out, gate),
+        None => status_of(run_session(rt, alloc, settings, shelf, input, out, gate, limit)),
+    }
+}
+
+/// Writes the summary of a made series and flushes the sink. Nothing is written where memory is short.
+fn write_summary<R: Threads + Sync, K: Sink, G: Gate>(
+    rt: &R,
+    alloc: Global,
+    settings: Settings,
+    make: Make,
+    out: &mut K,
+    gate: &G,
+) -> Status
+    requires { make.count ≤ max_samples }
+    ensures status { (result ≡ Status.Done) ⊎ ((result ≡ Status.WriteFault) ⊎ (result ≡ Status.Memory)) }
+    ensures written { (before : List ℕ) → K.written out.old ≡ Some before
+        → length before + length (summary_of settings.window make) ≤ K.room out.old
+        → result ≡ Status.Done → K.written out.new ≡ Some (before ++ summary_of settings.window make) }
+    ensures front { (before : List ℕ) → K.written out.old ≡ Some before
+        → length before + length (summary_of settings.window make) ≤ K.room out.old
+        → TellsPrefix (K.written out.new) before (summary_of settings.window make) }
+    ensures flushed { result ≡ Status.Done → K.flushed out.new ≡ true }
+    ensures unfinished { (before : List ℕ) → K.written out.old ≡ Some before
+        → length before + length (summary_of settings.window make) ≤ K.room out.old → result ≡ Status.WriteFault
+        → ¬ ((K.written out.new ≡ Some (before ++ summary_of settings.window make)) × (K.flushed out.new ≡ true)) }
+    ensures memory { result ≡ Status.Memory → out.new ≡ out.old }
+    ensures write_fault { result ≡ Status.WriteFault → Rose (K.faults out.old) (K.faults out.new) }
+{
+    let text = match summary(
+        rt,
+        alloc,
+        settings.window(),
+        settings.tile(),
+        settings.workers(),
+        make,
+        gate,
+    ) {
+        Ok(text) => text,
+        Err(Memory) => return Status::Memory,
+    };
+    match write_report(out, text.as_slice()) {
+        Ok(()) => Status::Done,
+        Err(Failed) => Status::WriteFault,
+    }
 }
 
 fn refuse_words<K: Sink>(out: &mut K) -> Status

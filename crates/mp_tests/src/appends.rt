@@ -159,7 +159,7 @@ fn discords_are_reported_behind_each_sample(rt: HostRuntime) -> Result<(), Fail>
         let lines = format!(in rt.alloc(); "append 0 {sample}\ndiscords 0 1\n")?;
         input.extend_from_slice(lines.as_bytes())?;
     }
-    let (out, status) = serve_calmly(&rt, "--window 3", b"", input)?;
+    let (out, status) = serve_calmly(&rt, "--window 3 --workers 1", b"", input)?;
     assert_eq!(rt; status, Status::Done);
     assert!(rt;
         out.bytes()

@@ -283,7 +283,7 @@ static FETCHES: [FaultyRun; 7] = [
     },
 ];
 
-static WRITES: [FaultyRun; 9] = [
+static WRITES: [FaultyRun; 11] = [
     FaultyRun {
         shows: "the first write fails",
         write_step: 4,
@@ -358,6 +358,27 @@ static WRITES: [FaultyRun; 9] = [
         write_step: 6,
         failing_write: Some(1),
         output: "mprof:",
+        status: Status::WriteFault,
+        ..CALM
+    },
+    FaultyRun {
+        shows: "a made series reads no input and fetches no file, and its summary is flushed behind two writes",
+        words: "--window 3 --generate 0 --count 3",
+        input: "load 0 three.csv 0\n",
+        failing_read: Some(0),
+        failing_fetch: Some(0),
+        write_step: 32,
+        failing_write: Some(3),
+        output: "generated 3 1\nbest -\ndiscord -\nsegment -\n",
+        next_flush_fails: true,
+        ..CALM
+    },
+    FaultyRun {
+        shows: "the summary of a made series can fail to be written",
+        words: "--window 3 --generate 0 --count 3",
+        write_step: 9,
+        failing_write: Some(1),
+        output: "generated",
         status: Status::WriteFault,
         ..CALM
     },

@@ -1,1 +1,3 @@
+pub mod GivenLemmas
 pub mod WordLemmas
+pub mod ClapLemmas

@@ -1,13 +1,14 @@
 //! What a run is started with.
 
-ghost use Rattle.std.specs.Prelude.{◌≡◌, ◌↔◌, IsSome, IfSome};
+ghost use Rattle.std.specs.Prelude.{◌≡◌};
+ghost use Rattle.mp_replies.specs.Words.{within_limits};
 ghost use Rattle.mp_words.specs.Limits.{IsWithinLimits};
 
 use mp_series::{MAX_WINDOW, MIN_WINDOW};
 use std::marker::Model;
 
 /// The most digits of a sample behind its point.
-pub(crate) const MAX_SCALE: u8 = 9;
+const MAX_SCALE: u8 = 9;
 
 /// The most diagonals in a tile.
 const MAX_TILE: u32 = 65_536;
@@ -41,8 +42,7 @@ impl Settings {
     /// `None` where a value is outside its limits: a window of 3 to 16,384 samples, a scale of 0 to 9 digits, a tile
     /// of 1 to 65,536 diagonals, 1 to 32 workers.
     pub fn new(window: u32, scale: u8, tile: u32, workers: u32) -> Option<Settings>
-        ensures within { IsSome result ↔ IsWithinLimits record { window = window; scale = scale; tile = tile; workers = workers } }
-        ensures value { IfSome result (λ s. s ≡ record { window = window; scale = scale; tile = tile; workers = workers }) }
+        ensures { result ≡ within_limits record { window = window; scale = scale; tile = tile; workers = workers } }
     {
         let within = (MIN_WINDOW..=MAX_WINDOW).contains(&window)
             && scale <= MAX_SCALE

@@ -1,63 +1,41 @@
 //! The words that the program is started with.
 
-ghost use Rattle.std.specs.Prelude.{◌≡◌, ◌≤◌, map, string_bytes, IfSome};
-ghost use Rattle.mp_defs.specs.Limits.{max_window, min_window};
-ghost use Rattle.mp_replies.specs.Limits.{max_scale};
-ghost use Rattle.mp_replies.specs.Words.{job, scale_value, window_value};
+ghost use Rattle.std.specs.Prelude.{◌≡◌, ◌↔◌, ◌≤◌, None, Some, IfOk, IfSome, IsErrOf, is_some, map, string_bytes};
+ghost use Rattle.mp_defs.specs.Limits.{max_samples};
+ghost use Rattle.mp_replies.specs.Words.{job};
+ghost use Rattle.mp_words.specs.Jobs.{asked_by};
 
-use crate::settings::{MAX_SCALE, Settings};
-use mp_bytes::{read_number, same_text};
-use mp_series::{MAX_WINDOW, MIN_WINDOW};
+use crate::grammar::read_numbers;
+use crate::jobs::{Job, WordsAnswer};
+use crate::options::parse;
+use std::alloc::Global;
 
-const DEFAULT_SCALE: u8 = 0;
-
-const DEFAULT_TILE: u32 = 256;
-
-const DEFAULT_WORKERS: u32 = 4;
-
-/// The most digits of a value.
-const MAX_DIGITS: usize = 20;
-
-/// What the words ask for, where they are in the grammar: `--window` and a number, and perhaps `--scale` and a number.
-pub fn read_words(words: &[String]) -> Option<Settings>
-    ensures { result ≡ job (map string_bytes words.now) }
+/// What the words ask for, which are those behind the program's name:
+///
+/// `--window M [--scale D] [--tile T] [--workers W] [--generate NUMBER --count N]`
+///
+/// The options stand in any order, each at most once, as `--name VALUE` or `--name=VALUE`. A value is 1 to 20 digits,
+/// and within the limits that `Settings::new` states. NUMBER has 64 bits, and N is at most 262,144.
+///
+/// Words outside this grammar are answered as `Words`, and that takes no memory. Words of the grammar are read by
+/// `clap`.
+pub fn read_words(alloc: Global, words: &[String]) -> Result<Job, WordsAnswer>
+    ensures job { IfOk result (λ found. job (map string_bytes words.now) ≡ Some (asked_by found)) }
+    ensures count { IfOk result (λ found. IfSome found.make (λ make. make.count ≤ max_samples)) }
+    ensures outside { IsErrOf result WordsAnswer.Words ↔ (job (map string_bytes words.now) ≡ None) }
 {
-    match words {
-        [name, window] => {
-            let window = read_window(name.as_bytes(), window.as_bytes())?;
-            Settings::new(window, DEFAULT_SCALE, DEFAULT_TILE, DEFAULT_WORKERS)
-        }
-        [name, window, other, scale] => {
-            let window = read_window(name.as_bytes(), window.as_bytes())?;
-            let scale = read_scale(other.as_bytes(), scale.as_bytes())?;
-            Settings::new(window, scale, DEFAULT_TILE, DEFAULT_WORKERS)
-        }
-        _ => None,
+    if !are_of_the_grammar(words) {
+        return Err(WordsAnswer::Words);
     }
+    let numbers = parse(alloc, words)?;
+    numbers.job().ok_or(WordsAnswer::Words)
 }
 
-fn read_window(name: &[u8], value: &[u8]) -> Option<u32>
-    ensures value { result ≡ window_value name.now value.now }
-    ensures low { IfSome result (λ window. min_window ≤ window) }
-    ensures high { IfSome result (λ window. window ≤ max_window) }
+fn are_of_the_grammar(words: &[String]) -> bool
+    ensures { result ≡ is_some (job (map string_bytes words.now)) }
 {
-    if !same_text(name, b"--window") {
-        return None;
+    match read_numbers(words) {
+        Some(numbers) => numbers.job().is_some(),
+        None => false,
     }
-    let window = read_number(value, MAX_DIGITS, u128::from(MAX_WINDOW))? as u32;
-    if window < MIN_WINDOW {
-        None
-    } else {
-        Some(window)
-    }
-}
-
-fn read_scale(name: &[u8], value: &[u8]) -> Option<u8>
-    ensures value { result ≡ scale_value name.now value.now }
-    ensures high { IfSome result (λ scale. scale ≤ max_scale) }
-{
-    if !same_text(name, b"--scale") {
-        return None;
-    }
-    Some(read_number(value, MAX_DIGITS, u128::from(MAX_SCALE))? as u8)
 }

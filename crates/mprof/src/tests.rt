@@ -93,6 +93,8 @@ const THREE_WORDS: &[&[u8]] = &[b"mprof", b"--window", b"3", b"4"];
 
 const WINDOW_AND_SCALE: &[&[u8]] = &[b"mprof", b"--window", b"3", b"--scale", b"1"];
 
+const MADE: &[&[u8]] = &[b"mprof", b"--count=3", b"--generate=0", b"--window=3"];
+
 const NO_TEXT: &[&[u8]] = &[b"mprof", b"--window", b"\xff"];
 
 #[test]
@@ -129,6 +131,17 @@ fn a_name_of_no_file_is_refused(rt: HostRuntime) -> Result<(), Fail> {
         b"load 0 there/is/no/such.csv 0\n",
         "refused 1 file\n",
         Status::Refused,
+    )
+}
+
+#[test]
+fn a_made_series_gives_its_summary(rt: HostRuntime) -> Result<(), Fail> {
+    check(
+        &rt,
+        MADE,
+        b"append 0 1 2 3\n",
+        "generated 3 1\nbest -\ndiscord -\nsegment -\n",
+        Status::Done,
     )
 }
 

@@ -2,7 +2,7 @@ use Rattle.std.proofs.Common.{◌≤◌, ◌∙◌, ap, length, sym, arith}
 use Rattle.mp_defs.specs.Limits.{max_samples}
 use Rattle.mp_replies.specs.State.{series_at}
 use Rattle.mp_slots.specs.Slots.{stores_of}
-use Rattle.mp_commands.proofs.ArcLemmas.{arcs_few, arcs_within, regimes_within}
+use Rattle.mp_replies.specs.ArcLaws.{arcs_few, arcs_within, regimes_within}
 use Rattle.mp_commands.proofs.segments_command.report_segments.Goals as goal
 
 pub corrected-requires-clause-places : goal.corrected-requires-clause-places

@@ -1,22 +1,34 @@
-use Rattle.std.proofs.Common.{arith, map, string_bytes}
-use Rattle.std.proofs.lemmas.Bool.Decides.{nat_tests}
-use Rattle.std.proofs.lemmas.List.{length-map}
-use Rattle.mp_words.proofs.WordLemmas.{few_words, many_words, three_words}
+use Rattle.std.proofs.Common.{◌≡◌, ◌∙◌, ap, map, rules, sym, true}
+use Rattle.std.specs.Prelude.{is_some, option_and_then, option_map, string_bytes}
+use Rattle.mp_replies.specs.Words.{given, job}
+use Rattle.mp_words.specs.Jobs.{asked_by}
+use Rattle.mp_words.specs.Numbers.{numbers_of}
+use Rattle.mp_words.specs.declared.jobs.WordsAnswer.TheVariants.{Words}
+use Rattle.mp_words.proofs.GivenLemmas.{asked_of, few_asked, job_by, job_of_numbers, never_refused, some_numbers}
 use Rattle.mp_words.proofs.words.read_words.Goals as goal
-use Rattle.mp_words.proofs.words.read_words.Goals.{in_default-via-then-words-lt2}
-use Rattle.mp_words.proofs.words.read_words.Goals.{in_default-via-else-words-lt2+else-words-lt3+then-words-lt4}
-use Rattle.mp_words.proofs.words.read_words.Goals.{
-  in_default-via-else-words-lt2+else-words-lt3+else-words-lt4+else-words-lt5,
-}
 
-pub returns-in_default : goal.returns-in_default
-returns-in_default c =
+pub returns-clause-job : goal.returns-clause-job
+returns-clause-job c =
     let words = map string_bytes c.args.words.now in
-    let long = length-map c.args.words.now string_bytes in
-    elim c.in_default.branch [
-      | in_default-via-then-words-lt2 w ↦ few_words words (grind (arith, nat_tests, long))
-      | in_default-via-else-words-lt2+else-words-lt3+then-words-lt4 w ↦
-          three_words words (grind (arith, nat_tests, long))
-      | in_default-via-else-words-lt2+else-words-lt3+else-words-lt4+else-words-lt5 w ↦
-          many_words words (grind (arith, nat_tests, long))
-    ]
+    let some : is_some (job words) ≡ true = search rules in
+    let all = job_of_numbers (given words) in
+    let numbers = some_numbers (numbers_of words) (ap is_some (sym all) ∙ some) in
+    let asks : option_map asked_by c.job.result ≡ job words =
+    c.job.ensures ∙ ap job_by (c.in_ok-numbers.ensures numbers.0 numbers.1)
+    ∙ sym (all ∙ ap (option_and_then job_by) numbers.1) in
+    asked_of asked_by (job words) c.job.result Words c.ok_or.result c.ok_or.ensures.value asks
+
+pub returns-clause-outside : goal.returns-clause-outside
+returns-clause-outside c =
+    let words = map string_bytes c.args.words.now in
+    let some : is_some (job words) ≡ true = search rules in
+    let all = job_of_numbers (given words) in
+    let numbers = some_numbers (numbers_of words) (ap is_some (sym all) ∙ some) in
+    let asks : option_map asked_by c.job.result ≡ job words =
+    c.job.ensures ∙ ap job_by (c.in_ok-numbers.ensures numbers.0 numbers.1)
+    ∙ sym (all ∙ ap (option_and_then job_by) numbers.1) in
+    never_refused asked_by (job words) c.job.result Words c.ok_or.result c.ok_or.ensures.value asks some
+
+pub returns-clause-count : goal.returns-clause-count
+returns-clause-count c =
+    few_asked asked_by c.in_ok-numbers.numbers c.job.result Words c.ok_or.result c.ok_or.ensures.value c.job.ensures

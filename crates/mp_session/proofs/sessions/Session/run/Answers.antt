@@ -1,6 +1,5 @@
-use Rattle.std.proofs.Common.{◌≡◌, ℕ, ◌+◌, ◌∙◌, ◌≤◌, Bool, ap, sym, subst}
+use Rattle.std.proofs.Common.{ℕ, ◌+◌, ◌∙◌, ◌≤◌, Bool, ap, sym, subst}
 use Rattle.mp_replies.specs.Line.{asked_of}
-use Rattle.mp_replies.specs.State.{State}
 use Rattle.mp_slots.specs.Slots.{Stored}
 use Rattle.mp_commands.specs.Answers.{is_accepted, shown}
 use Rattle.mp_commands.specs.Reads.{most_reads, reads_at}

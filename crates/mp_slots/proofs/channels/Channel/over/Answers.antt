@@ -4,7 +4,8 @@ use Rattle.mp_arcs.specs.Arcs.{indices_of}
 use Rattle.mp_arcs.specs.Board.{NameWithin}
 use Rattle.mp_defs.specs.Series.{series_of}
 use Rattle.mp_defs.specs.Window.{windows}
-use Rattle.mp_slots.proofs.ArcLemmas.{entries, name_windows}
+use Rattle.mp_replies.specs.ArcLaws.{name_windows}
+use Rattle.mp_slots.proofs.ArcLemmas.{entries}
 use Rattle.mp_slots.proofs.channels.Channel.over.Goals as goal
 
 abbrev long : (c : goal.After-all)

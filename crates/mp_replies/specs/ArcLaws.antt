@@ -1,19 +1,57 @@
--- Arcs are few, and regimes lie on their curve.
-use Rattle.std.proofs.Common.{◌≡◌, ℕ, ◌+◌, ◌<◌, ◌≤◌, ◌∙◌, List, [], ◌∷◌, length, map, refl, ap, sym, subst, arith}
-use Rattle.std.specs.Prelude.{All, Contains, Option, Some, None, filter_map, option_map}
+-- The windows that a profile names are its own, few arcs pass over each, and regimes lie on their curve.
+use Rattle.std.proofs.Common.{◌≡◌, ℕ, ◌+◌, ◌<◌, ◌≤◌, ◌∙◌, List, [], ◌∷◌, length, get_or, map, refl, ap, sym, subst}
+use Rattle.std.proofs.Common.{arith}
+use Rattle.std.specs.Prelude.{All, Bool, Contains, Option, Some, None, filter_map, option_map}
 use Rattle.std.specs.List.{cons_option, enumerate_from}
-use Rattle.std.proofs.lemmas.List.{length-map}
+use Rattle.std.proofs.lemmas.List.{get_or-map, length-map}
 use Rattle.std.proofs.lemmas.List.Elements.{All-cons, All-contains, All-map, All-nil, All-same, All-weaker}
 use Rattle.std.proofs.lemmas.List.FromFn.{length-map-range_with_len}
+use Rattle.std.proofs.lemmas.Option.{get_or_from_slice_get, slice_get_within}
+use Rattle.mp_nums.specs.declared.nearest.Near.{Near}
 use Rattle.mp_nums.specs.declared.ratios.Ratio.{Ratio}
 use Rattle.mp_arcs.specs.Arcs.{arc_count, arcs_of, index_of, indices_of}
+use Rattle.mp_arcs.specs.Board.{NameWithin}
 use Rattle.mp_arcs.specs.Laws.{ArcsAreFew}
 use Rattle.mp_arcs.specs.Regimes.{AreRegimes, below_one, low_places}
 use Rattle.mp_defs.specs.ColumnLaws.{columns_have_places}
+use Rattle.mp_defs.specs.Laws.{IsNearest}
 use Rattle.mp_defs.specs.Limits.{max_samples, min_window}
+use Rattle.mp_defs.specs.NearestLaws.{entries_are_nearest}
 use Rattle.mp_defs.specs.Profile.{entry, matrix_profile, windows_of}
 use Rattle.mp_defs.specs.Series.{Series}
 use Rattle.mp_defs.specs.Window.{is_allowed}
+
+-- ---- the windows that a profile names
+
+index_there : (column : List (Option Near)) (k : ℕ) → k < length column
+    → get_or (indices_of column) k None ≡ index_of (get_or column k None)
+index_there column k inside = get_or-map index_of column k None None inside
+
+none_some : (j : ℕ) → None ≡ Some j → ⊥
+none_some j e = cc
+
+nearest_below : (m : ℕ) (may : ℕ → Bool) (a : Series) (i j : ℕ) (found : Option Near) → IsNearest m may a i a found
+    → index_of found ≡ Some j → j < windows_of m a
+nearest_below m may a i j None is named = absurd (none_some j named)
+nearest_below m may a i j (Some found) is named =
+    let same : found.index ≡ j = cc in subst (λ k. k < windows_of m a) same is.window
+
+-- each window that has a nearest one names a window
+pub name_windows : (m : ℕ) (a : Series) → NameWithin (indices_of (matrix_profile m a).all)
+name_windows m a i j is =
+    let column = (matrix_profile m a).all in
+    let long = columns_have_places.count (entry (is_allowed m) m a) (windows_of m a) in
+    let as_long = length-map column index_of in
+    let within = slice_get_within (indices_of column) i (Some j) is in
+    let inside : i < length column = omega (arith, within, as_long) in
+    let there : get_or (indices_of column) i None ≡ Some j =
+    get_or_from_slice_get (indices_of column) i (Some j) None is in
+    let here : get_or column i None ≡ entry (is_allowed m) m a i =
+    columns_have_places.at_place (entry (is_allowed m) m a) (windows_of m a) i (omega (arith, inside, long)) in
+    let below =
+    nearest_below m (is_allowed m i) a i j (entry (is_allowed m) m a i) (entries_are_nearest.all (is_allowed m) m a i)
+    (ap index_of (sym here) ∙ (sym (index_there column i inside) ∙ there)) in
+    omega (arith, below, as_long, long)
 
 -- ---- arcs
 

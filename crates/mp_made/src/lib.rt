@@ -1,0 +1,6 @@
+//! What is written of a made series in place of the reports of a session.
+#![tactic(auto)]
+
+mod summaries;
+
+pub use summaries::summary;
