@@ -6,7 +6,8 @@ ghost use Rattle.mp_replies.specs.Text.{index_text, near_text, row_text, slot_te
 use itoa::Buffer;
 use mp_nums::{Memory, Near, Slot};
 
-/// The most bytes of a line on a window of the longest series: four numbers of six digits, one of 39, four blanks, an LF.
+/// The most bytes of a line on a window of the longest series: four numbers of six digits, one of 39, four blanks, an
+/// LF.
 const LINE: usize = 68;
 
 /// Makes room for so many lines on windows, so that the text is moved no more as they are written.

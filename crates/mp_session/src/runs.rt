@@ -1,6 +1,24 @@
 //! Lines run one after another, each with its report.
 
-ghost use Rattle.std.specs.Prelude.{◌≡◌, ◌⊎◌, ℕ, ◌+◌, ◌-◌, ◌^◌, ◌<◌, ◌≤◌, List, [], ◌∷◌, length, IfOk, OnErr, IsErrOf, true, false};
+ghost use Rattle.std.specs.Prelude.{
+  ◌≡◌,
+  ◌⊎◌,
+  ℕ,
+  ◌+◌,
+  ◌-◌,
+  ◌^◌,
+  ◌<◌,
+  ◌≤◌,
+  List,
+  [],
+  ◌∷◌,
+  length,
+  IfOk,
+  OnErr,
+  IsErrOf,
+  true,
+  false,
+};
 ghost use Rattle.mp_outside.specs.Counts.{Rose};
 ghost use Rattle.mp_replies.specs.Line.{ends};
 ghost use Rattle.mp_replies.specs.State.{State};
@@ -39,17 +57,22 @@ fn run_line<R: Threads + Sync, H: Shelf, K: Sink, G: Gate>(
         (course_at session.old left out.old) (course_at session.new left out.new) ran.refused) }
     ensures ends { IfOk result (λ ran. ran.ends ≡ ends line.now) }
     ensures begun { (left : _) → IsErrOf result Halt.WriteFault
-        → WasBegun K.Sink (H.files shelf.old) line.now (course_at session.old left out.old) (course_at session.new left out.new) }
+        → WasBegun K.Sink (H.files shelf.old) line.now (course_at session.old left out.old)
+        (course_at session.new left out.new) }
     ensures memory { (left : _) → IsErrOf result Halt.Memory
-        → WereRun K.Sink (H.files shelf.old) [] (course_at session.old left out.old) (course_at session.new left out.new) false }
+        → WereRun K.Sink (H.files shelf.old) [] (course_at session.old left out.old)
+        (course_at session.new left out.new) false }
     ensures write_fault { IsErrOf result Halt.WriteFault → Rose (K.faults out.old) (K.faults out.new) }
     ensures shelf_fault { (left : _) → IsErrOf result Halt.ShelfFault
-        → WereRun K.Sink (H.files shelf.old) [] (course_at session.old left out.old) (course_at session.new left out.new) false }
+        → WereRun K.Sink (H.files shelf.old) [] (course_at session.old left out.old)
+        (course_at session.new left out.new) false }
     ensures shelf_cause { IsErrOf result Halt.ShelfFault → Rose (H.faults shelf.old) (H.faults shelf.new) }
-    ensures shelf_asked { (state : State) → StandsFor session.old state → IsErrOf result Halt.ShelfFault → fetches state line.now ≡ true }
+    ensures shelf_asked { (state : State) → StandsFor session.old state → IsErrOf result Halt.ShelfFault
+        → fetches state line.now ≡ true }
     ensures calm { ¬ IsErrOf result Halt.ShelfFault → H.faults shelf.new ≡ H.faults shelf.old }
     ensures files { H.files shelf.new ≡ H.files shelf.old }
-    ensures only { OnErr result ((result ≡ Err Halt.WriteFault) ⊎ ((result ≡ Err Halt.Memory) ⊎ (result ≡ Err Halt.ShelfFault))) }
+    ensures only { OnErr result ((result ≡ Err Halt.WriteFault)
+        ⊎ ((result ≡ Err Halt.Memory) ⊎ (result ≡ Err Halt.ShelfFault))) }
 {
     let reply = match session.run(rt, alloc, line, shelf, gate) {
         Ok(reply) => reply,
@@ -81,21 +104,27 @@ pub(crate) fn run_lines<R: Threads + Sync, H: Shelf, S: Source, K: Sink, G: Gate
     requires lines { session.old.lines + limit < 2 ^ 64 - 1 }
     requires given { S.given input.old ≤ 2 ^ 127 }
 
-    ensures all { IfOk result (λ refused. RanAll K.Sink (H.files shelf.old) limit (course_at session.old (S.left input.old) out.old)
+    ensures all { IfOk result (λ refused. RanAll K.Sink (H.files shelf.old) limit
+        (course_at session.old (S.left input.old) out.old)
         (course_at session.new (S.left input.new) out.new) refused) }
 
     // What was run where the run ended early, and why it did.
     ensures read_fault { IsErrOf result Halt.ReadFault
-        → RanEnded K.Sink (H.files shelf.old) 0 (course_at session.old (S.left input.old) out.old) (course_at session.new (S.left input.new) out.new) }
+        → RanEnded K.Sink (H.files shelf.old) 0 (course_at session.old (S.left input.old) out.old)
+        (course_at session.new (S.left input.new) out.new) }
     ensures input_limit { IsErrOf result Halt.InputLimit
-        → (ran : RanEnded K.Sink (H.files shelf.old) 1 (course_at session.old (S.left input.old) out.old) (course_at session.new (S.left input.new) out.new))
+        → (ran : RanEnded K.Sink (H.files shelf.old) 1 (course_at session.old (S.left input.old) out.old)
+        (course_at session.new (S.left input.new) out.new))
         × (length ran.taken ≡ limit) }
     ensures memory { IsErrOf result Halt.Memory
-        → RanSome K.Sink (H.files shelf.old) (course_at session.old (S.left input.old) out.old) (course_at session.new (S.left input.new) out.new) }
+        → RanSome K.Sink (H.files shelf.old) (course_at session.old (S.left input.old) out.old)
+        (course_at session.new (S.left input.new) out.new) }
     ensures write_fault { IsErrOf result Halt.WriteFault
-        → RanInto K.Sink (H.files shelf.old) (course_at session.old (S.left input.old) out.old) (course_at session.new (S.left input.new) out.new) }
+        → RanInto K.Sink (H.files shelf.old) (course_at session.old (S.left input.old) out.old)
+        (course_at session.new (S.left input.new) out.new) }
     ensures shelf_fault { IsErrOf result Halt.ShelfFault
-        → RanToFile K.Sink (H.files shelf.old) (course_at session.old (S.left input.old) out.old) (course_at session.new (S.left input.new) out.new) }
+        → RanToFile K.Sink (H.files shelf.old) (course_at session.old (S.left input.old) out.old)
+        (course_at session.new (S.left input.new) out.new) }
     ensures shelf_cause { IsErrOf result Halt.ShelfFault → Rose (H.faults shelf.old) (H.faults shelf.new) }
     ensures read_cause { IsErrOf result Halt.ReadFault → Rose (S.faults input.old) (S.faults input.new) }
     ensures write_cause { IsErrOf result Halt.WriteFault → Rose (K.faults out.old) (K.faults out.new) }

@@ -1,6 +1,26 @@
 //! A session: lines in, replies out.
 
-ghost use Rattle.std.specs.Prelude.{◌≡◌, ◌↔◌, ℕ, ◌+◌, ◌-◌, ◌^◌, ◌<◌, ◌≤◌, min, All, length, IfOk, OnOk, OnErr, IsErrOf, IsNone, IfSome, true, false};
+ghost use Rattle.std.specs.Prelude.{
+  ◌≡◌,
+  ◌↔◌,
+  ℕ,
+  ◌+◌,
+  ◌-◌,
+  ◌^◌,
+  ◌<◌,
+  ◌≤◌,
+  min,
+  All,
+  length,
+  IfOk,
+  OnOk,
+  OnErr,
+  IsErrOf,
+  IsNone,
+  IfSome,
+  true,
+  false,
+};
 ghost use Rattle.mp_outside.specs.Counts.{Rose};
 
 use mp_commands::{Change, Context, Prepared, Reply, Stop, prepare};
@@ -79,11 +99,14 @@ impl Session {
         requires { self.old.lines < 2 ^ 64 - 1 }
 
         // What the definitions say, of every state that the session stands for.
-        ensures text { (state : State) (files : Files) → StandsFor self.old state → ToldFor (H.files shelf.old) state (asked_of line.now) files
+        ensures text { (state : State) (files : Files) → StandsFor self.old state
+            → ToldFor (H.files shelf.old) state (asked_of line.now) files
             → IfOk result (λ r. r.text.items ≡ reply state line.now files) }
-        ensures kind { (state : State) (files : Files) → StandsFor self.old state → ToldFor (H.files shelf.old) state (asked_of line.now) files
+        ensures kind { (state : State) (files : Files) → StandsFor self.old state
+            → ToldFor (H.files shelf.old) state (asked_of line.now) files
             → IfOk result (λ r. r.kind ≡ kind_of (answer state line.now files)) }
-        ensures after { (state : State) (files : Files) → StandsFor self.old state → ToldFor (H.files shelf.old) state (asked_of line.now) files
+        ensures after { (state : State) (files : Files) → StandsFor self.old state
+            → ToldFor (H.files shelf.old) state (asked_of line.now) files
             → OnOk result (StandsFor self.new (after state line.now files)) }
         ensures stop { (state : State) → StandsFor self.old state → OnErr result (StandsFor self.new state) }
 
@@ -94,8 +117,10 @@ impl Session {
 
         // How often samples were read, in each slot that the line puts no other channels into.
         ensures most_reads { (slot : ℕ) → renews (asked_of line.now) slot ≡ false
-            → reads_at self.new.slots slot ≤ reads_at self.old.slots slot + most_reads self.old.slots (asked_of line.now) slot }
-        ensures rise { (slot : ℕ) → renews (asked_of line.now) slot ≡ false → reads_at self.old.slots slot ≤ reads_at self.new.slots slot }
+            → reads_at self.new.slots slot ≤ reads_at self.old.slots slot + most_reads self.old.slots
+            (asked_of line.now) slot }
+        ensures rise { (slot : ℕ) → renews (asked_of line.now) slot ≡ false
+            → reads_at self.old.slots slot ≤ reads_at self.new.slots slot }
         ensures unread { is_unread (asked_of line.now) ≡ true → AreUnread self.old.slots self.new.slots }
         ensures refused_reads { IfOk result (λ r. r.kind ≡ kinds.Refused → AreUnread self.old.slots self.new.slots) }
         ensures quiet_reads { IfOk result (λ r. r.kind ≡ kinds.Quiet → AreUnread self.old.slots self.new.slots) }
@@ -104,7 +129,8 @@ impl Session {
         ensures files { H.files shelf.new ≡ H.files shelf.old }
         ensures fault { IsErrOf result Stop.ShelfFault → Rose (H.faults shelf.old) (H.faults shelf.new) }
         ensures calm { ¬ IsErrOf result Stop.ShelfFault → H.faults shelf.new ≡ H.faults shelf.old }
-        ensures unfetched { (state : State) → StandsFor self.old state → fetches state line.now ≡ false → shelf.new ≡ shelf.old }
+        ensures unfetched { (state : State) → StandsFor self.old state → fetches state line.now ≡ false
+            → shelf.new ≡ shelf.old }
         ensures no_fault { (state : State) → StandsFor self.old state → fetches state line.now ≡ false
             → IsErrOf result Stop.ShelfFault → ⊥ }
     {
@@ -126,7 +152,8 @@ impl Session {
         requires lines { self.old.lines < 2 ^ 64 - 1 }
         requires can { CanMake self.old.slots change }
         ensures committed { HasCommitted self.old self.new change accepted }
-        ensures rise { (slot : ℕ) → puts change slot ≡ false → reads_at self.old.slots slot ≤ reads_at self.new.slots slot }
+        ensures rise { (slot : ℕ) → puts change slot ≡ false
+            → reads_at self.old.slots slot ≤ reads_at self.new.slots slot }
         ensures rest { (slot : ℕ) → puts change slot ≡ false → adds change slot ≡ false
             → reads_at self.new.slots slot ≡ reads_at self.old.slots slot }
         ensures added { (slot count : ℕ) → AddsEach change slot count
@@ -144,11 +171,12 @@ impl Session {
     /// How often samples of the slot were read, of all its channels together, `None` where the slot isn't open.
     ///
     /// A sample that is appended is compared with every window, from the samples that enter these and leave them. A
-    /// channel that is loaded begins with the reads of its first profile. A line that compares a channel with others has
-    /// its samples lent, so that each counts as read as often as there are samples, as for every pair of them. A report
-    /// of a profile reads none. The count stays at its greatest value.
+    /// channel that is loaded begins with the reads of its first profile. A line that compares a channel with others
+    /// has its samples lent, so that each counts as read as often as there are samples, as for every pair of them. A
+    /// report of a profile reads none. The count stays at its greatest value.
     pub fn reads(&self, slot: u64) -> Option<u128>
-        ensures open { (state : State) → StandsFor self.now state → IsNone result ↔ (store_at state.stores slot ≡ Closed) }
+        ensures open { (state : State) → StandsFor self.now state
+            → IsNone result ↔ (store_at state.stores slot ≡ Closed) }
         ensures value { IfSome result (λ reads. reads ≡ min (reads_at self.now.slots slot) (2 ^ 128 - 1)) }
     {
         self.slots.reads(slot)

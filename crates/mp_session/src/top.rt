@@ -165,7 +165,8 @@ fn refuse_words<K: Sink>(out: &mut K) -> Status
     ensures front { (before : List ℕ) → K.written out.old ≡ Some before → length before + length usage ≤ K.room out.old
         → TellsPrefix (K.written out.new) before usage }
     ensures flushed { result ≡ Status.Words → K.flushed out.new ≡ true }
-    ensures unfinished { (before : List ℕ) → K.written out.old ≡ Some before → length before + length usage ≤ K.room out.old
+    ensures unfinished { (before : List ℕ) → K.written out.old ≡ Some before
+        → length before + length usage ≤ K.room out.old
         → result ≡ Status.WriteFault → ¬ ((K.written out.new ≡ Some (before ++ usage)) × (K.flushed out.new ≡ true)) }
     ensures write_fault { result ≡ Status.WriteFault → Rose (K.faults out.old) (K.faults out.new) }
 {
@@ -206,7 +207,8 @@ fn run_session<R: Threads + Sync, H: Shelf, S: Source, K: Sink, G: Gate>(
         → ToldForRun (H.files shelf.old) (opening settings.window settings.scale) files bytes
         → S.left input.old ≡ Some bytes → K.written out.old ≡ Some before
         → length before + length (session_output (opening settings.window settings.scale) files bytes) ≤ K.room out.old
-        → OnOk result (K.written out.new ≡ Some (before ++ session_output (opening settings.window settings.scale) files bytes)) }
+        → OnOk result (K.written out.new ≡ Some (before ++ session_output (opening settings.window settings.scale) files
+        bytes)) }
     ensures front { (files : Files) (bytes before : List ℕ)
         → ToldForRun (H.files shelf.old) (opening settings.window settings.scale) files bytes
         → S.left input.old ≡ Some bytes → K.written out.old ≡ Some before
@@ -223,13 +225,15 @@ fn run_session<R: Threads + Sync, H: Shelf, S: Source, K: Sink, G: Gate>(
         → S.left input.old ≡ Some bytes → K.written out.old ≡ Some before
         → length before + length (session_output (opening settings.window settings.scale) files bytes) ≤ K.room out.old
         → IsErrOf result Halt.InputLimit
-        → K.written out.new ≡ Some (before ++ reports (opening settings.window settings.scale) files (ended_lines (take limit bytes))) }
+        → K.written out.new ≡ Some (before ++ reports (opening settings.window settings.scale) files
+        (ended_lines (take limit bytes))) }
     ensures memory_front { (files : Files) (bytes before : List ℕ)
         → ToldForRun (H.files shelf.old) (opening settings.window settings.scale) files bytes
         → S.left input.old ≡ Some bytes → K.written out.old ≡ Some before
         → length before + length (session_output (opening settings.window settings.scale) files bytes) ≤ K.room out.old
         → IsErrOf result Halt.Memory
-        → (count : ℕ) × (K.written out.new ≡ Some (before ++ reports (opening settings.window settings.scale) files (take count (lines_run bytes)))) }
+        → (count : ℕ) × (K.written out.new ≡ Some
+        (before ++ reports (opening settings.window settings.scale) files (take count (lines_run bytes)))) }
 
     ensures shelf_fault_front { (files : Files) (bytes before : List ℕ)
         → ToldForRun (H.files shelf.old) (opening settings.window settings.scale) files bytes
@@ -245,13 +249,15 @@ fn run_session<R: Threads + Sync, H: Shelf, S: Source, K: Sink, G: Gate>(
     ensures refused { (files : Files) (bytes : List ℕ)
         → ToldForRun (H.files shelf.old) (opening settings.window settings.scale) files bytes
         → S.left input.old ≡ Some bytes
-        → IfOk result (λ refused. refused ≡ some_refused (opening settings.window settings.scale) files (lines_run bytes)) }
+        → IfOk result (λ refused. refused ≡ some_refused (opening settings.window settings.scale) files
+        (lines_run bytes)) }
     ensures read { (bytes : List ℕ) → S.left input.old ≡ Some bytes → some_ends (lines_run bytes) ≡ false
         → OnOk result (S.left input.new ≡ Some []) }
     ensures within { (bytes : List ℕ) → S.left input.old ≡ Some bytes → some_ends (lines_run bytes) ≡ false
         → OnOk result (length bytes ≤ limit) }
     ensures end_within { (bytes : List ℕ) → S.left input.old ≡ Some bytes → OnOk result (IsWithin limit bytes) }
-    ensures past { (bytes : List ℕ) → S.left input.old ≡ Some bytes → IsErrOf result Halt.InputLimit → IsPast limit bytes }
+    ensures past { (bytes : List ℕ) → S.left input.old ≡ Some bytes → IsErrOf result Halt.InputLimit
+        → IsPast limit bytes }
     ensures given { S.given input.new ≤ S.given input.old + limit + 1 }
 
     ensures flushed { OnOk result ((K.flushed out.new ≡ true) ⊎ (out.new ≡ out.old)) }
@@ -261,7 +267,8 @@ fn run_session<R: Threads + Sync, H: Shelf, S: Source, K: Sink, G: Gate>(
     ensures input_limit { IsErrOf result Halt.InputLimit → S.given input.old + limit < S.given input.new }
     ensures calm { ¬ IsErrOf result Halt.ShelfFault → H.faults shelf.new ≡ H.faults shelf.old }
     ensures fileless { (files : Files) (bytes : List ℕ) → S.left input.old ≡ Some bytes
-        → some_fetch (opening settings.window settings.scale) files (lines_run bytes) ≡ false → IsErrOf result Halt.ShelfFault → ⊥ }
+        → some_fetch (opening settings.window settings.scale) files (lines_run bytes) ≡ false
+        → IsErrOf result Halt.ShelfFault → ⊥ }
     ensures files { H.files shelf.new ≡ H.files shelf.old }
 {
     let mut session = Session::new(rt, alloc, settings)?;

@@ -1,6 +1,21 @@
 //! Arcs that follow a profile as it changes.
 
-ghost use Rattle.std.specs.Prelude.{◌≡◌, ℕ, ◌+◌, ◌*◌, ◌<◌, ◌≤◌, false, true, length, min, slice_index_or, slice_set, IfSome, None};
+ghost use Rattle.std.specs.Prelude.{
+  ◌≡◌,
+  ℕ,
+  ◌+◌,
+  ◌*◌,
+  ◌<◌,
+  ◌≤◌,
+  false,
+  true,
+  length,
+  min,
+  slice_index_or,
+  slice_set,
+  IfSome,
+  None,
+};
 ghost use Rattle.mp_arcs.specs.Arcs.{index_of, indices_of};
 ghost use Rattle.mp_arcs.specs.Board.{NameWithin};
 ghost use Rattle.mp_defs.specs.Limits.{max_samples};
@@ -73,7 +88,8 @@ fn name_block(board: &mut ArcBoard, profile: &[Slot], block: usize, is_marked: b
     requires named { NameWithin (indices_of profile.now) }
     requires block { block < block_count (length profile.now) }
     ensures marked { is_marked ≡ true
-        → IsNamed profile.now (block * 32) (min (length profile.now) (block * 32 + 32)) board.old.items board.new.items }
+        → IsNamed profile.now (block * 32) (min (length profile.now) (block * 32 + 32)) board.old.items
+        board.new.items }
     ensures unmarked { is_marked ≡ false → board.new.items ≡ board.old.items }
 {
     if is_marked {

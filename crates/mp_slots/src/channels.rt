@@ -37,9 +37,9 @@ pub struct Plan {
     ghost most_workers: { workers ≤ max_workers },
 }
 
-/// A series with its profile and with the arcs between its windows and their nearest ones, which are kept as samples are
-/// appended. It is seen as its samples, its window length, how often samples were read, and how many more samples it can
-/// take without memory.
+/// A series with its profile and with the arcs between its windows and their nearest ones, which are kept as samples
+/// are appended. It is seen as its samples, its window length, how often samples were read, and how many more samples
+/// it can take without memory.
 #[derive(Debug, Drop)]
 pub struct Channel {
     stream: Stream,

@@ -1,6 +1,35 @@
 //! The slots.
 
-ghost use Rattle.std.specs.Prelude.{◌≡◌, ◌≢◌, ◌==◌, ◌↔◌, ◌+◌, ◌-◌, ◌*◌, ◌^◌, ◌<◌, ◌≤◌, ℕ, List, [], ◌∷◌, ◌++◌, length, vec_len, map, min, sum_by, take, drop, replicate, All, IfOk, OnOk, IsNone, IfSome};
+ghost use Rattle.std.specs.Prelude.{
+  ◌≡◌,
+  ◌≢◌,
+  ◌==◌,
+  ◌↔◌,
+  ◌+◌,
+  ◌-◌,
+  ◌*◌,
+  ◌^◌,
+  ◌<◌,
+  ◌≤◌,
+  ℕ,
+  List,
+  [],
+  ◌∷◌,
+  ◌++◌,
+  length,
+  vec_len,
+  map,
+  min,
+  sum_by,
+  take,
+  drop,
+  replicate,
+  All,
+  IfOk,
+  OnOk,
+  IsNone,
+  IfSome,
+};
 
 use crate::channels::Channel;
 use crate::groups::{add_all, reads_of, reserve_all};
@@ -48,7 +77,22 @@ impl Slots {
     ghost use Rattle.mp_replies.specs.Change.{AddSamples, PutChannels, changed};
     ghost use Rattle.mp_replies.specs.State.{Closed, Open, channels_at, is_closed, samples_in, series_at, store_at};
     ghost use Rattle.mp_report.specs.Profiles.{columns_in};
-    ghost use Rattle.mp_slots.specs.Slots.{AreChannels, AreEven, HaveRoom, HaveWindow, IsChannel, WasRead, channel_at, lent_once, lists_in, reads_in, reads_to_add, series_in, slot_at, stores_of};
+    ghost use Rattle.mp_slots.specs.Slots.{
+      AreChannels,
+      AreEven,
+      HaveRoom,
+      HaveWindow,
+      IsChannel,
+      WasRead,
+      channel_at,
+      lent_once,
+      lists_in,
+      reads_in,
+      reads_to_add,
+      series_in,
+      slot_at,
+      stores_of,
+    };
 
     /// Slot 0 is open with one empty channel, and the others are closed. Windows have `m` samples.
     pub fn new<R: Threads + Sync>(rt: &R, alloc: Global, m: u32) -> Result<Slots, Memory>
@@ -237,8 +281,8 @@ impl Slots {
         reserve_all(self.stored[slot as usize].as_mut_slice(), more)
     }
 
-    /// Appends to each channel of a slot its samples, as many to each, for which there is room. For each of them it reads
-    /// no more than four samples for each window and for each sample of one.
+    /// Appends to each channel of a slot its samples, as many to each, for which there is room. For each of them it
+    /// reads no more than four samples for each window and for each sample of one.
     pub fn add(&mut self, slot: u64, added: &[Vec<Sample>])
         requires slot { slot < SLOTS }
         requires open { 0 < length (slot_at self.old slot) }

@@ -1,6 +1,27 @@
 //! What a stream keeps of its windows.
 
-ghost use Rattle.std.specs.Prelude.{◌≡◌, ℕ, ◌+◌, ◌-◌, ◌*◌, ◌^◌, ◌<◌, ◌≤◌, ◌++◌, ◌∷◌, [], length, true, false, slice_index, slice_index_or, None, IfOk, IsOk, OnOk};
+ghost use Rattle.std.specs.Prelude.{
+  ◌≡◌,
+  ℕ,
+  ◌+◌,
+  ◌-◌,
+  ◌*◌,
+  ◌^◌,
+  ◌<◌,
+  ◌≤◌,
+  ◌++◌,
+  ◌∷◌,
+  [],
+  length,
+  true,
+  false,
+  slice_index,
+  slice_index_or,
+  None,
+  IfOk,
+  IsOk,
+  OnOk,
+};
 ghost use Rattle.mp_defs.specs.Series.{series_of};
 ghost use Rattle.mp_defs.specs.Window.{is_free, windows};
 ghost use Rattle.mp_defs.specs.Least.{near};
@@ -283,7 +304,8 @@ impl Kept {
         requires earlier { AllStartAtMost (length self.old.free.items - 1) self.old.profile.right }
         ensures offered { IsOffered m samples.old.items is_free (length self.old.free.items - 1) self.old self.new }
         ensures rows { HaveRows (length self.old.free.items) self.new }
-        ensures row { IsRow (numbers_in samples.old.items) m (length self.old.free.items - 1) self.new.narrow.sums.items }
+        ensures row { IsRow (numbers_in samples.old.items) m (length self.old.free.items - 1)
+            self.new.narrow.sums.items }
         ensures limits { AreLimits limit_of self.new.profile.right self.new.limits.items }
         ensures room { room_of self.new ≡ room_of self.old }
         ensures known { StayKnown self.old.profile self.new.profile }
@@ -319,8 +341,10 @@ impl Kept {
         requires before { (i : ℕ) → i < length self.old.wide.sums.items - 1
             → slice_index self.old.wide.sums.items i
             ≡ sum_at (numbers_in samples.old.items) m i (length self.old.wide.sums.items - 1 - 1) }
-        ensures row { IsRow (numbers_in samples.old.items) m (length self.old.wide.sums.items - 1) self.new.wide.sums.items }
-        ensures small { (i : ℕ) → i < length self.new.wide.sums.items → slice_index self.new.wide.sums.items i < 2 ^ 79 }
+        ensures row { IsRow (numbers_in samples.old.items) m (length self.old.wide.sums.items - 1)
+            self.new.wide.sums.items }
+        ensures small { (i : ℕ) → i < length self.new.wide.sums.items
+            → slice_index self.new.wide.sums.items i < 2 ^ 79 }
         ensures sums { length self.new.wide.sums.items ≡ length self.old.wide.sums.items }
         ensures next { length self.new.wide.next.items ≡ length self.old.wide.sums.items }
         ensures profile { self.new.profile ≡ self.old.profile }
@@ -346,16 +370,18 @@ impl Kept {
         swap(&mut self.wide.sums, &mut self.wide.next);
     }
 
-    /// Offers the last window to the free windows outside its exclusion zone, where it is free, and the nearest of these
-    /// to the last window.
+    /// Offers the last window to the free windows outside its exclusion zone, where it is free, and the nearest of
+    /// these to the last window.
     fn offer_last(&mut self, m: u32, is_free: bool)
         requires least { 1 ≤ m }
         requires some { 1 ≤ length self.old.free.items }
         requires rows { HaveRows (length self.old.free.items) self.old }
         requires right { length self.old.profile.right ≡ length self.old.free.items }
-        requires small { (i : ℕ) → i < length self.old.wide.sums.items → slice_index self.old.wide.sums.items i < 2 ^ 79 }
+        requires small { (i : ℕ) → i < length self.old.wide.sums.items
+            → slice_index self.old.wide.sums.items i < 2 ^ 79 }
         requires limits { AreLimits coarse_limit self.old.profile.right self.old.limits.items }
-        ensures right { IsTaken self.old.free.items (slice_index self.old.wide.sums.items) (length self.old.free.items - 1) 0
+        ensures right { IsTaken self.old.free.items (slice_index self.old.wide.sums.items)
+            (length self.old.free.items - 1) 0
             (offered_before is_free m (length self.old.free.items - 1)) self.old.profile.right self.new.profile.right }
         ensures left { self.new.profile.left ≡ with_best self.old.profile.left (length self.old.free.items - 1)
             (near (row_candidate self.old.free.items (slice_index self.old.wide.sums.items))

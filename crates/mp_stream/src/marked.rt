@@ -1,6 +1,28 @@
 //! A profile whose windows are marked by blocks where their entries change.
 
-ghost use Rattle.std.specs.Prelude.{◌≡◌, ◌≢◌, ◌+◌, ◌/◌, ◌<◌, ◌≤◌, ℕ, nat_lt, if◌then◌else◌, [], ◌∷◌, ◌++◌, false, true, length, slice_index_or, slice_set, IfOk, IsOk, OnOk, None};
+ghost use Rattle.std.specs.Prelude.{
+  ◌≡◌,
+  ◌≢◌,
+  ◌+◌,
+  ◌/◌,
+  ◌<◌,
+  ◌≤◌,
+  ℕ,
+  nat_lt,
+  if◌then◌else◌,
+  [],
+  ◌∷◌,
+  ◌++◌,
+  false,
+  true,
+  length,
+  slice_index_or,
+  slice_set,
+  IfOk,
+  IsOk,
+  OnOk,
+  None,
+};
 ghost use Rattle.mp_partial.specs.Values.{merged_column, offered};
 ghost use Rattle.mp_stream.specs.Blocks.{StayKnown, block_count};
 
@@ -25,7 +47,14 @@ impl Model for MarkedProfile {
 
     ghost Value = { Marked };
 
-    ghost view = { λ p. record { all = p.profile.all; left = p.profile.left; right = p.profile.right; spare = min p.profile.spare p.changed.spare; changed = p.changed.items } };
+    ghost view = { λ p. record {
+      all = p.profile.all;
+      left = p.profile.left;
+      right = p.profile.right;
+      spare = min
+          p.profile.spare p.changed.spare;
+      changed = p.changed.items;
+    } };
 
     ghost invariant = { λ p. length p.changed.items ≡ block_count (length p.profile.all) };
 }
@@ -61,7 +90,8 @@ fn grow_marks(changed: &mut Items<bool>, windows: u64)
     requires room { 0 < changed.old.spare }
     requires blocks { length changed.old.items ≡ block_count windows }
     ensures blocks { length changed.new.items ≡ block_count (windows + 1) }
-    ensures same { (block : ℕ) → slice_index_or changed.new.items block false ≡ slice_index_or changed.old.items block false }
+    ensures same { (block : ℕ) → slice_index_or changed.new.items block false
+        ≡ slice_index_or changed.old.items block false }
     ensures spare { changed.old.spare ≤ changed.new.spare + 1 }
 {
     if windows % BLOCK == 0 {

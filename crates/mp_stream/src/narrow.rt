@@ -1,6 +1,23 @@
 //! A row in sums of 64 bits.
 
-ghost use Rattle.std.specs.Prelude.{◌≡◌, ◌+◌, ◌-◌, ◌^◌, ◌<◌, ◌≤◌, ℕ, ◌++◌, ◌∷◌, [], length, min, slice_index, IfOk, IsOk, OnOk};
+ghost use Rattle.std.specs.Prelude.{
+  ◌≡◌,
+  ◌+◌,
+  ◌-◌,
+  ◌^◌,
+  ◌<◌,
+  ◌≤◌,
+  ℕ,
+  ◌++◌,
+  ◌∷◌,
+  [],
+  length,
+  min,
+  slice_index,
+  IfOk,
+  IsOk,
+  OnOk,
+};
 
 use mp_nums::{Items, Memory};
 use std::alloc::Global;

@@ -42,7 +42,8 @@ fn take_group(
     requires earlier { AllStartAtMost (length sums.old - 1) profile.old.right }
     requires best { best.old.found ≡ near (row_candidate free.now (moved_by moves.now)) first }
     ensures done { (i : ℕ) → i < end → slice_index sums.new i ≡ moved_by moves.now i }
-    ensures right { IsTaken free.now (moved_by moves.now) (length sums.old - 1) first end profile.old.right profile.new.right }
+    ensures right { IsTaken free.now (moved_by moves.now) (length sums.old - 1) first end profile.old.right
+        profile.new.right }
     ensures left { profile.new.left ≡ profile.old.left }
     ensures all { length profile.new.all ≡ length profile.old.all }
     ensures spare { profile.new.spare ≡ profile.old.spare }
@@ -76,7 +77,8 @@ fn take_groups(
     requires earlier { AllStartAtMost (length sums.old - 1) profile.old.right }
     requires best { best.old.found ≡ near (row_candidate free.now (moved_by moves.now)) 1 }
     ensures done { (i : ℕ) → i < end → slice_index sums.new i ≡ moved_by moves.now i }
-    ensures right { IsTaken free.now (moved_by moves.now) (length sums.old - 1) 1 end profile.old.right profile.new.right }
+    ensures right { IsTaken free.now (moved_by moves.now) (length sums.old - 1) 1 end profile.old.right
+        profile.new.right }
     ensures left { profile.new.left ≡ profile.old.left }
     ensures all { length profile.new.all ≡ length profile.old.all }
     ensures spare { profile.new.spare ≡ profile.old.spare }
@@ -129,7 +131,8 @@ fn take_some(
     requires limits { AreLimits limit_of profile.old.right limits.old }
     requires earlier { AllStartAtMost (length sums.old - 1) profile.old.right }
     ensures done { (i : ℕ) → i < end → slice_index sums.new i ≡ moved_by moves.now i }
-    ensures right { IsTaken free.now (moved_by moves.now) (length sums.old - 1) 0 end profile.old.right profile.new.right }
+    ensures right { IsTaken free.now (moved_by moves.now) (length sums.old - 1) 0 end profile.old.right
+        profile.new.right }
     ensures left { profile.new.left ≡ profile.old.left }
     ensures all { length profile.new.all ≡ length profile.old.all }
     ensures spare { profile.new.spare ≡ profile.old.spare }
@@ -164,7 +167,8 @@ fn take_any(
     requires limits { AreLimits limit_of profile.old.right limits.old }
     requires earlier { AllStartAtMost (length sums.old - 1) profile.old.right }
     ensures done { (i : ℕ) → i < max 1 end → slice_index sums.new i ≡ moved_by moves.now i }
-    ensures right { IsTaken free.now (moved_by moves.now) (length sums.old - 1) 0 end profile.old.right profile.new.right }
+    ensures right { IsTaken free.now (moved_by moves.now) (length sums.old - 1) 0 end profile.old.right
+        profile.new.right }
     ensures left { profile.new.left ≡ profile.old.left }
     ensures all { length profile.new.all ≡ length profile.old.all }
     ensures spare { profile.new.spare ≡ profile.old.spare }
@@ -196,7 +200,8 @@ pub(crate) fn take_row(
     requires limits { AreLimits limit_of profile.old.right limits.old }
     requires earlier { AllStartAtMost (length sums.old - 1) profile.old.right }
     ensures row { (i : ℕ) → i < length sums.old → slice_index sums.new i ≡ moved_by moves.now i }
-    ensures right { IsTaken free.now (moved_by moves.now) (length sums.old - 1) 0 end profile.old.right profile.new.right }
+    ensures right { IsTaken free.now (moved_by moves.now) (length sums.old - 1) 0 end profile.old.right
+        profile.new.right }
     ensures left { profile.new.left ≡ profile.old.left }
     ensures all { length profile.new.all ≡ length profile.old.all }
     ensures spare { profile.new.spare ≡ profile.old.spare }

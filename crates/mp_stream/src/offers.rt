@@ -1,6 +1,23 @@
 //! What the distances of the last window make of a profile.
 
-ghost use Rattle.std.specs.Prelude.{◌≡◌, ℕ, ◌+◌, ◌-◌, ◌*◌, ◌^◌, ◌<◌, ◌≤◌, length, false, if◌then◌else◌, slice_index, slice_index_or, Some, None, IfSome};
+ghost use Rattle.std.specs.Prelude.{
+  ◌≡◌,
+  ℕ,
+  ◌+◌,
+  ◌-◌,
+  ◌*◌,
+  ◌^◌,
+  ◌<◌,
+  ◌≤◌,
+  length,
+  false,
+  if◌then◌else◌,
+  slice_index,
+  slice_index_or,
+  Some,
+  None,
+  IfSome,
+};
 ghost use Rattle.mp_nums.specs.Near.{nearer_of};
 ghost use Rattle.mp_defs.specs.Least.{near, near_at};
 ghost use Rattle.mp_partial.specs.Values.{offered};
@@ -24,7 +41,8 @@ fn is_below(sums: &[u128], first: usize, end: usize, limits: &[u64], best: u64) 
     requires small_limits { (i : ℕ) → i < length limits.now → slice_index limits.now i ≤ 2 ^ 63 }
     requires small_best { best ≤ 2 ^ 63 }
     ensures above { result ≡ false → (i : ℕ) → first ≤ i → i < end
-        → (slice_index limits.now i ≤ coarse_of (slice_index sums.now i)) × (best ≤ coarse_of (slice_index sums.now i)) }
+        → (slice_index limits.now i ≤ coarse_of (slice_index sums.now i))
+        × (best ≤ coarse_of (slice_index sums.now i)) }
 {
     let mut below = 0;
     for i in first..end {
@@ -50,7 +68,8 @@ fn offer_window(
     requires within { j < length profile.old.all }
     requires places { length profile.old.right ≡ length profile.old.all }
     requires limit { limit.old ≡ limit_of (slice_index_or profile.old.right i None) }
-    ensures right { profile.new.right ≡ (if is_free then offered profile.old.right i (near_at j sum) else profile.old.right) }
+    ensures right { profile.new.right ≡ (if is_free then offered profile.old.right i (near_at j sum) else
+        profile.old.right) }
     ensures left { profile.new.left ≡ profile.old.left }
     ensures all { length profile.new.all ≡ length profile.old.all }
     ensures spare { profile.new.spare ≡ profile.old.spare }
@@ -87,7 +106,8 @@ fn offer_each(
     requires within { end < length sums.now }
     requires limits { AreLimits limit_of profile.old.right limits.old }
     requires best { best.old ≡ near (row_candidate free.now (slice_index sums.now)) first }
-    ensures right { IsTaken free.now (slice_index sums.now) (length sums.now - 1) first end profile.old.right profile.new.right }
+    ensures right { IsTaken free.now (slice_index sums.now) (length sums.now - 1) first end profile.old.right
+        profile.new.right }
     ensures left { profile.new.left ≡ profile.old.left }
     ensures all { length profile.new.all ≡ length profile.old.all }
     ensures spare { profile.new.spare ≡ profile.old.spare }
@@ -120,7 +140,8 @@ fn offer_group(
     requires small { (i : ℕ) → i < length sums.now → slice_index sums.now i < 2 ^ 79 }
     requires limits { AreLimits limit_of profile.old.right limits.old }
     requires best { best.old ≡ near (row_candidate free.now (slice_index sums.now)) first }
-    ensures right { IsTaken free.now (slice_index sums.now) (length sums.now - 1) first end profile.old.right profile.new.right }
+    ensures right { IsTaken free.now (slice_index sums.now) (length sums.now - 1) first end profile.old.right
+        profile.new.right }
     ensures left { profile.new.left ≡ profile.old.left }
     ensures all { length profile.new.all ≡ length profile.old.all }
     ensures spare { profile.new.spare ≡ profile.old.spare }
@@ -161,7 +182,8 @@ pub(crate) fn offer_row(
     requires within { end < length sums.now }
     requires small { (i : ℕ) → i < length sums.now → slice_index sums.now i < 2 ^ 79 }
     requires limits { AreLimits limit_of profile.old.right limits.old }
-    ensures right { IsTaken free.now (slice_index sums.now) (length sums.now - 1) 0 end profile.old.right profile.new.right }
+    ensures right { IsTaken free.now (slice_index sums.now) (length sums.now - 1) 0 end profile.old.right
+        profile.new.right }
     ensures left { profile.new.left ≡ profile.old.left }
     ensures spare { profile.new.spare ≡ profile.old.spare }
     ensures known { StayKnown profile.old profile.new }

@@ -1,6 +1,27 @@
 //! A series whose profile grows with it.
 
-ghost use Rattle.std.specs.Prelude.{◌≡◌, ℕ, ◌+◌, ◌*◌, ◌^◌, ◌<◌, ◌≤◌, ◌↔◌, [], ◌∷◌, ◌++◌, false, length, slice_index_or, IsOk, IsErrOf, IsTrue, IfOk, OnOk, OnErr};
+ghost use Rattle.std.specs.Prelude.{
+  ◌≡◌,
+  ℕ,
+  ◌+◌,
+  ◌*◌,
+  ◌^◌,
+  ◌<◌,
+  ◌≤◌,
+  ◌↔◌,
+  [],
+  ◌∷◌,
+  ◌++◌,
+  false,
+  length,
+  slice_index_or,
+  IsOk,
+  IsErrOf,
+  IsTrue,
+  IfOk,
+  OnOk,
+  OnErr,
+};
 ghost use Rattle.mp_defs.specs.Series.{series_of};
 ghost use Rattle.mp_defs.specs.Window.{is_free, windows};
 ghost use Rattle.mp_defs.specs.Profile.{matrix_profile};
@@ -40,9 +61,9 @@ impl From<Memory> for AppendRefusal {
     }
 }
 
-/// A series and its matrix profile, which is kept as samples are appended. It is seen as its samples, its window length,
-/// how often samples were read, how many more samples it can take without memory, and for each block of `BLOCK` windows
-/// whether it is marked: an append marks the blocks in which it finds a nearer window.
+/// A series and its matrix profile, which is kept as samples are appended. It is seen as its samples, its window
+/// length, how often samples were read, how many more samples it can take without memory, and for each block of `BLOCK`
+/// windows whether it is marked: an append marks the blocks in which it finds a nearer window.
 #[derive(Debug, Drop)]
 pub struct Stream {
     samples: Samples,
@@ -57,7 +78,14 @@ impl Model for Stream {
 
     ghost Value = { Streamed };
 
-    ghost view = { λ s. record { items = s.samples.items; m = s.m; reads = s.samples.reads; spare = min s.samples.spare (room_of s.kept); changed = s.kept.profile.changed } };
+    ghost view = { λ s. record {
+      items = s.samples.items;
+      m = s.m;
+      reads = s.samples.reads;
+      spare = min s.samples.spare
+          (room_of s.kept);
+      changed = s.kept.profile.changed;
+    } };
 
     ghost invariant = { λ s. (min_window ≤ s.m) × (s.m ≤ max_window) × IsOf s.m s.samples.items s.kept };
 }
@@ -122,7 +150,8 @@ impl Stream {
         ensures spare { self.old.spare ≤ self.new.spare + 1 }
         ensures succeeds { 0 < self.old.spare → length self.old.items < max_samples → IsOk result }
         ensures reads_rise { self.old.reads ≤ self.new.reads }
-        ensures reads { self.new.reads ≤ self.old.reads + 4 * (windows (length self.new.items) self.new.m + self.new.m) }
+        ensures reads { self.new.reads ≤ self.old.reads + 4
+            * (windows (length self.new.items) self.new.m + self.new.m) }
         ensures known { (known : Column) → IsKnown known self.old → IsKnown known self.new }
     {
         if self.len() == MAX_SAMPLES {
@@ -143,8 +172,8 @@ impl Stream {
         self.kept.profile.inner()
     }
 
-    /// For each block of `BLOCK` windows whether it is marked. In the others each window has the nearest one that it had
-    /// when the marks were cleared, and a window that came later has none.
+    /// For each block of `BLOCK` windows whether it is marked. In the others each window has the nearest one that it
+    /// had when the marks were cleared, and a window that came later has none.
     pub fn changed(&self) -> &[bool]
         ensures marks { result.now ≡ self.now.changed }
         ensures blocks { length result.now ≡ block_count (windows (length self.now.items) self.now.m) }

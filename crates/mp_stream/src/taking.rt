@@ -1,6 +1,21 @@
 //! What the last window makes of a profile, by sums of 64 bits.
 
-ghost use Rattle.std.specs.Prelude.{◌≡◌, ℕ, ◌+◌, ◌-◌, ◌^◌, ◌<◌, ◌≤◌, length, false, if◌then◌else◌, slice_index, slice_index_or, Some, None};
+ghost use Rattle.std.specs.Prelude.{
+  ◌≡◌,
+  ℕ,
+  ◌+◌,
+  ◌-◌,
+  ◌^◌,
+  ◌<◌,
+  ◌≤◌,
+  length,
+  false,
+  if◌then◌else◌,
+  slice_index,
+  slice_index_or,
+  Some,
+  None,
+};
 ghost use Rattle.mp_nums.specs.Near.{nearer_of};
 ghost use Rattle.mp_defs.specs.Least.{near, near_at};
 ghost use Rattle.mp_partial.specs.Values.{offered};
@@ -71,13 +86,15 @@ fn take_free(
     requires limit { limit.old ≡ limit_of (slice_index_or profile.old.right i None) }
     requires earlier { StartsAtMost j (slice_index_or profile.old.right i None) }
     requires before { StartsAtMost i best.old.found }
-    ensures right { profile.new.right ≡ (if is_free then offered profile.old.right i (near_at j sum) else profile.old.right) }
+    ensures right { profile.new.right ≡ (if is_free then offered profile.old.right i (near_at j sum) else
+        profile.old.right) }
     ensures left { profile.new.left ≡ profile.old.left }
     ensures all { length profile.new.all ≡ length profile.old.all }
     ensures spare { profile.new.spare ≡ profile.old.spare }
     ensures known { StayKnown profile.old profile.new }
     ensures limit { limit.new ≡ limit_of (slice_index_or profile.new.right i None) }
-    ensures best { best.new.found ≡ (if is_free then nearer_of best.old.found (Some (near_at i sum)) else best.old.found) }
+    ensures best { best.new.found ≡ (if is_free then nearer_of best.old.found (Some (near_at i sum)) else
+        best.old.found) }
 {
     if is_free {
         take_window(sum, i, j, limit, profile, best);
@@ -104,7 +121,8 @@ pub(crate) fn take(
     requires limits { AreLimits limit_of profile.old.right limits.old }
     requires earlier { AllStartAtMost (length sums.now - 1) profile.old.right }
     requires best { best.old.found ≡ near (row_candidate free.now (slice_index sums.now)) first }
-    ensures right { IsTaken free.now (slice_index sums.now) (length sums.now - 1) first end profile.old.right profile.new.right }
+    ensures right { IsTaken free.now (slice_index sums.now) (length sums.now - 1) first end profile.old.right
+        profile.new.right }
     ensures left { profile.new.left ≡ profile.old.left }
     ensures all { length profile.new.all ≡ length profile.old.all }
     ensures spare { profile.new.spare ≡ profile.old.spare }
@@ -141,7 +159,8 @@ pub(crate) fn take_below(
     requires limits { AreLimits limit_of profile.old.right limits.old }
     requires earlier { AllStartAtMost (length sums.now - 1) profile.old.right }
     requires best { best.old.found ≡ near (row_candidate free.now (slice_index sums.now)) first }
-    ensures right { IsTaken free.now (slice_index sums.now) (length sums.now - 1) first end profile.old.right profile.new.right }
+    ensures right { IsTaken free.now (slice_index sums.now) (length sums.now - 1) first end profile.old.right
+        profile.new.right }
     ensures left { profile.new.left ≡ profile.old.left }
     ensures all { length profile.new.all ≡ length profile.old.all }
     ensures spare { profile.new.spare ≡ profile.old.spare }

@@ -149,8 +149,8 @@ fn appended_samples_have_the_whole_profile_behind_each_line(rt: HostRuntime) -> 
 /// How many samples are appended one by one.
 const ONE_BY_ONE: u64 = 10_000;
 
-// The last report was computed by a plain program. A session that computed the profile anew for each report would compare
-// some thousand times as many windows.
+// The last report was computed by a plain program. A session that computed the profile anew for each report would
+// compare some thousand times as many windows.
 #[test]
 fn discords_are_reported_behind_each_sample(rt: HostRuntime) -> Result<(), Fail> {
     let mut input = Vec::new(rt.alloc());

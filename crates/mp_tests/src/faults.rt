@@ -9,8 +9,8 @@ use std::str;
 use std::test::Fail;
 use std::thread::Threads;
 
-/// A run with a file `three.csv` of three records, where a call of the outside may fail. The calls of each kind are counted
-/// from 0, the writes and flushes together.
+/// A run with a file `three.csv` of three records, where a call of the outside may fail. The calls of each kind are
+/// counted from 0, the writes and flushes together.
 #[derive(Clone, Copy)]
 struct FaultyRun<'a> {
     shows: &'a str,

@@ -1,6 +1,6 @@
-//! Tests that cross crates and need code: runs that end early, inputs that go on past a limit, the lines of an input that
-//! comes in pieces, the longest lines, series and files, samples that lines append in any cut, the replies of a session,
-//! what words ask for, and the calls that take memory. Whole runs stand in `stored_runs`.
+//! Tests that cross crates and need code: runs that end early, inputs that go on past a limit, the lines of an input
+//! that comes in pieces, the longest lines, series and files, samples that lines append in any cut, the replies of a
+//! session, what words ask for, and the calls that take memory. Whole runs stand in `stored_runs`.
 #![tactic(auto)]
 
 #[cfg(test)]

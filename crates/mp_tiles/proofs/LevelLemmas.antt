@@ -12,12 +12,14 @@ use Rattle.std.proofs.lemmas.Simd.{length-chunk, get_or-chunk}
 use Rattle.std.proofs.Math.Nat.{add-mul, mul-le-mul}
 use Rattle.mp_nums.specs.declared.samples.Sample.{Sample}
 use Rattle.mp_nums.specs.declared.samples.Sample.TheVariants.{Missing}
-use Rattle.mp_defs.specs.Series.{reading_of, series_of, number_at}
+use Rattle.mp_defs.specs.Series.{Series, reading_of, series_of, number_at}
 use Rattle.mp_defs.specs.Distance.{square_gap}
 use Rattle.mp_defs.specs.SeriesLaws.{series_are_of_samples}
+use Rattle.mp_tiles.specs.declared.scales.Scale.{Scale}
 use Rattle.mp_tiles.specs.Sums.{total}
 use Rattle.mp_tiles.specs.Lanes.{lane, HasLanes, AreLanes, Fit32, Fit64}
 use Rattle.mp_tiles.specs.Levels.{raised, level, IsBetween, IsLevel, AreNarrow, sum_at, AreSixteenSums, AreSteps}
+use Rattle.mp_tiles.specs.Scales.{AreScaled}
 use Rattle.mp_tiles.proofs.SumLemmas.{total_zero, total_more, total_on}
 
 -- ---- levels
@@ -420,3 +422,17 @@ limits_less x y m r i j sums z h k least fits = record {
 pub above_sums : (x y : ℕ → ℤ) (m i j : ℕ) (sums : List ℤ) (z : ℕ → ℤ) → AreSixteenSums x y m i j sums
     → ((t : ℕ) → t < 16 → z t <ℤ lane sums t) → (t : ℕ) → t < 16 → z t <ℤ pos (sum_at x y m i (j + t))
 above_sums x y m i j sums z k h t lt = subst (λ s. z t <ℤ s) (k.each t lt) (h t lt)
+
+-- ---- scales
+
+-- the same series and length, otherwise named
+pub scaled_as : (scale : Option Scale) (a a' b b' : List Sample) (m m' : ℕ) → a' ≡ a → b' ≡ b → m ≡ m'
+    → AreScaled scale (series_of a) (series_of b) m → AreScaled scale (series_of a') (series_of b') m'
+scaled_as scale a a' b b' m m' e f g h =
+    subst (λ n. AreScaled scale (series_of a') (series_of b') n) g
+    (subst (λ (x : List Sample). AreScaled scale (series_of x) (series_of b') m) (sym e)
+    (subst (λ (x : List Sample). AreScaled scale (series_of a) (series_of x) m) (sym f) h))
+
+pub scaled_turned : (scale : Option Scale) (a b : Series) (m : ℕ) → AreScaled scale a b m → AreScaled scale b a m
+scaled_turned scale a b m h s e =
+    let n = h s e in record { rows = n.columns; columns = n.rows; narrow = n.narrow; sums_fit = n.sums_fit }

@@ -9,6 +9,7 @@ pub mod LaneLemmas
 pub mod LevelLemmas
 pub mod BlockSums
 pub mod LimitLemmas
+pub mod LoweringLemmas
 pub mod ProfileLaws
 pub mod JoinLaws
 pub mod PatchedTiles

@@ -1,9 +1,8 @@
 -- Pairs that limits let through, and pairs that they don't.
-use Rattle.std.proofs.Common.{◌≡◌, ℕ, zero, suc, ◌+◌, ◌-◌, ◌^◌, ◌<◌, ◌≤◌, ◌⊎◌, min, inl, inr, List, length, set, Bool}
+use Rattle.std.proofs.Common.{◌≡◌, ℕ, zero, suc, ◌+◌, ◌-◌, ◌^◌, ◌<◌, ◌≤◌, ◌⊎◌, min, List, length, set, Bool}
 use Rattle.std.proofs.Common.{true, false, refl, sym, ap, ◌∙◌, arith, subst, below_more, w64, to_z, of_z, FitsSigned, ℤ}
 use Rattle.std.proofs.Common.{pos, ◌-ℤ◌}
 use Rattle.std.specs.Prelude.{Option, Some, None, negsuc, ◌≤ℤ◌, ◌<ℤ◌, ◌==◌, ◌||◌, unsigned_abs, if◌then◌else◌}
-use Rattle.std.proofs.lemmas.Bool.{cases_eq}
 use Rattle.std.proofs.lemmas.Bool.Decides.{nat_tests}
 use Rattle.std.proofs.lemmas.Int.{ints, to_z-of_z}
 use Rattle.std.proofs.lemmas.List.{length-set, get_or-set_same, get_or-set_other}
@@ -11,17 +10,15 @@ use Rattle.mp_defs.specs.Series.{Series, number_at}
 use Rattle.mp_defs.specs.Distance.{square_gap, square_between, plus, distance}
 use Rattle.mp_defs.specs.DistanceLaws.{grows_by_one_sample}
 use Rattle.mp_defs.specs.Profile.{windows_of}
-use Rattle.mp_tiles.specs.declared.blocks.Block.{Block}
 use Rattle.mp_tiles.specs.Sums.{gap, total, gaps_from}
 use Rattle.mp_tiles.specs.Pairs.{only}
 use Rattle.mp_tiles.specs.Scanning.{on_diagonals, in_block}
 use Rattle.mp_tiles.specs.Lanes.{lane}
 use Rattle.mp_tiles.specs.Levels.{raised, level, sum_at}
-use Rattle.mp_tiles.specs.Limits.{has_no_gap, IsReach, IsMark, IsLimit, AreLimits, IsLimiting}
-use Rattle.mp_tiles.specs.Blocks.{rows_of, columns_of, length_in, sum_in, AreBounds, AreQuiet, AreLimitsIn, in_row}
+use Rattle.mp_tiles.specs.Limits.{has_no_gap, IsReach, IsMark, IsLimit, AreLimits}
+use Rattle.mp_tiles.specs.Blocks.{AreBounds, in_row}
 use Rattle.mp_tiles.proofs.SumLemmas.{total_zero, total_more, gaps_at, where_none, plus_none, not_none, same_test}
 use Rattle.mp_tiles.proofs.SumLemmas.{more_test, both_there, gaps_of_both}
-use Rattle.mp_tiles.proofs.LevelLemmas.{sum_below}
 
 -- ---- the distance by its sum
 
@@ -106,83 +103,23 @@ of_whole low m a i b j d lt lt' e =
 
 -- ---- limits
 
-pub passing_is_whole : (whole : Bool) (keeps : ℕ → Type 0) (limit : ℤ) → IsLimit whole keeps limit → pos 0 ≤ℤ limit
+pub passing_is_whole : (whole : Bool) (keeps : ℕ → ℕ → Type 0) (limit : ℤ) → IsLimit whole keeps limit → pos 0 ≤ℤ limit
     → whole ≡ true
 passing_is_whole true keeps limit h le = refl
 passing_is_whole false keeps limit h le = absurd (omega (arith, ints, h.shut refl, le))
 
-limit_is_least : (whole : Bool) (keeps : ℕ → Type 0) (limit : ℤ) → IsLimit whole keeps limit → negsuc 0 ≤ℤ limit
+limit_is_least : (whole : Bool) (keeps : ℕ → ℕ → Type 0) (limit : ℤ) → IsLimit whole keeps limit → negsuc 0 ≤ℤ limit
 limit_is_least true keeps limit h = omega (arith, ints, h.least refl)
 limit_is_least false keeps limit h = omega (arith, ints, h.shut refl)
 
-pub limits_are_bounds : (m : ℕ) (a : Series) (first : ℕ) (keeps : ℕ → ℕ → Type 0) (limits : List ℤ)
+pub limits_are_bounds : (m : ℕ) (a : Series) (first : ℕ) (keeps : ℕ → ℕ → ℕ → Type 0) (limits : List ℤ)
     → AreLimits m a first keeps limits → AreBounds limits
 limits_are_bounds m a first keeps limits h = record {
   least = λ q lt. limit_is_least (has_no_gap m a (first + q)) (keeps (first + q)) (lane limits q) (h.each q lt);
   fit = λ q lt. (h.each q lt).fits;
 }
 
-limits_keep : (m : ℕ) (a : Series) (first : ℕ) (keeps keeps' : ℕ → ℕ → Type 0) (limits : List ℤ)
-    → ((i d : ℕ) → i < windows_of m a → keeps i d → keeps' i d) → AreLimits m a first keeps limits
-    → AreLimits m a first keeps' limits
-limits_keep m a first keeps keeps' limits stay h = record {
-  each = λ k lt.
-      let here = h.each k lt in
-      record {
-        shut = here.shut;
-        least = here.least;
-        quiet = λ d whole less small.
-            stay (first + k) d (whole_within m a (first + k) whole) (here.quiet d whole less small);
-        fits = here.fits;
-      };
-}
-
--- a limit that is lowered
-pub limit_lowered : (m : ℕ) (a : Series) (first : ℕ) (keeps : ℕ → ℕ → Type 0) (limits : List ℤ) (p : ℕ) (z : ℤ) (s : ℕ)
-    → AreLimits m a first keeps limits → p < length limits → has_no_gap m a (first + p) ≡ true → s < 2 ^ 63
-    → ((d : ℕ) → s < d → keeps (first + p) d) → (z ≡ lane limits p) ⊎ (z ≡ pos s)
-    → AreLimits m a first keeps (set limits p z)
-limit_lowered m a first keeps limits p z s h lt whole small closes one = record {
-  each = λ k below. elim (cases_eq k p) [
-    | inl same ↦ subst (λ q. IsLimit (has_no_gap m a (first + q)) (keeps (first + q)) (lane (set limits p z) q)) (sym
-        same)
-        (subst (λ y. IsLimit (has_no_gap m a (first + p)) (keeps (first + p)) y)
-        (sym (get_or-set_same limits p z (pos 0) lt)) (elim one [
-          | inl old ↦ subst (λ y. IsLimit (has_no_gap m a (first + p)) (keeps (first + p)) y) (sym old) (h.each p lt)
-          | inr new ↦ subst (λ y. IsLimit (has_no_gap m a (first + p)) (keeps (first + p)) y) (sym new) (record {
-            shut = λ e. absurd (cc);
-            least = λ e. omega (arith, ints);
-            quiet = λ d e less below. closes d (omega (arith, ints, less));
-            fits = record { sfits = small };
-          })
-        ]))
-    | inr other ↦ subst (λ y. IsLimit (has_no_gap m a (first + k)) (keeps (first + k)) y)
-        (sym (get_or-set_other limits p k z (pos 0) other)) (h.each k (omega (arith, below, length-set limits p z)))
-  ];
-}
-
-pub lowered_here : (limits : List ℤ) (p : ℕ) (z y : ℤ) → p < length limits → z ≤ℤ y → lane (set limits p z) p ≤ℤ y
-lowered_here limits p z y lt le = subst (λ x. x ≤ℤ y) (sym (get_or-set_same limits p z (pos 0) lt)) le
-
 -- ---- pairs of a strip
-
-record InStrip (row k from end width i j : ℕ) : Type 0 where
-  first : row + from ≤ i
-  last : i < row + end
-  left : i + k ≤ j
-  right : j < i + k + width
-
-in_strip : (row k from end width i j : ℕ) → in_block k (k + width) (row + from) (row + end) i j ≡ true
-    → InStrip row k from end width i j
-in_strip row k from end width i j e = record {
-  first = grind (arith, nat_tests);
-  last = grind (arith, nat_tests);
-  left = grind (arith, nat_tests);
-  right = grind (arith, nat_tests);
-}
-
-in_one : (i j r c : ℕ) → only i j r c ≡ true → (r ≡ i) × (c ≡ j)
-in_one i j r c e = (grind (arith, nat_tests), grind (arith, nat_tests))
 
 pub no_columns : (r c d x y : ℕ) → d ≤ c → in_row r c d x y ≡ false
 no_columns r c d x y le = grind (arith, nat_tests)
@@ -191,125 +128,12 @@ pub one_more_column : (r c d k k' x y : ℕ) → c ≤ d → k ≡ d → k' ≡ 
     → (in_row r c d x y || only r k x y) ≡ in_row r c k' x y
 one_more_column r c d k k' x y le e f = grind (arith, nat_tests)
 
-pub row_in_block : (i j p o w x y : ℕ) → i ≤ j + o
-    → in_row (i + p) (j + (p + o)) (j + (p + o) + w) x y ≡ in_block (j + o - i) (j + o - i + w) (i + p) (i + (p + 1)) x
-    y
-row_in_block i j p o w x y le = grind (arith, nat_tests)
+pub row_in_block : (p o w x y : ℕ) → in_row p (p + o) (p + o + w) x y ≡ in_block o (o + w) p (p + 1) x y
+row_in_block p o w x y = grind (arith, nat_tests)
 
 pub strip_next : (k end top u l x y : ℕ) → top ≤ u → u ≤ l
     → (in_block k end top u x y || in_block k end u l x y) ≡ in_block k end top l x y
 strip_next k end top u l x y le le' = grind (arith, nat_tests)
-
-module _ {Into : Type 0} {least : ℕ} {fits : ℕ → Series → Series → Into → Type 0}
-    {is_scanned : ℕ → Series → Series → (ℕ → ℕ → Bool) → Into → Into → Type 0}
-    {keeps_row keeps_column : Into → ℕ → ℕ → Type 0}
-    (laws : IsLimiting least fits is_scanned keeps_row keeps_column) where
-  -- limits hold on, whatever is offered
-  pub limits_stay : (block : Block) (pairs : ℕ → ℕ → Bool) (old new : Into) (rows columns : List ℤ)
-      → fits (length_in block) (rows_of block) (columns_of block) old
-      → is_scanned (length_in block) (rows_of block) (columns_of block) pairs old new
-      → AreLimitsIn block (keeps_row old) (keeps_column old) rows columns
-      → AreLimitsIn block (keeps_row new) (keeps_column new) rows columns
-  limits_stay block pairs old new rows columns h s limits =
-      let m = length_in block in
-      let a = rows_of block in
-      let b = columns_of block in
-      record {
-        row_places = limits.row_places;
-        column_places = limits.column_places;
-        of_rows = limits_keep m a block.row (keeps_row old) (keeps_row new) rows
-            (laws.row_stays m a b pairs old new h s) limits.of_rows;
-        of_columns = limits_keep m b block.column (keeps_column old) (keeps_column new) columns
-            (laws.column_stays m a b pairs old new h s) limits.of_columns;
-      }
-
-  -- what no limit lets through gives nothing
-  pub strip_is_quiet : (block : Block) (offset width from end : ℕ) (rows columns : List ℤ) (into : Into)
-      → width ≤ 16 → block.row + least ≤ block.column + offset → end ≤ length rows
-      → end + offset + 15 ≤ length columns
-      → fits (length_in block) (rows_of block) (columns_of block) into
-      → AreLimitsIn block (keeps_row into) (keeps_column into) rows columns
-      → AreQuiet block offset rows columns from end
-      → is_scanned (length_in block) (rows_of block) (columns_of block)
-      (in_block (block.column + offset - block.row) (block.column + offset - block.row + width) (block.row + from)
-      (block.row + end)) into into
-  strip_is_quiet block offset width from end rows columns into narrow apart le le' h limits quiet =
-      let m = length_in block in
-      let a = rows_of block in
-      let b = columns_of block in
-      let low = block.scale.low in
-      let k = block.column + offset - block.row in
-      laws.quiet m a b (in_block k (k + width) (block.row + from) (block.row + end)) into h
-      (λ i j is.
-      let w = in_strip block.row k from end width i j is in omega (arith, w.left, apart))
-      (λ i j d lt lt' is dist.
-      let w = in_strip block.row k from end width i j is in
-      let found = of_whole low m a i b j d lt lt' dist in
-      let p = i - block.row in
-      let t = j - (i + k) in
-      let c = p + offset + t in
-      let at_row : block.row + p ≡ i = omega (arith, w.first) in
-      let at_column : block.column + c ≡ j = omega (arith, w.left, w.first, apart) in
-      let after : from ≤ p = omega (arith, w.first) in
-      let before : p < end = omega (arith, w.last, w.first) in
-      let lane_is : t < 16 = omega (arith, w.left, w.right, narrow) in
-      let sum_is : sum_in block p c ≡ d =
-      ap (λ x. sum_at (level low a) (level low b) m x (block.column + c)) at_row
-      ∙ ap (sum_at (level low a) (level low b) m i) at_column ∙ sym found.is in
-      let small : d < 2 ^ 63 =
-      subst (λ n. n < 2 ^ 63) sum_is
-      (sum_below (level low a) (level low b) m block.scale.range (block.row + p) (block.column + c) block.narrow) in
-      let row = limits.of_rows.each p (omega (arith, before, le)) in
-      let column = limits.of_columns.each c (omega (arith, before, lane_is, le')) in
-      let row_whole : has_no_gap m a (block.row + p) ≡ true = ap (has_no_gap m a) at_row ∙ found.row in
-      let column_whole : has_no_gap m b (block.column + c) ≡ true = ap (has_no_gap m b) at_column ∙ found.column in
-      let passes : pos 0 ≤ℤ lane rows p = row.least row_whole in (
-        subst (λ x. keeps_row into x d) at_row (row.quiet d row_whole
-            (subst (λ n. lane rows p <ℤ pos n) sum_is (quiet.row p t after before lane_is passes)) small),
-        subst (λ x. keeps_column into x d) at_column (column.quiet d column_whole
-            (subst (λ n. lane columns c <ℤ pos n) sum_is (quiet.column p t after before lane_is passes)) small),
-      ))
-
-  -- the same of one pair
-  pub pair_is_quiet : (block : Block) (p q : ℕ) (rows columns : List ℤ) (into : Into) → p < length rows
-      → q < length columns → block.row + p + least ≤ block.column + q
-      → fits (length_in block) (rows_of block) (columns_of block) into
-      → AreLimitsIn block (keeps_row into) (keeps_column into) rows columns
-      → (pos 0 ≤ℤ lane rows p → pos 0 ≤ℤ lane columns q → lane rows p <ℤ pos (sum_in block p q))
-      → (pos 0 ≤ℤ lane rows p → pos 0 ≤ℤ lane columns q → lane columns q <ℤ pos (sum_in block p q))
-      → is_scanned (length_in block) (rows_of block) (columns_of block) (only (block.row + p) (block.column + q)) into
-      into
-  pair_is_quiet block p q rows columns into lt lt' apart h limits above_row above_column =
-      let m = length_in block in
-      let a = rows_of block in
-      let b = columns_of block in
-      let low = block.scale.low in
-      laws.quiet m a b (only (block.row + p) (block.column + q)) into h
-      (λ i j is.
-      let w = in_one (block.row + p) (block.column + q) i j is in omega (arith, w.0, w.1, apart))
-      (λ i j d below below' is dist.
-      let w = in_one (block.row + p) (block.column + q) i j is in
-      let found = of_whole low m a i b j d below below' dist in
-      let at_row : block.row + p ≡ i = sym w.0 in
-      let at_column : block.column + q ≡ j = sym w.1 in
-      let sum_is : sum_in block p q ≡ d =
-      ap (λ x. sum_at (level low a) (level low b) m x (block.column + q)) at_row
-      ∙ ap (sum_at (level low a) (level low b) m i) at_column ∙ sym found.is in
-      let small : d < 2 ^ 63 =
-      subst (λ n. n < 2 ^ 63) sum_is
-      (sum_below (level low a) (level low b) m block.scale.range (block.row + p) (block.column + q) block.narrow) in
-      let row = limits.of_rows.each p lt in
-      let column = limits.of_columns.each q lt' in
-      let row_whole : has_no_gap m a (block.row + p) ≡ true = ap (has_no_gap m a) at_row ∙ found.row in
-      let column_whole : has_no_gap m b (block.column + q) ≡ true = ap (has_no_gap m b) at_column ∙ found.column in
-      let passes : pos 0 ≤ℤ lane rows p = row.least row_whole in
-      let passes' : pos 0 ≤ℤ lane columns q = column.least column_whole in (
-        subst (λ x. keeps_row into x d) at_row
-            (row.quiet d row_whole (subst (λ n. lane rows p <ℤ pos n) sum_is (above_row passes passes')) small),
-        subst (λ x. keeps_column into x d) at_column
-            (column.quiet d column_whole (subst (λ n. lane columns q <ℤ pos n) sum_is (above_column passes passes'))
-            small),
-      ))
 
 -- ---- what was offered
 
@@ -317,10 +141,6 @@ pub found_is : (z : ℤ) (n k s : ℕ) → s < 2 ^ 63 → z ≡ pos s → n ≡ 
 found_is z n k s small e f g =
     let fits : FitsSigned w64 z = subst (FitsSigned w64) (sym e) (record { sfits = small }) in
     sym (g ∙ f ∙ ap unsigned_abs (to_z-of_z w64 z fits) ∙ ap unsigned_abs e)
-
-pub lowered_to : (new old z : ℤ) (s : ℕ) → z ≡ pos s → (new ≡ old) ⊎ (new ≡ z) → (new ≡ old) ⊎ (new ≡ pos s)
-lowered_to new old z s e (inl same) = inl same
-lowered_to new old z s e (inr lowered) = inr (lowered ∙ e)
 
 -- ---- marks of windows
 
@@ -361,54 +181,49 @@ marks_left P v n z left q le lt =
     (left q (omega (arith, le)) (omega (arith, lt, length-set v n z)))
 
 -- a mark that is raised to a limit
-pub raised_limit : (whole : Bool) (keeps : ℕ → Type 0) (mark limit : ℤ) → IsMark whole mark → pos 0 ≤ℤ mark
+pub raised_limit : (whole : Bool) (keeps : ℕ → ℕ → Type 0) (mark limit : ℤ) → IsMark whole mark → pos 0 ≤ℤ mark
     → IsReach keeps limit → IsLimit whole keeps limit
 raised_limit true keeps mark limit h le reach = record {
   shut = λ e. absurd (cc);
   least = λ e. reach.least;
-  quiet = λ d e less small. reach.quiet d less small;
+  quiet = λ j d e less small. reach.quiet j d less small;
   fits = reach.fits;
 }
 raised_limit false keeps mark limit h le reach = absurd (omega (arith, ints, h.shut refl, le))
 
 -- and one that stays
-pub shut_limit : (whole : Bool) (keeps : ℕ → Type 0) (mark : ℤ) → IsMark whole mark → mark <ℤ pos 0
+pub shut_limit : (whole : Bool) (keeps : ℕ → ℕ → Type 0) (mark : ℤ) → IsMark whole mark → mark <ℤ pos 0
     → IsLimit whole keeps mark
 shut_limit true keeps mark h lt = absurd (omega (arith, ints, h.passes refl, lt))
 shut_limit false keeps mark h lt = record {
   shut = λ e. h.shut refl;
   least = λ e. absurd (cc);
-  quiet = λ d e less small. absurd (cc);
+  quiet = λ j d e less small. absurd (cc);
   fits = subst (FitsSigned w64) (sym (h.shut refl)) (record { sfits = omega arith });
 }
 
 -- ---- strips of a block
 
 -- past the last window a strip has no pairs
-pub strip_cut : (row column o w n wb end i j : ℕ) → row ≤ column + o → end ≡ min n (wb - (column + o)) → j < wb
-    → in_block (column + o - row) (column + o - row + w) row (row + end) i j
-    ≡ in_block (column + o - row) (column + o - row + w) row (row + n) i j
-strip_cut row column o w n wb end i j le e lt = grind (arith, nat_tests)
+pub strip_cut : (column o w n wb end r c : ℕ) → end ≡ min n (wb - (column + o)) → column + c < wb
+    → in_block o (o + w) 0 end r c ≡ in_block o (o + w) 0 n r c
+strip_cut column o w n wb end r c e lt = grind (arith, nat_tests)
 
-pub strip_past : (row column o w n wb i j : ℕ) → row ≤ column + o → wb ≤ column + o → j < wb
-    → in_block (column + o - row) (column + o - row + w) row row i j
-    ≡ in_block (column + o - row) (column + o - row + w) row (row + n) i j
-strip_past row column o w n wb i j le past lt = grind (arith, nat_tests)
+pub strip_past : (column o w n wb r c : ℕ) → wb ≤ column + o → column + c < wb → in_block o (o + w) 0 n r c ≡ false
+strip_past column o w n wb r c past lt = grind (arith, nat_tests)
 
 pub no_block : (first end top bottom i j : ℕ) → bottom ≤ top → in_block first end top bottom i j ≡ false
 no_block first end top bottom i j le = grind (arith, nat_tests)
 
 -- one strip more
-pub strips_next : (row column o w width next top bottom i j : ℕ) → row ≤ column → o < width → w ≡ min (width - o) 16
-    → next ≡ o + 16
-    → (in_block (column - row) (column - row + min o width) top bottom i j
-    || in_block (column + o - row) (column + o - row + w) top bottom i j)
-    ≡ in_block (column - row) (column - row + min next width) top bottom i j
-strips_next row column o w width next top bottom i j le lt e f = grind (arith, nat_tests)
+pub strips_next : (o w width next top bottom r c : ℕ) → o < width → w ≡ min (width - o) 16 → next ≡ o + 16
+    → (in_block 0 (min o width) top bottom r c || in_block o (o + w) top bottom r c)
+    ≡ in_block 0 (min next width) top bottom r c
+strips_next o w width next top bottom r c lt e f = grind (arith, nat_tests)
 
-pub all_strips : (d width o top bottom i j : ℕ) → width ≤ o
-    → in_block d (d + min o width) top bottom i j ≡ in_block d (d + width) top bottom i j
-all_strips d width o top bottom i j le = grind (arith, nat_tests)
+pub all_strips : (width o top bottom r c : ℕ) → width ≤ o
+    → in_block 0 (min o width) top bottom r c ≡ in_block 0 width top bottom r c
+all_strips width o top bottom r c le = grind (arith, nat_tests)
 
 -- rows from one on and before the next
 pub rows_next : (first end d e top u l next i j : ℕ) → d ≡ first → e ≡ end → top ≤ u → u ≤ l → next ≡ l
@@ -428,8 +243,8 @@ pub diagonals_done : (first end start top bottom i j : ℕ) → end ≤ start �
     → in_block first start top bottom i j ≡ in_block first end top bottom i j
 diagonals_done first end start top bottom i j le order = grind (arith, nat_tests)
 
-pub no_strips : (d width top bottom i j : ℕ) → in_block d (d + min 0 width) top bottom i j ≡ false
-no_strips d width top bottom i j = grind (arith, nat_tests)
+pub no_strips : (width top bottom r c : ℕ) → in_block 0 (min 0 width) top bottom r c ≡ false
+no_strips width top bottom r c = grind (arith, nat_tests)
 
 pub all_rows : (first end wa i j : ℕ) → i < wa → in_block first end 0 wa i j ≡ on_diagonals first end i j
 all_rows first end wa i j lt = grind (arith, nat_tests)

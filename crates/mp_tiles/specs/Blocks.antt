@@ -49,11 +49,12 @@ abbrev pub in_row : ℕ → ℕ → ℕ → ℕ → ℕ → Bool
 in_row r c d x y = (x == r) && (nat_le c y && nat_lt y d)
 
 -- the limits of a block's rows and of its columns
-pub record AreLimitsIn (block : Block) (keeps_row keeps_column : ℕ → ℕ → Type 0) (rows columns : List ℤ) : Type 0 where
-  pub row_places : length rows ≡ length block.rows.e.now
-  pub column_places : length columns ≡ length block.columns.e.now
-  pub of_rows : AreLimits (length_in block) (rows_of block) block.row keeps_row rows
-  pub of_columns : AreLimits (length_in block) (columns_of block) block.column keeps_column columns
+pub record AreLimitsIn (block : Block) (keeps_row keeps_column : ℕ → ℕ → ℕ → Type 0) (rows columns : List ℤ) : Type 0
+  where
+    pub row_places : length rows ≡ length block.rows.e.now
+    pub column_places : length columns ≡ length block.columns.e.now
+    pub of_rows : AreLimits (length_in block) (rows_of block) block.row keeps_row rows
+    pub of_columns : AreLimits (length_in block) (columns_of block) block.column keeps_column columns
 
 -- the sums of a row in strips of sixteen diagonals, whose first has the given column. A strip past the last window has
 -- none

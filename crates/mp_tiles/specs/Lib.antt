@@ -8,8 +8,10 @@ pub mod Among
 pub mod Scanning
 pub mod Lanes
 pub mod Levels
+pub mod Scales
 pub mod Limits
 pub mod Blocks
+pub mod Lowering
 pub mod Offering
 pub mod TakenLaws
 pub mod OfferingLaws

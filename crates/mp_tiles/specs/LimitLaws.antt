@@ -25,22 +25,32 @@ use Rattle.mp_tiles.specs.Scanning.{IsScanned}
 use Rattle.mp_tiles.specs.TakenLaws.{HasTaken, as_long}
 use Rattle.mp_tiles.specs.OfferingLaws.{fits_each, is_scanned_each, fits_rows, is_scanned_rows, fits_columns, turned}
 use Rattle.mp_tiles.specs.OfferingLaws.{is_scanned_columns}
-use Rattle.mp_tiles.specs.Limits.{Covers, IsLimiting}
+use Rattle.mp_tiles.specs.Limits.{Covers, ComesFirst, IsLimiting}
 
 -- ---- one slot
 
-pub covers_more : (s x : Option Near) (d : ℕ) → Covers s d → Covers (nearer_of s x) d
-covers_more s x d h j =
+pub covers_more : (s x : Option Near) (j d : ℕ) → Covers s j d → Covers (nearer_of s x) j d
+covers_more s x j d h =
     let c : Option Near = Some (near_at j d) in
     nearer_associates s x c ∙ ap (nearer_of s) (nearer_commutes x c) ∙ sym (nearer_associates s c x)
-    ∙ ap (λ y. nearer_of y x) (h j)
+    ∙ ap (λ y. nearer_of y x) h
 
-comes_first : (k e j d : ℕ) → e < d → nearer_of (Some (near_at k e)) (Some (near_at j d)) ≡ Some (near_at k e)
-comes_first k e j d lt = grind (arith, nat_tests)
+is_nearer : (k e j d : ℕ) → e < d → nearer_of (Some (near_at k e)) (Some (near_at j d)) ≡ Some (near_at k e)
+is_nearer k e j d lt = grind (arith, nat_tests)
 
-pub covers_found : (s : Option Near) (k e d : ℕ) → e < d → Covers (nearer_of s (Some (near_at k e))) d
-covers_found s k e d lt j =
-    nearer_associates s (Some (near_at k e)) (Some (near_at j d)) ∙ ap (nearer_of s) (comes_first k e j d lt)
+is_earlier : (k j d : ℕ) → k ≤ j → nearer_of (Some (near_at k d)) (Some (near_at j d)) ≡ Some (near_at k d)
+is_earlier k j d le = grind (arith, nat_tests)
+
+comes_first : (k e j d : ℕ) → ComesFirst e k d j
+    → nearer_of (Some (near_at k e)) (Some (near_at j d)) ≡ Some (near_at k e)
+comes_first k e j d (inl lt) = is_nearer k e j d lt
+comes_first k e j d (inr (same, le)) =
+    subst (λ x. nearer_of (Some (near_at k x)) (Some (near_at j d)) ≡ Some (near_at k x)) (sym same)
+    (is_earlier k j d le)
+
+pub covers_found : (s : Option Near) (k e j d : ℕ) → ComesFirst e k d j → Covers (nearer_of s (Some (near_at k e))) j d
+covers_found s k e j d first =
+    nearer_associates s (Some (near_at k e)) (Some (near_at j d)) ∙ ap (nearer_of s) (comes_first k e j d first)
 
 near_quiet : (slot : Option Near) (c : ℕ → Option Near) (n : ℕ) → ((j : ℕ) → j < n → nearer_of slot (c j) ≡ slot)
     → nearer_of slot (near c n) ≡ slot
@@ -52,14 +62,14 @@ near_quiet slot c (suc n) h =
     ∙ ap (λ s. nearer_of s (c n)) (near_quiet slot c n (λ j lt. h j (omega (arith, lt)))) ∙ h n (omega arith))
 
 by_test : (t : Bool) (j : ℕ) (dist : Option ℕ) (slot : Option Near)
-    → ((d : ℕ) → t ≡ true → dist ≡ Some d → Covers slot d)
+    → ((d : ℕ) → t ≡ true → dist ≡ Some d → Covers slot j d)
     → nearer_of slot (if t then at_distance j dist else None) ≡ slot
 by_test true j None slot h = (nearer_with_none slot).1
-by_test true j (Some d) slot h = h d refl refl j
+by_test true j (Some d) slot h = h d refl refl
 by_test false j dist slot h = (nearer_with_none slot).1
 
 pub nearest_quiet : (slot : Option Near) (p : ℕ → Bool) (m : ℕ) (a : Series) (i : ℕ) (b : Series)
-    → ((j d : ℕ) → j < windows_of m b → p j ≡ true → distance m a i b j ≡ Some d → Covers slot d)
+    → ((j d : ℕ) → j < windows_of m b → p j ≡ true → distance m a i b j ≡ Some d → Covers slot j d)
     → nearer_of slot (nearest m p a i b) ≡ slot
 nearest_quiet slot p m a i b h =
     near_quiet slot (candidate p (λ j. distance m a i b j)) (windows_of m b)
@@ -79,7 +89,7 @@ at_taken p m a b old new i l lt h =
 
 taken_quiet : (p : ℕ → ℕ → Bool) (m : ℕ) (a b : Series) (old : Column) → length old ≡ windows_of m a
     → ((i j d : ℕ) → i < windows_of m a → j < windows_of m b → p i j ≡ true → distance m a i b j ≡ Some d
-    → Covers (get_or old i None) d)
+    → Covers (get_or old i None) j d)
     → HasTaken p m a b old old
 taken_quiet p m a b old l h =
     let f : ℕ → Option Near = λ x. nearest m (p x) a x b in
@@ -92,20 +102,21 @@ taken_quiet p m a b old l h =
     ∙ ap (nearer_of (get_or old k None)) (columns_have_places.at_place f (windows_of m a) k below)
     ∙ nearest_quiet (get_or old k None) (p k) m a k b (λ j d lt is found. h k j d below lt is found)))
 
-taken_stays : (p : ℕ → ℕ → Bool) (m : ℕ) (a b : Series) (old new : Column) (i d : ℕ) → length old ≡ windows_of m a
-    → i < windows_of m a → HasTaken p m a b old new → Covers (get_or old i None) d → Covers (get_or new i None) d
-taken_stays p m a b old new i d l lt h covers =
-    subst (λ s. Covers s d) (sym (at_taken p m a b old new i l lt h))
-    (covers_more (get_or old i None) (nearest m (p i) a i b) d covers)
+taken_stays : (p : ℕ → ℕ → Bool) (m : ℕ) (a b : Series) (old new : Column) (i j d : ℕ) → length old ≡ windows_of m a
+    → i < windows_of m a → HasTaken p m a b old new → Covers (get_or old i None) j d → Covers (get_or new i None) j d
+taken_stays p m a b old new i j d l lt h covers =
+    subst (λ s. Covers s j d) (sym (at_taken p m a b old new i l lt h))
+    (covers_more (get_or old i None) (nearest m (p i) a i b) j d covers)
 
-taken_closes : (p : ℕ → ℕ → Bool) (m : ℕ) (a b : Series) (old new : Column) (i j s d : ℕ) → length old ≡ windows_of m a
-    → i < windows_of m a → j < windows_of m b → HasTaken p m a b old new → p i j ≡ true
-    → ((c : ℕ) → c ≢ j → p i c ≡ false) → distance m a i b j ≡ Some s → s < d → Covers (get_or new i None) d
-taken_closes p m a b old new i j s d l lt lt' h here other dist less =
+taken_closes : (p : ℕ → ℕ → Bool) (m : ℕ) (a b : Series) (old new : Column) (i j s c d : ℕ)
+    → length old ≡ windows_of m a → i < windows_of m a → j < windows_of m b → HasTaken p m a b old new → p i j ≡ true
+    → ((c : ℕ) → c ≢ j → p i c ≡ false) → distance m a i b j ≡ Some s → ComesFirst s j d c
+    → Covers (get_or new i None) c d
+taken_closes p m a b old new i j s c d l lt lt' h here other dist first =
     let found : nearest m (p i) a i b ≡ Some (near_at j s) =
     nearest_by_choice.only m (p i) a i b j lt' here other ∙ ap (at_distance j) dist in
-    subst (λ x. Covers x d) (sym (at_taken p m a b old new i l lt h ∙ ap (nearer_of (get_or old i None)) found))
-    (covers_found (get_or old i None) j s d less)
+    subst (λ x. Covers x c d) (sym (at_taken p m a b old new i l lt h ∙ ap (nearer_of (get_or old i None)) found))
+    (covers_found (get_or old i None) j s c d first)
 
 -- ---- tests
 
@@ -157,16 +168,16 @@ false_and s t e = ap (λ x. x && t) e
 -- ---- each of two windows of a series to the other
 
 -- the row's later windows and the column's earlier ones, and what they have of both
-abbrev pub keeps_row_each : Profiled → ℕ → ℕ → Type 0
-keeps_row_each p i d = Covers (get_or p.right i None) d × Covers (get_or p.all i None) d
+abbrev pub keeps_row_each : Profiled → ℕ → ℕ → ℕ → Type 0
+keeps_row_each p i j d = Covers (get_or p.right i None) j d × Covers (get_or p.all i None) j d
 
-abbrev pub keeps_column_each : Profiled → ℕ → ℕ → Type 0
-keeps_column_each p j d = Covers (get_or p.left j None) d × Covers (get_or p.all j None) d
+abbrev pub keeps_column_each : Profiled → ℕ → ℕ → ℕ → Type 0
+keeps_column_each p j i d = Covers (get_or p.left j None) i d × Covers (get_or p.all j None) i d
 
 -- what is known of pairs that give nothing
 abbrev GiveNothing : ℕ → Series → (ℕ → ℕ → Bool) → Profiled → Type 0
 GiveNothing m a pairs p = (i j d : ℕ) → i < windows_of m a → j < windows_of m a → pairs i j ≡ true
-    → distance m a i a j ≡ Some d → keeps_row_each p i d × keeps_column_each p j d
+    → distance m a i a j ≡ Some d → keeps_row_each p i j d × keeps_column_each p j i d
 
 each_quiet : (m : ℕ) (a b : Series) (pairs : ℕ → ℕ → Bool) (p : Profiled) → fits_each m a b p
     → ((i j : ℕ) → pairs i j ≡ true → i + 1 ≤ j) → GiveNothing m a pairs p → IsScanned pairs m a p p
@@ -200,49 +211,50 @@ each_limits = record {
       each_quiet m a b pairs p h order
       (λ i j d lt lt' is dist. q i j d lt (omega (arith, lt', wide)) is
       (subst (λ (x : Series). distance m a i x j ≡ Some d) h.1 dist));
-  row_stays = λ m a b pairs old new h s i d lt k. (
-    taken_stays (λ i j. either_way pairs i j && nat_lt i j) m a a old.right new.right i d h.0.right lt s.right k.0,
-    taken_stays (either_way pairs) m a a old.all new.all i d h.0.all lt s.all k.1,
+  row_stays = λ m a b pairs old new h s i j d lt k. (
+    taken_stays (λ i j. either_way pairs i j && nat_lt i j) m a a old.right new.right i j d h.0.right lt s.right k.0,
+    taken_stays (either_way pairs) m a a old.all new.all i j d h.0.all lt s.all k.1,
   );
-  column_stays = λ m a b pairs old new h s j d lt k.
+  column_stays = λ m a b pairs old new h s j i d lt k.
       let wide : windows_of m a ≡ windows_of m b = ap (windows_of m) h.1 in
       let within : j < windows_of m a = omega (arith, lt, wide) in (
-        taken_stays (λ i j. either_way pairs i j && nat_lt j i) m a a old.left new.left j d h.0.left within s.left k.0,
-        taken_stays (either_way pairs) m a a old.all new.all j d h.0.all within s.all k.1,
+        taken_stays (λ i j. either_way pairs i j && nat_lt j i) m a a old.left new.left j i d h.0.left within s.left
+            k.0,
+        taken_stays (either_way pairs) m a a old.all new.all j i d h.0.all within s.all k.1,
       );
-  row_closes = λ m a b i j e old new h lt lt' apart dist s d less.
+  row_closes = λ m a b i j e old new h lt lt' apart dist s k d first.
       let wide : windows_of m a ≡ windows_of m b = ap (windows_of m) h.1 in
       let order : i < j = omega (arith, apart) in
       let within : j < windows_of m a = omega (arith, lt', wide) in
       let here : distance m a i a j ≡ Some e = subst (λ (x : Series). distance m a i x j ≡ Some e) (sym h.1) dist in (
-        taken_closes (λ r c. either_way (only i j) r c && nat_lt r c) m a a old.right new.right i j e d h.0.right lt
+        taken_closes (λ r c. either_way (only i j) r c && nat_lt r c) m a a old.right new.right i j e k d h.0.right lt
             within s.right (right_pair i j order)
-            (λ c ne. false_and (either_way (only i j) i c) (nat_lt i c) (no_row_pair i j c order ne)) here less,
-        taken_closes (either_way (only i j)) m a a old.all new.all i j e d h.0.all lt within s.all (row_pair i j order)
-            (λ c ne. no_row_pair i j c order ne) here less,
+            (λ c ne. false_and (either_way (only i j) i c) (nat_lt i c) (no_row_pair i j c order ne)) here first,
+        taken_closes (either_way (only i j)) m a a old.all new.all i j e k d h.0.all lt within s.all
+            (row_pair i j order) (λ c ne. no_row_pair i j c order ne) here first,
       );
-  column_closes = λ m a b i j e old new h lt lt' apart dist s d less.
+  column_closes = λ m a b i j e old new h lt lt' apart dist s k d first.
       let wide : windows_of m a ≡ windows_of m b = ap (windows_of m) h.1 in
       let order : i < j = omega (arith, apart) in
       let within : j < windows_of m a = omega (arith, lt', wide) in
       let here : distance m a i a j ≡ Some e = subst (λ (x : Series). distance m a i x j ≡ Some e) (sym h.1) dist in
       let back : distance m a j a i ≡ Some e = symmetric m a j a i ∙ here in (
-        taken_closes (λ r c. either_way (only i j) r c && nat_lt c r) m a a old.left new.left j i e d h.0.left within
+        taken_closes (λ r c. either_way (only i j) r c && nat_lt c r) m a a old.left new.left j i e k d h.0.left within
             lt s.left (left_pair i j order)
-            (λ c ne. false_and (either_way (only i j) j c) (nat_lt c j) (no_column_pair i j c order ne)) back less,
-        taken_closes (either_way (only i j)) m a a old.all new.all j i e d h.0.all within lt s.all
-            (column_pair i j order) (λ c ne. no_column_pair i j c order ne) back less,
+            (λ c ne. false_and (either_way (only i j) j c) (nat_lt c j) (no_column_pair i j c order ne)) back first,
+        taken_closes (either_way (only i j)) m a a old.all new.all j i e k d h.0.all within lt s.all
+            (column_pair i j order) (λ c ne. no_column_pair i j c order ne) back first,
       );
 }
 
 -- ---- the column to the row
 
-abbrev pub keeps_slot : Listed (Option Near) → ℕ → ℕ → Type 0
-keeps_slot slots i d = Covers (get_or slots.items i None) d
+abbrev pub keeps_slot : Listed (Option Near) → ℕ → ℕ → ℕ → Type 0
+keeps_slot slots i j d = Covers (get_or slots.items i None) j d
 
 -- where nothing is offered
-abbrev pub keeps_all : Listed (Option Near) → ℕ → ℕ → Type 0
-keeps_all slots i d = ⊤
+abbrev pub keeps_all : Listed (Option Near) → ℕ → ℕ → ℕ → Type 0
+keeps_all slots i j d = ⊤
 
 pub row_limits : IsLimiting 0 fits_rows is_scanned_rows keeps_slot keeps_all
 row_limits = record {
@@ -250,12 +262,12 @@ row_limits = record {
     items = taken_quiet pairs m a b slots.items h (λ i j d lt lt' is dist. (q i j d lt lt' is dist).0);
     spare = refl;
   };
-  row_stays = λ m a b pairs old new h s i d lt k. taken_stays pairs m a b old.items new.items i d h lt s.items k;
-  column_stays = λ m a b pairs old new h s j d lt k. tt;
-  row_closes = λ m a b i j e old new h lt lt' apart dist s d less.
-      taken_closes (only i j) m a b old.items new.items i j e d h lt lt' s.items (pair_is i j)
-      (λ c ne. no_other_column i j c ne) dist less;
-  column_closes = λ m a b i j e old new h lt lt' apart dist s d less. tt;
+  row_stays = λ m a b pairs old new h s i j d lt k. taken_stays pairs m a b old.items new.items i j d h lt s.items k;
+  column_stays = λ m a b pairs old new h s j i d lt k. tt;
+  row_closes = λ m a b i j e old new h lt lt' apart dist s k d first.
+      taken_closes (only i j) m a b old.items new.items i j e k d h lt lt' s.items (pair_is i j)
+      (λ c ne. no_other_column i j c ne) dist first;
+  column_closes = λ m a b i j e old new h lt lt' apart dist s k d first. tt;
 }
 
 -- ---- the row to the column
@@ -267,11 +279,11 @@ column_limits = record {
         (λ j i d lt lt' is dist. (q i j d lt' lt is (symmetric m a i b j ∙ dist)).1);
     spare = refl;
   };
-  row_stays = λ m a b pairs old new h s i d lt k. tt;
-  column_stays = λ m a b pairs old new h s j d lt k.
-      taken_stays (turned pairs) m b a old.items new.items j d h lt s.items k;
-  row_closes = λ m a b i j e old new h lt lt' apart dist s d less. tt;
-  column_closes = λ m a b i j e old new h lt lt' apart dist s d less.
-      taken_closes (turned (only i j)) m b a old.items new.items j i e d h lt' lt s.items (pair_is i j)
-      (λ r ne. no_other_row i j r ne) (symmetric m b j a i ∙ dist) less;
+  row_stays = λ m a b pairs old new h s i j d lt k. tt;
+  column_stays = λ m a b pairs old new h s j i d lt k.
+      taken_stays (turned pairs) m b a old.items new.items j i d h lt s.items k;
+  row_closes = λ m a b i j e old new h lt lt' apart dist s k d first. tt;
+  column_closes = λ m a b i j e old new h lt lt' apart dist s k d first.
+      taken_closes (turned (only i j)) m b a old.items new.items j i e k d h lt' lt s.items (pair_is i j)
+      (λ r ne. no_other_row i j r ne) (symmetric m b j a i ∙ dist) first;
 }

@@ -24,7 +24,7 @@ use Rattle.mp_tiles.specs.Pairs.{only}
 use Rattle.mp_tiles.specs.Among.{either_way}
 use Rattle.mp_tiles.specs.Scanning.{taken}
 use Rattle.mp_tiles.specs.Offering.{IsOffering}
-use Rattle.mp_tiles.specs.Limits.{Covers, IsLimiting}
+use Rattle.mp_tiles.specs.Limits.{Covers, ComesFirst, IsLimiting}
 use Rattle.mp_tiles.specs.TakenLaws.{as_long}
 use Rattle.mp_tiles.specs.LimitLaws.{covers_more, covers_found, nearest_quiet, pair_is, no_other_column}
 use Rattle.mp_tiles.specs.PatchScanning.{HasTakenFrom, fits_patch, may_patch, is_scanned_patch, KeepsFrom}
@@ -73,7 +73,7 @@ are_taken p m a b first old new l h =
 
 taken_quiet : (p : ℕ → ℕ → Bool) (m : ℕ) (a b : Series) (first : ℕ) (old : Column)
     → ((i j d : ℕ) → first ≤ i → i < first + length old → i < windows_of m a → j < windows_of m b → p i j ≡ true
-    → distance m a i b j ≡ Some d → Covers (get_or old (i - first) None) d)
+    → distance m a i b j ≡ Some d → Covers (get_or old (i - first) None) j d)
     → HasTakenFrom p m a b first old old
 taken_quiet p m a b first old h =
     are_taken p m a b first old old refl
@@ -81,7 +81,7 @@ taken_quiet p m a b first old h =
       | inl below ↦ let here : first + k - first ≡ k = omega arith in
           sym (ap (nearer_of (get_or old k None)) (at_window p m a b (first + k) below)
           ∙ nearest_quiet (get_or old k None) (p (first + k)) m a (first + k) b
-          (λ j d within is found. subst (λ n. Covers (get_or old n None) d) here
+          (λ j d within is found. subst (λ n. Covers (get_or old n None) j d) here
           (h (first + k) j d (omega arith) (omega (arith, lt)) below within is found)))
       | inr behind ↦ sym (ap (nearer_of (get_or old k None)) (no_window p m a b (first + k) behind)
           ∙ (nearer_with_none (get_or old k None)).1)
@@ -237,29 +237,29 @@ patch_offers = record {
 
 -- ---- limits
 
-taken_stays : (p : ℕ → ℕ → Bool) (m : ℕ) (a b : Series) (first first' : ℕ) (old new : Column) (i d : ℕ)
-    → first' ≡ first → HasTakenFrom p m a b first old new → KeepsFrom first old i d → KeepsFrom first' new i d
-taken_stays p m a b first first' old new i d e h keeps le lt =
+taken_stays : (p : ℕ → ℕ → Bool) (m : ℕ) (a b : Series) (first first' : ℕ) (old new : Column) (i j d : ℕ)
+    → first' ≡ first → HasTakenFrom p m a b first old new → KeepsFrom first old i j d → KeepsFrom first' new i j d
+taken_stays p m a b first first' old new i j d e h keeps le lt =
     let l : length new ≡ length old = same_places p m a b first old new h in
     let same : i - first' ≡ i - first = omega (arith, e) in
-    subst (λ n. Covers (get_or new n None) d) (sym same)
-    (subst (λ s. Covers s d) (sym (at_taken p m a b first old new (i - first) (omega (arith, e, le, lt, l)) h))
-    (covers_more (get_or old (i - first) None) (get_or (nearest_column p m a b) (first + (i - first)) None) d
+    subst (λ n. Covers (get_or new n None) j d) (sym same)
+    (subst (λ s. Covers s j d) (sym (at_taken p m a b first old new (i - first) (omega (arith, e, le, lt, l)) h))
+    (covers_more (get_or old (i - first) None) (get_or (nearest_column p m a b) (first + (i - first)) None) j d
     (keeps (omega (arith, e, le)) (omega (arith, e, lt, l)))))
 
-taken_closes : (i j m : ℕ) (a b : Series) (first first' : ℕ) (old new : Column) (s d : ℕ) → first' ≡ first
-    → i < windows_of m a → j < windows_of m b → distance m a i b j ≡ Some s → s < d
-    → HasTakenFrom (only i j) m a b first old new → KeepsFrom first' new i d
-taken_closes i j m a b first first' old new s d e lt lt' is less h le within =
+taken_closes : (i j m : ℕ) (a b : Series) (first first' : ℕ) (old new : Column) (s c d : ℕ) → first' ≡ first
+    → i < windows_of m a → j < windows_of m b → distance m a i b j ≡ Some s → ComesFirst s j d c
+    → HasTakenFrom (only i j) m a b first old new → KeepsFrom first' new i c d
+taken_closes i j m a b first first' old new s c d e lt lt' is before h le within =
     let l : length new ≡ length old = same_places (only i j) m a b first old new h in
     let same : i - first' ≡ i - first = omega (arith, e) in
     let back : first + (i - first) ≡ i = omega (arith, e, le) in
-    subst (λ n. Covers (get_or new n None) d) (sym same)
-    (subst (λ x. Covers x d)
+    subst (λ n. Covers (get_or new n None) c d) (sym same)
+    (subst (λ x. Covers x c d)
     (sym (at_taken (only i j) m a b first old new (i - first) (omega (arith, e, le, within, l)) h
     ∙ ap (nearer_of (get_or old (i - first) None)) (ap (λ n. get_or (nearest_column (only i j) m a b) n None) back
     ∙ only_here i j m a b s lt lt' is)))
-    (covers_found (get_or old (i - first) None) j s d less))
+    (covers_found (get_or old (i - first) None) j s c d before))
 
 pub patch_limits : IsLimiting 0 fits_patch is_scanned_patch keeps_row_patch keeps_column_patch
 patch_limits = record {
@@ -271,16 +271,16 @@ patch_limits = record {
     columns = taken_quiet (λ j i. pairs i j) m b a p.first_column p.columns
         (λ j i d le lt below' below is found. (q i j d below below' is (symmetric m a i b j ∙ found)).1 le lt);
   };
-  row_stays = λ m a b pairs old new h s i d lt keeps.
-      taken_stays pairs m a b old.first_row new.first_row old.rows new.rows i d s.first_row s.rows keeps;
-  column_stays = λ m a b pairs old new h s j d lt keeps.
-      taken_stays (λ c r. pairs r c) m b a old.first_column new.first_column old.columns new.columns j d s.first_column
-      s.columns keeps;
-  row_closes = λ m a b i j e old new h lt lt' apart dist s d less.
-      taken_closes i j m a b old.first_row new.first_row old.rows new.rows e d s.first_row lt lt' dist less s.rows;
-  column_closes = λ m a b i j e old new h lt lt' apart dist s d less.
-      taken_closes j i m b a old.first_column new.first_column old.columns new.columns e d s.first_column lt' lt
-      (symmetric m b j a i ∙ dist) less
+  row_stays = λ m a b pairs old new h s i j d lt keeps.
+      taken_stays pairs m a b old.first_row new.first_row old.rows new.rows i j d s.first_row s.rows keeps;
+  column_stays = λ m a b pairs old new h s j i d lt keeps.
+      taken_stays (λ c r. pairs r c) m b a old.first_column new.first_column old.columns new.columns j i d
+      s.first_column s.columns keeps;
+  row_closes = λ m a b i j e old new h lt lt' apart dist s k d before.
+      taken_closes i j m a b old.first_row new.first_row old.rows new.rows e k d s.first_row lt lt' dist before s.rows;
+  column_closes = λ m a b i j e old new h lt lt' apart dist s k d before.
+      taken_closes j i m b a old.first_column new.first_column old.columns new.columns e k d s.first_column lt' lt
+      (symmetric m b j a i ∙ dist) before
       (taken_same (λ c r. only i j r c) (only j i) m b a old.first_column old.columns new.columns s.columns
       (λ c r _ _. sym (turned_only i j r c)));
 }

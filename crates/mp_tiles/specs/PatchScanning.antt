@@ -28,12 +28,12 @@ may_patch p row column = ⊤
 abbrev pub is_scanned_patch : ℕ → Series → Series → (ℕ → ℕ → Bool) → Patched → Patched → Type 0
 is_scanned_patch m a b pairs old new = IsPatched pairs m a b old new
 
--- of slots from a window on, that of window i comes before each window at this distance
-abbrev pub KeepsFrom : ℕ → Column → ℕ → ℕ → Type 0
-KeepsFrom first slots i d = first ≤ i → i < first + length slots → Covers (slice_index_or slots (i - first) None) d
+-- of slots from a window on, window j at this distance gives that of window i nothing
+abbrev pub KeepsFrom : ℕ → Column → ℕ → ℕ → ℕ → Type 0
+KeepsFrom first slots i j d = first ≤ i → i < first + length slots → Covers (slice_index_or slots (i - first) None) j d
 
-abbrev pub keeps_row_patch : Patched → ℕ → ℕ → Type 0
-keeps_row_patch p i d = KeepsFrom p.first_row p.rows i d
+abbrev pub keeps_row_patch : Patched → ℕ → ℕ → ℕ → Type 0
+keeps_row_patch p i j d = KeepsFrom p.first_row p.rows i j d
 
-abbrev pub keeps_column_patch : Patched → ℕ → ℕ → Type 0
-keeps_column_patch p j d = KeepsFrom p.first_column p.columns j d
+abbrev pub keeps_column_patch : Patched → ℕ → ℕ → ℕ → Type 0
+keeps_column_patch p j i d = KeepsFrom p.first_column p.columns j i d

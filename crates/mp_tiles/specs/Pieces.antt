@@ -1,6 +1,6 @@
 -- Tiles as the pieces of a kernel.
 use Rattle.std.proofs.Common.{◌≡◌, ◌+◌, ◌-◌, ℕ, zero, suc, ◌≤◌, List, ◌∷◌, [], length, Bool, refl, sym, ◌∙◌, arith}
-use Rattle.std.specs.Prelude.{All, slice_index_or}
+use Rattle.std.specs.Prelude.{All, Option, slice_index_or}
 use Rattle.mp_nums.specs.declared.samples.Sample.{Sample}
 use Rattle.mp_series.specs.declared.limits.TheConstants.{MIN_WINDOW, MAX_WINDOW, MAX_SAMPLES}
 use Rattle.mp_defs.specs.Series.{Series, series_of}
@@ -11,6 +11,8 @@ use Rattle.mp_defs.specs.ColumnLaws.{columns_have_places}
 use Rattle.mp_partial.specs.Values.{Column, Value, HasColumns, merged_columns, empty_columns, merged_below}
 use Rattle.mp_partial.specs.Profiled.{Profiled}
 use Rattle.mp_tiles.specs.declared.cuts.Tile.{Tile}
+use Rattle.mp_tiles.specs.declared.scales.Scale.{Scale}
+use Rattle.mp_tiles.specs.Scales.{AreScaled}
 use Rattle.mp_tiles.specs.Pairs.{has_pair, IsTileBetween}
 use Rattle.mp_tiles.specs.Cutting.{diagonals_between}
 use Rattle.mp_tiles.specs.Among.{either_way, columns_value}
@@ -26,10 +28,11 @@ pub record OwnTiling : Type 0 where
   pub tiles : List Tile
 
 -- what its fields keep to
-pub record IsOwnTiling (samples : List Sample) (m : ℕ) (tiles : List Tile) : Type 0 where
+pub record IsOwnTiling (samples : List Sample) (m : ℕ) (scale : Option Scale) (tiles : List Tile) : Type 0 where
   pub shortest : MIN_WINDOW ≤ m
   pub longest : m ≤ MAX_WINDOW
   pub few : length samples ≤ MAX_SAMPLES
+  pub scaled : AreScaled scale (series_of samples) (series_of samples) m
   pub each : All (IsTileBetween (excl m + 1) (windows (length samples) m) (windows (length samples) m)) tiles
 
 -- the number of windows
@@ -54,11 +57,12 @@ pub record JoinTiling : Type 0 where
   pub tiles : List Tile
 
 -- what its fields keep to
-pub record IsJoinTiling (a b : List Sample) (m : ℕ) (tiles : List Tile) : Type 0 where
+pub record IsJoinTiling (a b : List Sample) (m : ℕ) (scale : Option Scale) (tiles : List Tile) : Type 0 where
   pub shortest : MIN_WINDOW ≤ m
   pub longest : m ≤ MAX_WINDOW
   pub first : length a ≤ MAX_SAMPLES
   pub second : length b ≤ MAX_SAMPLES
+  pub scaled : AreScaled scale (series_of a) (series_of b) m
   pub each : All (IsTileBetween 0 (diagonals_between (windows (length a) m) (windows (length b) m))
       (windows (length a) m)) tiles
 

@@ -4,7 +4,7 @@ ghost use Rattle.std.specs.Prelude.{◌≡◌, ◌+◌, ◌^◌, ◌<◌, ◌≤
 ghost use Rattle.mp_tiles.specs.Levels.{level, AreNarrow, AreSteps};
 ghost use Rattle.mp_tiles.specs.Grids.{row_series, column_series, window_length};
 
-use crate::levels::Scale;
+use crate::scales::Scale;
 use crate::windows::Grid;
 
 /// What comes in and what goes where windows move on by one: their differences, and their sums.

@@ -40,8 +40,8 @@ pub struct Cut {
 }
 
 /// The pairs that are cut: those on the diagonals from `first` on and before `end` whose rows come before `rows`.
-/// Windows that start equally far lie on the diagonal `origin`. A group has `width` diagonals, and the last one may have
-/// fewer.
+/// Windows that start equally far lie on the diagonal `origin`. A group has `width` diagonals, and the last one may
+/// have fewer.
 #[derive(Clone, Copy, Debug)]
 struct Region {
     first: u64,

@@ -1,6 +1,6 @@
 //! Groups of diagonals, block by block, by sums of 64 bits.
 
-ghost use Rattle.std.specs.Prelude.{◌≡◌, ℕ, ◌+◌, ◌-◌, ◌*◌, ◌^◌, ◌<◌, ◌≤◌, length, pos, Bool};
+ghost use Rattle.std.specs.Prelude.{◌≡◌, ℕ, ◌+◌, ◌-◌, ◌*◌, ◌^◌, ◌<◌, ◌≤◌, List, length, ℤ, pos, Bool, false, ◌||◌};
 ghost use Rattle.std.specs.Int.{div_ceil};
 ghost use Rattle.mp_defs.specs.Series.{series_of};
 ghost use Rattle.mp_tiles.specs.Scanning.{in_block};
@@ -9,10 +9,14 @@ ghost use Rattle.mp_tiles.specs.Grids.{row_series, column_series, window_length}
 ghost use Rattle.mp_tiles.specs.Limits.{IsMark, IsLimit, AreLimits};
 ghost use Rattle.mp_tiles.specs.Lanes.{lane};
 ghost use Rattle.mp_tiles.specs.Blocks.{rows_of, columns_of, length_in, sum_in, AreLimitsIn, AreStripSums};
+ghost use Rattle.mp_tiles.specs.Lowering.{AreSides, AreLowered};
 
 use crate::blocks::{Block, Steps};
-use crate::levels::{Scale, fill_steps, first_sum};
+use crate::found::{offer_columns, offer_rows};
+use crate::levels::{fill_steps, first_sum};
+use crate::lows::NOWHERE;
 use crate::offers::Offers;
+use crate::scales::Scale;
 use crate::strips::scan_sixteen;
 use crate::vectors::{load, store};
 use crate::windows::{Grid, Windows, mark_whole};
@@ -53,7 +57,8 @@ fn raise_column_limit<O: Offers>(into: &O::Into, column: usize, limit: &mut i64)
 /// The limits of the windows from `start` on, as rows.
 fn fill_row_limits<O: Offers>(of: &Windows, start: usize, limits: &mut [i64], into: &O::Into)
     requires { start + length limits.old < 2 ^ 32 }
-    ensures limits { AreLimits (of.now.rest + 1) (series_of of.now.samples.now) start (O.keeps_row into.now) limits.new }
+    ensures limits { AreLimits (of.now.rest + 1) (series_of of.now.samples.now) start (O.keeps_row into.now)
+        limits.new }
     ensures places { length limits.new ≡ length limits.old }
 {
     mark_whole(of, start, limits);
@@ -92,32 +97,31 @@ fn start_sums(grid: &Grid, scale: &Scale, row: usize, column: usize, sums: &mut 
     }
 }
 
-/// Offers the pairs of the rows before `end` on as many successive diagonals as `width` says, by sixteen sums of those
+/// Takes the pairs of the rows before `end` on as many successive diagonals as `width` says, by sixteen sums of those
 /// that are given. On the first of these diagonals a row has the column that comes `offset` places later.
-fn scan_strip_of<O: Offers>(
+fn scan_strip_of(
     block: &Block,
     end: usize,
     offset: usize,
     width: usize,
     row_limits: &mut [i64],
+    row_nearest: &mut [usize],
     column_limits: &mut [i64],
+    column_nearest: &mut [usize],
     sums: &mut [i64],
-    into: &mut O::Into,
 )
     requires rows { end ≤ length block.now.rows.e.now }
     requires columns { end + offset + 15 ≤ length block.now.columns.e.now }
     requires width { width ≤ 16 }
     requires places { offset + 16 ≤ length sums.old }
-    requires apart { block.now.row + O.least ≤ block.now.column + offset }
     requires sums { (t : ℕ) → t < 16 → lane sums.old (offset + t) ≡ pos (sum_in block.now 0 (offset + t)) }
-    requires fits { O.fits (length_in block.now) (rows_of block.now) (columns_of block.now) into.old }
-    requires limits { AreLimitsIn block.now (O.keeps_row into.old) (O.keeps_column into.old) row_limits.old
-        column_limits.old }
-    ensures scanned { O.is_scanned (length_in block.now) (rows_of block.now) (columns_of block.now)
-        (in_block (block.now.column + offset - block.now.row) (block.now.column + offset - block.now.row + width)
-        block.now.row (block.now.row + end)) into.old into.new }
-    ensures limits { AreLimitsIn block.now (O.keeps_row into.new) (O.keeps_column into.new) row_limits.new
-        column_limits.new }
+    requires sides { AreSides block.now row_limits.old row_nearest.old column_limits.old column_nearest.old }
+    ensures sides { AreSides block.now row_limits.new row_nearest.new column_limits.new column_nearest.new }
+    ensures lowered { (pairs : ℕ → ℕ → Bool) (row_starts column_starts : List ℤ)
+        → AreLowered block.now pairs row_starts column_starts row_limits.old row_nearest.old column_limits.old
+        column_nearest.old
+        → AreLowered block.now (λ r c. pairs r c || in_block offset (offset + width) 0 end r c) row_starts
+        column_starts row_limits.new row_nearest.new column_limits.new column_nearest.new }
     ensures stored { (t : ℕ) → t < 16 → lane sums.new (offset + t) ≡ pos (sum_in block.now end (end + offset + t)) }
     ensures before { (k : ℕ) → k < offset → lane sums.new k ≡ lane sums.old k }
     ensures behind { (k : ℕ) → offset + 16 ≤ k → lane sums.new k ≡ lane sums.old k }
@@ -125,44 +129,45 @@ fn scan_strip_of<O: Offers>(
 {
     let mut sixteen = i64x16::splat(0);
     load(&mut sixteen, sums, offset);
-    scan_sixteen::<O>(
+    scan_sixteen(
         block,
         end,
         offset,
         width,
         row_limits,
+        row_nearest,
         column_limits,
+        column_nearest,
         &mut sixteen,
-        into,
     );
     store(&sixteen, sums, offset);
 }
 
-/// Offers the pairs of a block on as many successive diagonals as `width` says, as far as there are columns. On the
+/// Takes the pairs of a block on as many successive diagonals as `width` says, as far as there are columns. On the
 /// first of these diagonals a row has the column that comes `offset` places later.
-fn scan_strip_at<O: Offers>(
+fn scan_strip_at(
     block: &Block,
     offset: usize,
     width: usize,
     row_limits: &mut [i64],
+    row_nearest: &mut [usize],
     column_limits: &mut [i64],
+    column_nearest: &mut [usize],
     sums: &mut [i64],
-    into: &mut O::Into,
 )
     requires columns { length block.now.rows.e.now + offset + 15 ≤ length block.now.columns.e.now }
     requires width { width ≤ 16 }
     requires places { offset + 16 ≤ length sums.old }
-    requires apart { block.now.row + O.least ≤ block.now.column + offset }
     requires sums { block.now.column + offset < block.now.grid.columns.count
         → (t : ℕ) → t < 16 → lane sums.old (offset + t) ≡ pos (sum_in block.now 0 (offset + t)) }
-    requires fits { O.fits (length_in block.now) (rows_of block.now) (columns_of block.now) into.old }
-    requires limits { AreLimitsIn block.now (O.keeps_row into.old) (O.keeps_column into.old) row_limits.old
-        column_limits.old }
-    ensures scanned { O.is_scanned (length_in block.now) (rows_of block.now) (columns_of block.now)
-        (in_block (block.now.column + offset - block.now.row) (block.now.column + offset - block.now.row + width)
-        block.now.row (block.now.row + length block.now.rows.e.now)) into.old into.new }
-    ensures limits { AreLimitsIn block.now (O.keeps_row into.new) (O.keeps_column into.new) row_limits.new
-        column_limits.new }
+    requires sides { AreSides block.now row_limits.old row_nearest.old column_limits.old column_nearest.old }
+    ensures sides { AreSides block.now row_limits.new row_nearest.new column_limits.new column_nearest.new }
+    ensures lowered { (pairs : ℕ → ℕ → Bool) (row_starts column_starts : List ℤ)
+        → AreLowered block.now pairs row_starts column_starts row_limits.old row_nearest.old column_limits.old
+        column_nearest.old
+        → AreLowered block.now
+        (λ r c. pairs r c || in_block offset (offset + width) 0 (length block.now.rows.e.now) r c) row_starts
+        column_starts row_limits.new row_nearest.new column_limits.new column_nearest.new }
     ensures stored { block.now.column + length block.now.rows.e.now + offset < block.now.grid.columns.count
         → (t : ℕ) → t < 16 → lane sums.new (offset + t)
         ≡ pos (sum_in block.now (length block.now.rows.e.now) (length block.now.rows.e.now + offset + t)) }
@@ -177,22 +182,67 @@ fn scan_strip_at<O: Offers>(
         .saturating_sub(block.column + offset);
     if left > 0 {
         let end = block.rows.e.len().min(left);
-        scan_strip_of::<O>(
+        scan_strip_of(
             block,
             end,
             offset,
             width,
             row_limits,
+            row_nearest,
             column_limits,
+            column_nearest,
             sums,
-            into,
         );
     }
 }
 
-/// Offers the pairs of a block on as many successive diagonals as `width` says, strip by strip. On the first of these
+/// Takes the pairs of a block on as many successive diagonals as `width` says, strip by strip. On the first of these
 /// the first row has the first column.
-fn scan_strips<O: Offers>(
+fn scan_strips(
+    block: &Block,
+    width: usize,
+    row_limits: &mut [i64],
+    row_nearest: &mut [usize],
+    column_limits: &mut [i64],
+    column_nearest: &mut [usize],
+    sums: &mut [i64],
+)
+    requires width { width < 2 ^ 31 }
+    requires strips { length sums.old ≡ div_ceil width 16 * 16 }
+    requires columns { length block.now.rows.e.now + div_ceil width 16 * 16 ≤ length block.now.columns.e.now + 1 }
+    requires sums { AreStripSums (level block.now.scale.low (rows_of block.now))
+        (level block.now.scale.low (columns_of block.now)) (length_in block.now) block.now.grid.columns.count
+        block.now.row block.now.column sums.old }
+    requires sides { AreSides block.now row_limits.old row_nearest.old column_limits.old column_nearest.old }
+    ensures sides { AreSides block.now row_limits.new row_nearest.new column_limits.new column_nearest.new }
+    ensures lowered { (row_starts column_starts : List ℤ)
+        → AreLowered block.now (λ _ _. false) row_starts column_starts row_limits.old row_nearest.old column_limits.old
+        column_nearest.old
+        → AreLowered block.now (in_block 0 width 0 (length block.now.rows.e.now)) row_starts column_starts
+        row_limits.new row_nearest.new column_limits.new column_nearest.new }
+    ensures sums { AreStripSums (level block.now.scale.low (rows_of block.now))
+        (level block.now.scale.low (columns_of block.now)) (length_in block.now) block.now.grid.columns.count
+        (block.now.row + length block.now.rows.e.now) (block.now.column + length block.now.rows.e.now) sums.new }
+    ensures places { length sums.new ≡ length sums.old }
+{
+    for strip in 0..width.div_ceil(LANES) {
+        let offset = strip * LANES;
+        scan_strip_at(
+            block,
+            offset,
+            (width - offset).min(LANES),
+            row_limits,
+            row_nearest,
+            column_limits,
+            column_nearest,
+            sums,
+        );
+    }
+}
+
+/// Offers the pairs of a block on as many successive diagonals as `width` says. On the first of these the first row has
+/// the first column. The limits let pass what may give a row or a column something, and are lowered.
+fn scan_block<O: Offers>(
     block: &Block,
     width: usize,
     row_limits: &mut [i64],
@@ -200,6 +250,8 @@ fn scan_strips<O: Offers>(
     sums: &mut [i64],
     into: &mut O::Into,
 )
+    requires rows { length block.now.rows.e.now ≤ ROWS }
+    requires few_columns { length block.now.columns.e.now ≤ COLUMNS }
     requires width { width < 2 ^ 31 }
     requires strips { length sums.old ≡ div_ceil width 16 * 16 }
     requires columns { length block.now.rows.e.now + div_ceil width 16 * 16 ≤ length block.now.columns.e.now + 1 }
@@ -218,18 +270,20 @@ fn scan_strips<O: Offers>(
         (block.now.row + length block.now.rows.e.now) (block.now.column + length block.now.rows.e.now) sums.new }
     ensures places { length sums.new ≡ length sums.old }
 {
-    for strip in 0..width.div_ceil(LANES) {
-        let offset = strip * LANES;
-        scan_strip_at::<O>(
-            block,
-            offset,
-            (width - offset).min(LANES),
-            row_limits,
-            column_limits,
-            sums,
-            into,
-        );
-    }
+    let (mut rows, mut columns) = ([NOWHERE; ROWS], [NOWHERE; COLUMNS]);
+    let row_nearest = &mut rows[..row_limits.len()];
+    let column_nearest = &mut columns[..column_limits.len()];
+    scan_strips(
+        block,
+        width,
+        row_limits,
+        row_nearest,
+        column_limits,
+        column_nearest,
+        sums,
+    );
+    offer_rows::<O>(block, row_limits, row_nearest, into);
+    offer_columns::<O>(block, column_limits, column_nearest, into);
 }
 
 /// Offers the pairs of `rows` rows from `row` on, on as many successive diagonals as `width` says. On the first of
@@ -302,7 +356,7 @@ fn scan_rows_of<O: Offers>(
             s: &column_s[..columns],
         },
     };
-    scan_strips::<O>(
+    scan_block::<O>(
         &block,
         width,
         &mut row_limits[..rows],

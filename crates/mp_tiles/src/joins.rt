@@ -6,7 +6,8 @@ ghost use Rattle.mp_defs.specs.Series.{series_of};
 ghost use Rattle.mp_defs.specs.Profile.{ab_join};
 
 use crate::cuts::{Cut, MAX_TILE, MAX_TILES, cut_both};
-use crate::scans::scan_both;
+use crate::scales::{Scale, find_scale};
+use crate::scans::scan_both_by;
 use mp_nums::{Memory, Sample, Slots};
 use mp_partial::{Kernel, run_in_order};
 use mp_series::{MAX_SAMPLES, MAX_WINDOW, MIN_WINDOW, windows};
@@ -19,6 +20,7 @@ pub struct JoinTiles<'a> {
     a: &'a [Sample],
     b: &'a [Sample],
     m: u32,
+    scale: Option<Scale>,
     cut: Cut,
 }
 
@@ -29,7 +31,7 @@ impl<'a> Model for JoinTiles<'a> {
 
     ghost view = { λ join. record { a = join.a.now; b = join.b.now; m = join.m; tiles = join.cut } };
 
-    ghost invariant = { λ join. IsJoinTiling join.a.now join.b.now join.m join.cut };
+    ghost invariant = { λ join. IsJoinTiling join.a.now join.b.now join.m join.scale join.cut };
 }
 
 impl<'a> JoinTiles<'a> {
@@ -59,6 +61,7 @@ impl<'a> JoinTiles<'a> {
             a,
             b,
             m,
+            scale: find_scale(a, b, m as usize),
             cut: cut_both(first, second, tile),
         }
     }
@@ -91,7 +94,14 @@ impl<'a> Kernel for JoinTiles<'a> {
     }
 
     fn run(&self, piece: u64, into: &mut Slots) {
-        scan_both(self.a, self.b, self.m, &self.cut.tile(piece), into);
+        scan_both_by(
+            self.a,
+            self.b,
+            self.m,
+            self.scale,
+            &self.cut.tile(piece),
+            into,
+        );
     }
 }
 

@@ -6,7 +6,8 @@ ghost use Rattle.mp_defs.specs.Series.{series_of};
 ghost use Rattle.mp_defs.specs.Profile.{matrix_profile};
 
 use crate::cuts::{Cut, MAX_TILE, MAX_TILES, cut_own};
-use crate::scans::scan_own;
+use crate::scales::{Scale, find_scale};
+use crate::scans::scan_own_by;
 use mp_nums::{Memory, Sample};
 use mp_partial::{Kernel, Profile, run_in_order};
 use mp_series::{MAX_SAMPLES, MAX_WINDOW, MIN_WINDOW, excl, windows};
@@ -18,6 +19,7 @@ use std::marker::Model;
 pub struct OwnTiles<'a> {
     samples: &'a [Sample],
     m: u32,
+    scale: Option<Scale>,
     cut: Cut,
 }
 
@@ -28,7 +30,7 @@ impl<'a> Model for OwnTiles<'a> {
 
     ghost view = { λ own. record { samples = own.samples.now; m = own.m; tiles = own.cut } };
 
-    ghost invariant = { λ own. IsOwnTiling own.samples.now own.m own.cut };
+    ghost invariant = { λ own. IsOwnTiling own.samples.now own.m own.scale own.cut };
 }
 
 impl<'a> OwnTiles<'a> {
@@ -54,6 +56,7 @@ impl<'a> OwnTiles<'a> {
         OwnTiles {
             samples,
             m,
+            scale: find_scale(samples, samples, m as usize),
             cut: cut_own(count, excl(m), tile),
         }
     }
@@ -85,7 +88,13 @@ impl<'a> Kernel for OwnTiles<'a> {
     }
 
     fn run(&self, piece: u64, into: &mut Profile) {
-        scan_own(self.samples, self.m, &self.cut.tile(piece), into);
+        scan_own_by(
+            self.samples,
+            self.m,
+            self.scale,
+            &self.cut.tile(piece),
+            into,
+        );
     }
 }
 

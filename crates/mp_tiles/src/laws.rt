@@ -2,8 +2,8 @@
 
 ghost use Rattle.mp_tiles.specs.Laws.{CutsHoldEachPairOnce, TilesMakeTheProfile, TilesMakeTheJoin};
 
-/// Each pair that is cut lies in exactly one tile and no other pair in any, however long the series are and however wide
-/// the tiles.
+/// Each pair that is cut lies in exactly one tile and no other pair in any, however long the series are and however
+/// wide the tiles.
 pub fn cuts_hold_each_pair_once()
     ensures { CutsHoldEachPairOnce }
 {}

@@ -44,11 +44,11 @@ pub(crate) trait Offers {
         ensures { (m : ℕ) (a b : Series) → fits m a b into.old → row < windows_of m a → column < windows_of m b
             → distance m a row b column ≡ Some dist.0 → is_scanned m a b (only row column) into.old into.new };
 
-    /// The row has something that comes before each window at this distance.
-    ghost keeps_row: { Self.Into → ℕ → ℕ → Type 0 };
+    /// A window at a distance gives the row nothing.
+    ghost keeps_row: { Self.Into → ℕ → ℕ → ℕ → Type 0 };
 
     /// The same of the column.
-    ghost keeps_column: { Self.Into → ℕ → ℕ → Type 0 };
+    ghost keeps_column: { Self.Into → ℕ → ℕ → ℕ → Type 0 };
 
     /// The distance above which a column gives the row nothing, as far as 63 bits tell it.
     fn row_limit(into: &Self::Into, row: u64) -> i64

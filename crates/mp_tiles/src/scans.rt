@@ -11,14 +11,15 @@ ghost use Rattle.mp_tiles.specs.Cutting.{diagonals_between};
 ghost use Rattle.mp_tiles.specs.Among.{profile_among};
 ghost use Rattle.mp_tiles.specs.Plain.{ArePlain};
 ghost use Rattle.mp_tiles.specs.Grids.{row_series, column_series, window_length, AreSumsIn, AreGapsIn};
-ghost use Rattle.mp_tiles.specs.Scanning.{in_block};
+ghost use Rattle.mp_tiles.specs.Scales.{AreScaled};
+ghost use Rattle.mp_tiles.specs.Scanning.{in_block, HasPlaces, IsScanned, IsJoined};
 
 use crate::columns::scan_columns;
 use crate::cuts::{MAX_TILE, Tile};
 use crate::diagonals::{first_sum, scan_rows};
 use crate::groups::{LANES, scan_groups};
-use crate::levels::find_scale;
 use crate::offers::{ColumnToRow, EachInPatch, EachToOther, Offers, RowToColumn};
+use crate::scales::{Scale, find_scale};
 use crate::windows::{Grid, PlainWindow, Windows, count_gaps, take_windows};
 use mp_nums::{Sample, Slots};
 use mp_partial::{Bench, Part, Patch, Profile};
@@ -223,7 +224,7 @@ pub(crate) fn scan_offsets<O: Offers>(
     if end.saturating_sub(first) < LANES {
         return scan_wide::<O>(grid, first, end, top, bottom, into);
     }
-    match find_scale(grid) {
+    match grid.scale {
         Some(scale) => scan_groups::<O>(grid, &scale, first, end, top, bottom, into),
         None => scan_wide::<O>(grid, first, end, top, bottom, into),
     }
@@ -248,6 +249,28 @@ pub fn scan_own(samples: &[Sample], m: u32, tile: &Tile, into: &mut Profile)
     ensures is_value { HasColumns 3 (length into.new.all) (into.new.all ∷ into.new.left ∷ into.new.right ∷ []) }
     ensures spare { into.new.spare ≡ into.old.spare }
 {
+    let scale = find_scale(samples, samples, m as usize);
+    scan_own_by(samples, m, scale, tile, into);
+}
+
+/// The same, by a scale of the samples, where there is one.
+pub(crate) fn scan_own_by(
+    samples: &[Sample],
+    m: u32,
+    scale: Option<Scale>,
+    tile: &Tile,
+    into: &mut Profile,
+)
+    requires shortest { MIN_WINDOW ≤ m }
+    requires longest { m ≤ MAX_WINDOW }
+    requires samples { length samples.now ≤ MAX_SAMPLES }
+    requires scaled { AreScaled scale (series_of samples.now) (series_of samples.now) m }
+    requires tile { IsTileBetween (excl m + 1) (windows (length samples.now) m) (windows (length samples.now) m)
+        tile.now }
+    requires places { length into.old.all ≡ windows (length samples.now) m }
+    ensures scanned { IsScanned (has_pair 0 tile.now) m (series_of samples.now) into.old into.new }
+    ensures places { HasPlaces (length into.old.all) into.new }
+{
     let windows = Windows {
         samples,
         rest: m as usize - 1,
@@ -256,14 +279,15 @@ pub fn scan_own(samples: &[Sample], m: u32, tile: &Tile, into: &mut Profile)
     let grid = Grid {
         rows: windows,
         columns: windows,
+        scale,
     };
     let (first, end) = (tile.first as usize, tile.last as usize + 1);
     let (top, bottom) = (tile.first_row as usize, tile.last_row as usize + 1);
     scan_offsets::<EachToOther>(&grid, first, end, top, bottom, into);
 }
 
-/// Merges what the tile's pairs give into the slots of the patch: each two windows of a pair, where no sample is missing,
-/// are offered to each other, as far as the patch has them.
+/// Merges what the tile's pairs give into the slots of the patch: each two windows of a pair, where no sample is
+/// missing, are offered to each other, as far as the patch has them.
 pub fn scan_patch(samples: &[Sample], m: u32, tile: &Tile, into: &mut Patch)
     requires shortest { MIN_WINDOW ≤ m }
     requires longest { m ≤ MAX_WINDOW }
@@ -283,6 +307,7 @@ pub fn scan_patch(samples: &[Sample], m: u32, tile: &Tile, into: &mut Patch)
     let grid = Grid {
         rows: windows,
         columns: windows,
+        scale: find_scale(samples, samples, m as usize),
     };
     scan_offsets::<EachInPatch>(
         &grid,
@@ -342,6 +367,31 @@ pub fn scan_both(a: &[Sample], b: &[Sample], m: u32, tile: &Tile, into: &mut Slo
     ensures places { length into.new.items ≡ length into.old.items }
     ensures spare { into.new.spare ≡ into.old.spare }
 {
+    let scale = find_scale(a, b, m as usize);
+    scan_both_by(a, b, m, scale, tile, into);
+}
+
+/// The same, by a scale of the samples of both, where there is one.
+pub(crate) fn scan_both_by(
+    a: &[Sample],
+    b: &[Sample],
+    m: u32,
+    scale: Option<Scale>,
+    tile: &Tile,
+    into: &mut Slots,
+)
+    requires shortest { MIN_WINDOW ≤ m }
+    requires longest { m ≤ MAX_WINDOW }
+    requires first { length a.now ≤ MAX_SAMPLES }
+    requires second { length b.now ≤ MAX_SAMPLES }
+    requires scaled { AreScaled scale (series_of a.now) (series_of b.now) m }
+    requires tile { IsTileBetween 0 (diagonals_between (windows (length a.now) m) (windows (length b.now) m))
+        (windows (length a.now) m) tile.now }
+    requires places { length into.old.items ≡ windows (length a.now) m }
+    ensures joined { IsJoined (has_pair (windows (length a.now) m - 1) tile.now) m (series_of a.now) (series_of b.now)
+        into.old into.new }
+    ensures places { length into.new.items ≡ length into.old.items }
+{
     let rest = m as usize - 1;
     let (first, second) = (Windows::of(a, rest), Windows::of(b, rest));
     // the diagonal of equal starts: on those before it the windows of `b` start earlier, and those of `a` are columns
@@ -351,6 +401,7 @@ pub fn scan_both(a: &[Sample], b: &[Sample], m: u32, tile: &Tile, into: &mut Slo
     let earlier = Grid {
         rows: second,
         columns: first,
+        scale,
     };
     scan_columns::<RowToColumn>(
         &earlier,
@@ -363,6 +414,7 @@ pub fn scan_both(a: &[Sample], b: &[Sample], m: u32, tile: &Tile, into: &mut Slo
     let later = Grid {
         rows: first,
         columns: second,
+        scale,
     };
     scan_offsets::<ColumnToRow>(
         &later,

@@ -5,8 +5,10 @@ ghost use Rattle.mp_series.specs.declared.limits.TheConstants.{MAX_SAMPLES};
 ghost use Rattle.mp_defs.specs.Series.{reading_of, series_of};
 ghost use Rattle.mp_tiles.specs.Sums.{filled, gap as gap_of, gaps_from};
 ghost use Rattle.mp_tiles.specs.Plain.{ArePlain};
+ghost use Rattle.mp_tiles.specs.Scales.{AreScaled};
 ghost use Rattle.mp_tiles.specs.Limits.{has_no_gap, IsMark, AreMarks};
 
+use crate::scales::Scale;
 use mp_nums::Sample;
 use mp_series::MAX_SAMPLES;
 
@@ -44,7 +46,10 @@ impl<'a> Windows<'a> {
 pub(crate) struct Grid<'a> {
     pub(crate) rows: Windows<'a>,
     pub(crate) columns: Windows<'a>,
+    /// How sums of 64 bits hold every distance, where they do.
+    pub(crate) scale: Option<Scale>,
     ghost same_length: { columns.rest ≡ rows.rest },
+    ghost scaled: { AreScaled scale (series_of rows.samples.now) (series_of columns.samples.now) (rows.rest + 1) },
 }
 
 /// A window's first and last sample as numbers, where a missing one counts as 0, and how many of its samples are

@@ -33,7 +33,8 @@ impl Model for Settings {
 
     ghost view = { λ s. record { window = s.window; scale = s.scale; tile = s.tile; workers = s.workers } };
 
-    ghost invariant = { λ s. IsWithinLimits record { window = s.window; scale = s.scale; tile = s.tile; workers = s.workers } };
+    ghost invariant = { λ s. IsWithinLimits record
+        { window = s.window; scale = s.scale; tile = s.tile; workers = s.workers } };
 
     ghost inverse = { λ s. record { window = s.window; scale = s.scale; tile = s.tile; workers = s.workers } };
 }

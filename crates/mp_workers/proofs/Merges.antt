@@ -1,13 +1,11 @@
 -- What two teams have together.
 use Rattle.std.proofs.Common.{◌≡◌, ℕ, zero, suc, ◌+◌, ◌<◌, List, [], ◌∷◌, ◌++◌, length, get_or, set, map, take}
-use Rattle.std.proofs.Common.{replicate, refl, sym, ap, subst, ◌∙◌, arith}
+use Rattle.std.proofs.Common.{replicate, refl, sym, ap, ◌∙◌, arith}
 use Rattle.std.proofs.Common.{true}
-use Rattle.std.specs.List.{range_with_len, AllWithin}
+use Rattle.std.specs.List.{range_with_len}
 use Rattle.std.proofs.lemmas.Bool.Decides.{nat_tests}
 use Rattle.std.proofs.lemmas.List.{length-map, length-replicate, get_or-map, get_or-replicate}
-use Rattle.std.proofs.lemmas.List.{length-set, get_or-set_other}
-use Rattle.std.proofs.lemmas.List.Elements.{AllWithin-more_set}
-use Rattle.std.specs.Prelude.{◌&&◌, ◌||◌, ◌==◌, nat_le, nat_lt, ◌%◌, Some, slice_get}
+use Rattle.std.specs.Prelude.{◌&&◌, ◌==◌, nat_le, nat_lt, ◌%◌, Some, slice_get}
 use Rattle.mp_partial.specs.Values.{Value, merged_over, merged_below}
 use Rattle.mp_partial.specs.MergeLaws.{IsMerging}
 use Rattle.mp_partial.specs.TogetherLaws.{merges_by_pieces, pieces_of_lists}
@@ -17,51 +15,49 @@ use Rattle.mp_workers.proofs.Sharing.{passed_have_values, shares_of_both, shares
 
 -- the shares of two teams that follow each other, merged
 pub shares_merge : (IsValue : ℕ → Value → Type 0) (unit : ℕ → Value) (merged : Value → Value → Value)
-    → IsMerging IsValue unit merged → (size : ℕ) (value : ℕ → Value) (begun pieces workers first low high : ℕ)
+    → IsMerging IsValue unit merged → (size : ℕ) (value : ℕ → Value) (pieces workers first low high : ℕ)
     → ((k : ℕ) → k < pieces → IsValue size (value k))
-    → merged (merged_over merged (unit size) value (shares begun pieces workers first low))
-    (merged_over merged (unit size) value (shares begun pieces workers (first + low) high))
-    ≡ merged_over merged (unit size) value (shares begun pieces workers first (low + high))
-shares_merge IsValue unit merged laws size value begun pieces workers first low high values =
+    → merged (merged_over merged (unit size) value (shares pieces workers first low))
+    (merged_over merged (unit size) value (shares pieces workers (first + low) high))
+    ≡ merged_over merged (unit size) value (shares pieces workers first (low + high))
+shares_merge IsValue unit merged laws size value pieces workers first low high values =
     let together = merges_by_pieces IsValue unit merged laws in
-    let test = λ (from : ℕ) (count : ℕ) (piece : ℕ). nat_lt piece begun
-    || (nat_le from (piece % workers) && nat_lt (piece % workers) (from + count)) in
+    let test = λ (from : ℕ) (count : ℕ) (piece : ℕ). nat_le from (piece % workers) && nat_lt (piece % workers)
+    (from + count) in
     let have_low = passed_have_values IsValue size value pieces (test first low) values in
     let have_high = passed_have_values IsValue size value pieces (test (first + low) high) values in
     let have_both = passed_have_values IsValue size value pieces (test first (low + high)) values in
-    let same = shares_of_both begun pieces workers first low high in
-    sym (together.joined size value (shares begun pieces workers first low)
-    (shares begun pieces workers (first + low) high) have_low have_high)
-    ∙ together.same size value (shares begun pieces workers first low ++ shares begun pieces workers (first + low) high)
-    (shares begun pieces workers first (low + high)) (λ k there. have_both k (sym (same k) ∙ there)) same
+    let same = shares_of_both pieces workers first low high in
+    sym (together.joined size value (shares pieces workers first low) (shares pieces workers (first + low) high)
+    have_low have_high)
+    ∙ together.same size value (shares pieces workers first low ++ shares pieces workers (first + low) high)
+    (shares pieces workers first (low + high)) (λ k there. have_both k (sym (same k) ∙ there)) same
 
 -- a team of one has the share of its worker
 pub share_is_shares : (IsValue : ℕ → Value → Type 0) (unit : ℕ → Value) (merged : Value → Value → Value)
-    → IsMerging IsValue unit merged → (size : ℕ) (value : ℕ → Value) (begun pieces workers worker count : ℕ)
+    → IsMerging IsValue unit merged → (size : ℕ) (value : ℕ → Value) (pieces workers worker count : ℕ)
     → ((k : ℕ) → k < pieces → IsValue size (value k)) → count ≡ 1 → (found : Value)
-    → found ≡ merged_over merged (unit size) value (share begun pieces workers worker)
-    → found ≡ merged_over merged (unit size) value (shares begun pieces workers worker count)
-share_is_shares IsValue unit merged laws size value begun pieces workers worker count values one found is =
+    → found ≡ merged_over merged (unit size) value (share pieces workers worker)
+    → found ≡ merged_over merged (unit size) value (shares pieces workers worker count)
+share_is_shares IsValue unit merged laws size value pieces workers worker count values one found is =
     let together = merges_by_pieces IsValue unit merged laws in
-    is ∙ together.same size value (share begun pieces workers worker) (shares begun pieces workers worker 1)
-    (passed_have_values IsValue size value pieces (λ piece. nat_lt piece begun || (piece % workers == worker))
-    values)
-    (shares_of_one begun pieces workers worker)
-    ∙ ap (λ n. merged_over merged (unit size) value (shares begun pieces workers worker n)) (sym one)
+    is ∙ together.same size value (share pieces workers worker) (shares pieces workers worker 1)
+    (passed_have_values IsValue size value pieces (λ piece. piece % workers == worker) values)
+    (shares_of_one pieces workers worker)
+    ∙ ap (λ n. merged_over merged (unit size) value (shares pieces workers worker n)) (sym one)
 
 -- a team of all workers has what all pieces have together
 pub all_shares_merge : (IsValue : ℕ → Value → Type 0) (unit : ℕ → Value) (merged : Value → Value → Value)
-    → IsMerging IsValue unit merged → (size : ℕ) (value : ℕ → Value) (begun pieces workers count : ℕ)
+    → IsMerging IsValue unit merged → (size : ℕ) (value : ℕ → Value) (pieces workers count : ℕ)
     → ((k : ℕ) → k < pieces → IsValue size (value k)) → 0 < workers → count ≡ workers → (first found : Value)
-    → found ≡ first → first ≡ merged_over merged (unit size) value (shares begun pieces workers 0 count)
+    → found ≡ first → first ≡ merged_over merged (unit size) value (shares pieces workers 0 count)
     → found ≡ merged_below merged (unit size) value pieces
-all_shares_merge IsValue unit merged laws size value begun pieces workers count values pos each first found taken is =
+all_shares_merge IsValue unit merged laws size value pieces workers count values pos each first found taken is =
     let together = merges_by_pieces IsValue unit merged laws in
-    let test = λ (piece : ℕ). nat_lt piece begun
-    || (nat_le 0 (piece % workers) && nat_lt (piece % workers) (0 + workers)) in
-    taken ∙ is ∙ ap (λ n. merged_over merged (unit size) value (shares begun pieces workers 0 n)) each
-    ∙ together.same size value (shares begun pieces workers 0 workers) (range_with_len 0 pieces)
-    (passed_have_values IsValue size value pieces test values) (shares_of_all begun pieces workers pos)
+    let test = λ (piece : ℕ). nat_le 0 (piece % workers) && nat_lt (piece % workers) (0 + workers) in
+    taken ∙ is ∙ ap (λ n. merged_over merged (unit size) value (shares pieces workers 0 n)) each
+    ∙ together.same size value (shares pieces workers 0 workers) (range_with_len 0 pieces)
+    (passed_have_values IsValue size value pieces test values) (shares_of_all pieces workers pos)
 
 -- and that is a value of the size
 pub all_is_value : (IsValue : ℕ → Value → Type 0) (unit : ℕ → Value) (merged : Value → Value → Value)
@@ -105,14 +101,3 @@ pub front_taken : {P : Type 0} (parts rest : List P) (count : ℕ) (first taken 
 front_taken [] rest count first taken pos there at = absurd (cc)
 front_taken (x ∷ xs) rest zero first taken pos there at = absurd (omega arith)
 front_taken (x ∷ xs) rest (suc count) first taken pos there at = cc
-
--- of parts that have one thing, one more that gets another
-pub one_more_has : {P : Type 0} (Had Has : P → Type 0) (parts : List P) (k : ℕ) (part : P) → k < length parts
-    → Has part → AllWithin Has parts 0 k → AllWithin Had parts k (length parts)
-    → AllWithin Has (set parts k part) 0 (k + 1) × AllWithin Had (set parts k part) (k + 1) (length (set parts k part))
-one_more_has {P} Had Has parts k part lt has done left = (
-  AllWithin-more_set parts k part lt Has done has,
-  (λ j d le within. subst Had
-      (sym (get_or-set_other parts k j part d (λ e. absurd (omega arith))))
-      (left j d (omega arith) (omega (arith, within, length-set {A = P})))),
-)

@@ -10,8 +10,6 @@ pub record IsTeam (team : Team) (count : ℕ) : Type 0 where
   pub within : team.first + count ≤ team.workers
   pub few_workers : team.workers ≤ MAX_WORKERS
   pub few_pieces : team.pieces ≤ MAX_PIECES
-  pub few_begun : team.begun ≤ team.workers
-  pub begun : team.begun ≤ team.pieces
 
 -- the parts have this size and this value
 abbrev pub AllHave : {P : Type 0} → (P → ℕ) → (P → Value) → ℕ → Value → List P → Type 0

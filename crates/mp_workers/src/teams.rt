@@ -14,70 +14,12 @@ use mp_partial::{Kernel, Part, units};
 use std::alloc::Global;
 use std::thread::{Threads, join_mut};
 
-/// From how many pieces for each worker on piece 0 is run before the workers part. With fewer, too much of the whole
-/// would wait for it.
-const MANY_PIECES: u64 = 8;
-
-/// Some of the workers that share the pieces below a number: those from `first` on, one for each partial. The first
-/// pieces, as many as were begun, were run before, and each partial has what these have together.
+/// Some of the workers that share the pieces below a number: those from `first` on, one for each partial.
 #[derive(Clone, Copy)]
 struct Team {
-    begun: u64,
     pieces: u64,
     workers: u64,
     first: u32,
-}
-
-/// Merges what was found into each of some parts in which nothing was found yet.
-fn hand_out<P: Part>(found: &P, parts: &mut [P])
-    requires is_value { P.is_value (P.size_of found.now) (P.value found.now) }
-    requires units { AllHave P.size_of P.value (P.size_of found.now) (P.unit_of (P.size_of found.now)) parts.old }
-    ensures have { AllHave P.size_of P.value (P.size_of found.now) (P.value found.now) parts.new }
-    ensures places { length parts.new ≡ length parts.old }
-{
-    for part in parts.iter_mut() {
-        part.merge(found);
-    }
-}
-
-/// Runs piece 0 as worker 0, so that every partial begins with what it has. It passes the gate before.
-fn run_first<P: Part, K: Kernel<Out = P>, G: Gate>(kernel: &K, gate: &G, partials: &mut [P])
-    requires piece { 0 < K.pieces_of kernel.now }
-    requires some { 0 < length partials.old }
-    requires units { AllHave P.size_of P.value (K.size_of kernel.now) (P.unit_of (K.size_of kernel.now)) partials.old }
-    ensures have { AllHave P.size_of P.value (K.size_of kernel.now)
-        (merged_below P.merged (P.unit_of (K.size_of kernel.now)) (K.value_of kernel.now) 1) partials.new }
-    ensures places { length partials.new ≡ length partials.old }
-{
-    let (first, others) = partials.split_at_mut(1);
-    gate.pass(0, 0);
-    kernel.run(0, &mut first[0]);
-    hand_out(&first[0], others);
-}
-
-/// Begins the partials of workers, one for each, and tells how many pieces they have. Where there are several workers
-/// and many pieces for each, these are piece 0 alone.
-fn begin<P: Part, K: Kernel<Out = P>, G: Gate>(
-    kernel: &K,
-    gate: &G,
-    pieces: u64,
-    partials: &mut [P],
-) -> u64
-    requires of_kernel { pieces ≤ K.pieces_of kernel.now }
-    requires some { 0 < length partials.old }
-    requires units { AllHave P.size_of P.value (K.size_of kernel.now) (P.unit_of (K.size_of kernel.now)) partials.old }
-    ensures have { AllHave P.size_of P.value (K.size_of kernel.now)
-        (merged_below P.merged (P.unit_of (K.size_of kernel.now)) (K.value_of kernel.now) result) partials.new }
-    ensures places { length partials.new ≡ length partials.old }
-    ensures few { result ≤ 1 }
-    ensures within { result ≤ pieces }
-{
-    let workers = partials.len() as u64;
-    if workers == 1 || pieces / workers < MANY_PIECES {
-        return 0;
-    }
-    run_first(kernel, gate, partials);
-    1
 }
 
 /// Merges the first of some parts into the first of others.
@@ -102,28 +44,18 @@ fn run_team<R: Threads + Sync, P: Part, K: Kernel<Out = P>, G: Gate>(
 )
     requires team { IsTeam team (length partials.old) }
     requires of_kernel { team.pieces ≤ K.pieces_of kernel.now }
-    requires begin { AllHave P.size_of P.value (K.size_of kernel.now)
-        (merged_below P.merged (P.unit_of (K.size_of kernel.now)) (K.value_of kernel.now) team.begun) partials.old }
+    requires units { AllHave P.size_of P.value (K.size_of kernel.now) (P.unit_of (K.size_of kernel.now)) partials.old }
     ensures { FirstHas P.size_of P.value (K.size_of kernel.now)
         (merged_over P.merged (P.unit_of (K.size_of kernel.now)) (K.value_of kernel.now)
-        (shares team.begun team.pieces team.workers team.first (length partials.old))) partials.new }
+        (shares team.pieces team.workers team.first (length partials.old))) partials.new }
 {
     if partials.len() == 1 {
         let Team {
-            begun,
             pieces,
             workers,
             first,
         } = team;
-        run_share(
-            kernel,
-            gate,
-            begun,
-            pieces,
-            workers,
-            first,
-            &mut partials[0],
-        );
+        run_share(kernel, gate, pieces, workers, first, &mut partials[0]);
         return;
     }
     let (low, high) = partials.split_at_mut(partials.len() / 2);
@@ -151,32 +83,27 @@ fn run_both<R: Threads + Sync, P: Part, K: Kernel<Out = P>, G: Gate>(
     requires same_pieces { others.pieces ≡ team.pieces }
     requires same_workers { others.workers ≡ team.workers }
     requires next { others.first ≡ team.first + length low.old }
-    requires same_begun { others.begun ≡ team.begun }
-    requires low { AllHave P.size_of P.value (K.size_of kernel.now)
-        (merged_below P.merged (P.unit_of (K.size_of kernel.now)) (K.value_of kernel.now) team.begun) low.old }
-    requires high { AllHave P.size_of P.value (K.size_of kernel.now)
-        (merged_below P.merged (P.unit_of (K.size_of kernel.now)) (K.value_of kernel.now) team.begun) high.old }
+    requires low { AllHave P.size_of P.value (K.size_of kernel.now) (P.unit_of (K.size_of kernel.now)) low.old }
+    requires high { AllHave P.size_of P.value (K.size_of kernel.now) (P.unit_of (K.size_of kernel.now)) high.old }
     ensures { FirstHas P.size_of P.value (K.size_of kernel.now)
         (merged_over P.merged (P.unit_of (K.size_of kernel.now)) (K.value_of kernel.now)
-        (shares team.begun team.pieces team.workers team.first (length low.old + length high.old))) low.new }
+        (shares team.pieces team.workers team.first (length low.old + length high.old))) low.new }
 {
     let mut front = ||
-        requires { IsSync R.row × IsSync K.row × IsSync G.row × IsSend P.row
-            × IsTeam team (length low.now) × (team.pieces ≤ K.pieces_of kernel.now)
-            × AllHave P.size_of P.value (K.size_of kernel.now)
-            (merged_below P.merged (P.unit_of (K.size_of kernel.now)) (K.value_of kernel.now) team.begun) low.now }
+        requires { IsSync R.row × IsSync K.row × IsSync G.row × IsSend P.row × IsTeam team (length low.now)
+            × (team.pieces ≤ K.pieces_of kernel.now)
+            × AllHave P.size_of P.value (K.size_of kernel.now) (P.unit_of (K.size_of kernel.now)) low.now }
         ensures { FirstHas P.size_of P.value (K.size_of kernel.entry.now)
             (merged_over P.merged (P.unit_of (K.size_of kernel.entry.now)) (K.value_of kernel.entry.now)
-            (shares team.begun team.pieces team.workers team.first (length low.entry.now))) low.exit.now }
+            (shares team.pieces team.workers team.first (length low.entry.now))) low.exit.now }
     { run_team(rt, kernel, gate, team, low) };
     let mut back = ||
-        requires { IsSync R.row × IsSync K.row × IsSync G.row × IsSend P.row
-            × IsTeam others (length high.now) × (others.pieces ≤ K.pieces_of kernel.now)
-            × AllHave P.size_of P.value (K.size_of kernel.now)
-            (merged_below P.merged (P.unit_of (K.size_of kernel.now)) (K.value_of kernel.now) others.begun) high.now }
+        requires { IsSync R.row × IsSync K.row × IsSync G.row × IsSend P.row × IsTeam others (length high.now)
+            × (others.pieces ≤ K.pieces_of kernel.now)
+            × AllHave P.size_of P.value (K.size_of kernel.now) (P.unit_of (K.size_of kernel.now)) high.now }
         ensures { FirstHas P.size_of P.value (K.size_of kernel.entry.now)
             (merged_over P.merged (P.unit_of (K.size_of kernel.entry.now)) (K.value_of kernel.entry.now)
-            (shares others.begun others.pieces others.workers others.first (length high.entry.now))) high.exit.now }
+            (shares others.pieces others.workers others.first (length high.entry.now))) high.exit.now }
     { run_team(rt, kernel, gate, others, high) };
     join_mut(rt, &mut front, &mut back);
     merge_first(low, high);
@@ -184,9 +111,6 @@ fn run_both<R: Threads + Sync, P: Part, K: Kernel<Out = P>, G: Gate>(
 
 /// What the pieces below a number have together, run by so many workers side by side. Worker `k` runs piece `k`, and
 /// from there on every one that is as far from the last as there are workers. It passes the gate before each piece.
-///
-/// Where there are several workers and at least eight pieces for each, worker 0 runs piece 0 before the others start,
-/// and each of them begins with what that piece has.
 ///
 /// All memory is taken before the first thread is started. Each worker but one has a thread of its own; a worker whose
 /// thread can't be started is run by the one that would have started it.
@@ -208,14 +132,11 @@ pub fn run_all<R: Threads + Sync, K: Kernel, G: Gate>(
     ensures is_value { IfOk result (λ out. K.Out.is_value (K.size_of kernel.now) (K.Out.value out)) }
 {
     let mut partials = units::<K::Out>(alloc, workers, kernel.size())?;
-    let all = partials.as_mut_slice();
-    let begun = begin(kernel, gate, pieces, all);
     let team = Team {
-        begun,
         pieces,
         workers: u64::from(workers),
         first: 0,
     };
-    run_team(rt, kernel, gate, team, all);
+    run_team(rt, kernel, gate, team, partials.as_mut_slice());
     Ok(partials.swap_remove(0))
 }

@@ -116,18 +116,6 @@ fn each_worker_passes_before_its_pieces(rt: HostRuntime) -> Result<(), Fail> {
 }
 
 #[test]
-fn a_piece_that_is_run_first_is_run_once(rt: HostRuntime) -> Result<(), Fail> {
-    let gate = Passes::new(rt.alloc(), 40)?;
-    let found = run_all(&rt, rt.alloc(), &Marks { pieces: 40 }, 40, 4, &gate)?;
-    assert_eq!(rt; found.as_slice().len(), 40);
-    assert!(rt; is_each_marked(found.as_slice()));
-    for (piece, count) in gate.of_pieces.iter().enumerate() {
-        assert_eq!(rt; count.load(Ordering::SeqCst) as usize, piece % 4 + 1);
-    }
-    Ok(())
-}
-
-#[test]
 fn no_pieces_are_the_unit(rt: HostRuntime) -> Result<(), Fail> {
     let found = run_all(&rt, rt.alloc(), &Marks { pieces: 2 }, 0, 3, &OpenGate)?;
     assert_eq!(rt; found.as_slice(), [None, None].as_slice());

@@ -30,8 +30,8 @@ fn exit_code(status: Status) -> ExitCode
     ExitCode::from(status as u8)
 }
 
-/// Serves standard input with the words behind the program's name, both of which `shell` has, as it has standard output.
-/// Files are those of the system.
+/// Serves standard input with the words behind the program's name, both of which `shell` has, as it has standard
+/// output. Files are those of the system.
 fn run<R: AllocGlobal + Clone + Files + Threads + Sync, E: Env + Input + Print>(
     rt: &R,
     shell: &E,

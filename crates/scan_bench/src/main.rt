@@ -1,5 +1,5 @@
-//! Computes the profile of the samples of its input, or joins their halves, and prints a number that tells what was found.
-//! With the word `timed` it also prints the time that it took.
+//! Computes the profile of the samples of its input, or joins their halves, and prints a number that tells what was
+//! found. With the word `timed` it also prints the time that it took.
 #![tactic(auto)]
 
 ghost use Rattle.std.specs.Prelude.{◌≤◌, length};

@@ -42,8 +42,8 @@ pub struct Words {
 }
 
 impl Words {
-    /// Reads `workers`, `tiles`, `pairs`, `each` or `join`, the numbers of samples in a window, of diagonals in a tile and
-    /// of workers, and maybe `timed`.
+    /// Reads `workers`, `tiles`, `pairs`, `each` or `join`, the numbers of samples in a window, of diagonals in a tile
+    /// and of workers, and maybe `timed`.
     pub fn read(words: &[String]) -> Result<Words> {
         ensure!(
             words.len() == 4 || words.len() == 5,

@@ -71,8 +71,8 @@ fn check_in_folder<R: AllocGlobal + Clone + Env + Files + Print + Threads + Sync
     Ok(is_same)
 }
 
-/// Makes the run of the working folder with each line of its words, up to the first that gives something else than what is
-/// wanted.
+/// Makes the run of the working folder with each line of its words, up to the first that gives something else than what
+/// is wanted.
 fn check<R: AllocGlobal + Clone + Files + Print + Threads + Sync>(
     rt: &R,
     name: &str,

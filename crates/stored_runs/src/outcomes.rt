@@ -22,7 +22,8 @@ pub(crate) enum Difference {
 
 /// Where the outcomes differ first.
 pub(crate) fn first_difference(wanted: &Outcome<'_>, made: &Outcome<'_>) -> Option<Difference>
-    ensures none { result ≡ None ↔ (made.now.output.now ≡ wanted.now.output.now) × (made.now.status ≡ wanted.now.status) }
+    ensures none { result ≡ None ↔ (made.now.output.now ≡ wanted.now.output.now)
+        × (made.now.status ≡ wanted.now.status) }
 {
     if wanted.output != made.output {
         let at = same_bytes(wanted.output, made.output);

@@ -1,31 +1,28 @@
-use Rattle.std.proofs.Common.{◌≡◌, ◌+◌, ◌-◌, length, ◌∙◌, ap, arith, pos}
-use Rattle.mp_defs.specs.Profile.{windows_of}
+use Rattle.std.proofs.Common.{◌≡◌, ◌+◌, length, ◌∙◌, ap, arith, pos}
+use Rattle.std.specs.Prelude.{◌||◌}
 use Rattle.mp_tiles.specs.declared.blocks.Block.{Block}
 use Rattle.mp_tiles.specs.Scanning.{in_block}
-use Rattle.mp_tiles.specs.Blocks.{rows_of, columns_of, length_in, sum_in}
-use Rattle.mp_tiles.proofs.BlockLemmas.{windows_are}
-use Rattle.mp_tiles.proofs.LimitLemmas.{strip_cut, strip_past, no_block}
+use Rattle.mp_tiles.specs.Blocks.{sum_in}
+use Rattle.mp_tiles.proofs.LimitLemmas.{strip_cut, strip_past}
+use Rattle.mp_tiles.proofs.LoweringLemmas.{lowered_same, or_none, or_same}
 use Rattle.mp_tiles.proofs.groups.scan_strip_at.Goals as goal
 
-pub returns-then-left-gt0-clause-scanned : goal.returns-then-left-gt0-clause-scanned
-returns-then-left-gt0-clause-scanned g c =
-    let laws = g.met.O.Offers.laws in
+pub returns-then-left-gt0-clause-lowered : goal.returns-then-left-gt0-clause-lowered
+returns-then-left-gt0-clause-lowered c pairs rs cs h =
     let b : Block = c.args.block.now in
-    let wb = b.grid.columns.count in
     let n = length b.rows.e.now in
     let o = c.args.offset in
     let w = c.args.width in
-    let d = b.column + o - b.row in
-    let windows : windows_of (length_in b) (columns_of b) ≡ wb =
-    windows_are b.grid.columns.samples.now wb b.grid.rows.rest (omega (arith, b.grid.columns.all, b.grid.same_length))
-    in
-    laws.same (length_in b) (rows_of b) (columns_of b) (in_block d (d + w) b.row (b.row + c.min-end.result))
-    (in_block d (d + w) b.row (b.row + n)) _ _ c.requires.fits c.scan_strip_of.ensures.scanned
-    (λ i j lt lt'. strip_cut b.row b.column o w n wb c.min-end.result i j (omega (arith, c.requires.apart))
-    (omega (arith, c.min-end.ensures, c.saturating_sub-left.ensures)) (omega (arith, lt', windows)))
+    let end = c.min-end.result in
+    lowered_same b (λ r q. pairs r q || in_block o (o + w) 0 end r q) (λ r q. pairs r q || in_block o (o + w) 0 n r q)
+    rs
+    cs _ _ _ _ (c.scan_strip_of.ensures.lowered pairs rs cs h)
+    (λ r q _ _ there. or_same (pairs r q) (in_block o (o + w) 0 end r q) (in_block o (o + w) 0 n r q)
+    (strip_cut b.column o w n b.grid.columns.count end r q
+    (omega (arith, c.min-end.ensures, c.saturating_sub-left.ensures)) there))
 
 pub returns-then-left-gt0-clause-stored : goal.returns-then-left-gt0-clause-stored
-returns-then-left-gt0-clause-stored g c before t lt =
+returns-then-left-gt0-clause-stored c before t lt =
     let b : Block = c.args.block.now in
     let n = length b.rows.e.now in
     let o = c.args.offset in
@@ -33,21 +30,13 @@ returns-then-left-gt0-clause-stored g c before t lt =
     c.scan_strip_of.ensures.stored t lt
     ∙ ap (λ k. pos (sum_in b k (k + o + t))) full
 
-pub returns-else-left-gt0-clause-scanned : goal.returns-else-left-gt0-clause-scanned
-returns-else-left-gt0-clause-scanned g c =
-    let laws = g.met.O.Offers.laws in
+pub returns-else-left-gt0-clause-lowered : goal.returns-else-left-gt0-clause-lowered
+returns-else-left-gt0-clause-lowered c pairs rs cs h =
     let b : Block = c.args.block.now in
-    let wb = b.grid.columns.count in
     let n = length b.rows.e.now in
     let o = c.args.offset in
     let w = c.args.width in
-    let d = b.column + o - b.row in
-    let windows : windows_of (length_in b) (columns_of b) ≡ wb =
-    windows_are b.grid.columns.samples.now wb b.grid.rows.rest (omega (arith, b.grid.columns.all, b.grid.same_length))
-    in
-    laws.same (length_in b) (rows_of b) (columns_of b) (in_block d (d + w) b.row b.row)
-    (in_block d (d + w) b.row (b.row + n)) _ _ c.requires.fits
-    (laws.none (length_in b) (rows_of b) (columns_of b) (in_block d (d + w) b.row b.row) _ c.requires.fits
-    (λ i j. no_block d (d + w) b.row b.row i j (omega arith)))
-    (λ i j lt lt'. strip_past b.row b.column o w n wb i j (omega (arith, c.requires.apart))
-    (omega (arith, c.if-left-gt0.false, c.saturating_sub-left.ensures)) (omega (arith, lt', windows)))
+    lowered_same b pairs (λ r q. pairs r q || in_block o (o + w) 0 n r q) rs cs _ _ _ _ h
+    (λ r q _ _ there. or_none (pairs r q) (in_block o (o + w) 0 n r q)
+    (strip_past b.column o w n b.grid.columns.count r q
+    (omega (arith, c.if-left-gt0.false, c.saturating_sub-left.ensures)) there))

@@ -6,7 +6,7 @@ use Rattle.mp_tiles.proofs.LevelLemmas.{sum_below, fits_64, sum_lanes, sums_of, 
 use Rattle.mp_tiles.proofs.groups.scan_strip_of.Goals as goal
 
 pub load-requires-clause-lanes : goal.load-requires-clause-lanes
-load-requires-clause-lanes g c =
+load-requires-clause-lanes c =
     let b : Block = c.args.block.now in
     let x = level b.scale.low (rows_of b) in
     let y = level b.scale.low (columns_of b) in
@@ -17,7 +17,7 @@ load-requires-clause-lanes g c =
     }
 
 pub scan_sixteen-requires-clause-sums : goal.scan_sixteen-requires-clause-sums
-scan_sixteen-requires-clause-sums g c =
+scan_sixteen-requires-clause-sums c =
     let b : Block = c.args.block.now in
     let x = level b.scale.low (rows_of b) in
     let y = level b.scale.low (columns_of b) in
@@ -26,7 +26,7 @@ scan_sixteen-requires-clause-sums g c =
     c.requires.sums)
 
 pub store-requires-clause-lanes : goal.store-requires-clause-lanes
-store-requires-clause-lanes g c =
+store-requires-clause-lanes c =
     let b : Block = c.args.block.now in
     let x = level b.scale.low (rows_of b) in
     let y = level b.scale.low (columns_of b) in
@@ -37,7 +37,7 @@ store-requires-clause-lanes g c =
     c.scan_sixteen.ensures.sums)
 
 pub returns-clause-stored : goal.returns-clause-stored
-returns-clause-stored g c t lt =
+returns-clause-stored c t lt =
     let b : Block = c.args.block.now in
     let x = level b.scale.low (rows_of b) in
     let y = level b.scale.low (columns_of b) in

@@ -1,35 +1,34 @@
-use Rattle.std.proofs.Common.{◌≡◌, ℕ, ◌+◌, ◌-◌, ◌*◌, ◌<◌, ◌⊎◌, inl, inr, min, length, ◌∙◌, ap, arith}
-use Rattle.std.proofs.Common.{pos, refl}
+use Rattle.std.proofs.Common.{◌≡◌, ℕ, ◌+◌, ◌*◌, ◌<◌, ◌⊎◌, inl, inr, min, length, ◌∙◌, ap, arith}
+use Rattle.std.proofs.Common.{pos, refl, sym, false}
+use Rattle.std.specs.Prelude.{◌||◌}
 use Rattle.std.proofs.lemmas.Grind.{div_ceil_times}
 use Rattle.mp_tiles.specs.declared.blocks.Block.{Block}
 use Rattle.mp_tiles.specs.Scanning.{in_block}
 use Rattle.mp_tiles.specs.Lanes.{lane}
 use Rattle.mp_tiles.specs.Levels.{level, sum_at}
 use Rattle.mp_tiles.specs.Blocks.{rows_of, columns_of, length_in}
-use Rattle.mp_tiles.proofs.BlockLemmas.{scanned_next}
 use Rattle.mp_tiles.proofs.LimitLemmas.{strips_next, all_strips, no_strips}
+use Rattle.mp_tiles.proofs.LoweringLemmas.{lowered_same}
 use Rattle.mp_tiles.proofs.groups.scan_strips.Goals as goal
 
 last_or_before : (s k : ℕ) → s < k + 1 → (s ≡ k) ⊎ (s < k)
 last_or_before s k lt = grind arith
 
 pub loop-strip-init : goal.loop-strip-init
-loop-strip-init g c =
+loop-strip-init c =
     let b : Block = c.args.block.now in
-    let d = b.column - b.row in
+    let n = length b.rows.e.now in
     record {
       places = refl;
-      fits = c.requires.fits;
-      scanned = g.met.O.Offers.laws.none (length_in b) (rows_of b) (columns_of b)
-          (in_block d (d + min (0 * 16) c.args.width) b.row (b.row + length b.rows.e.now)) _ c.requires.fits
-          (λ i j. no_strips d c.args.width b.row (b.row + length b.rows.e.now) i j);
+      sides = c.requires.sides;
+      lowered = λ rs cs h. lowered_same b (λ _ _. false) (in_block 0 (min (0 * 16) c.args.width) 0 n) rs cs _ _ _ _ h
+          (λ r q _ _ _. sym (no_strips c.args.width 0 n r q));
       done = λ s t lt. absurd (omega (arith, lt));
       left = λ s t le lt within before. c.requires.sums.each s t lt within before;
-      limits = c.requires.limits;
     }
 
 pub scan_strip_at-requires-clause-sums : goal.scan_strip_at-requires-clause-sums
-scan_strip_at-requires-clause-sums g c before t lt =
+scan_strip_at-requires-clause-sums c before t lt =
     let b : Block = c.args.block.now in
     let x = level b.scale.low (rows_of b) in
     let y = level b.scale.low (columns_of b) in
@@ -48,30 +47,26 @@ scan_strip_at-requires-clause-sums g c before t lt =
     ∙ ap (λ j. pos (sum_at x y (length_in b) (b.row + 0) j)) (omega arith)
 
 pub loop-strip-preserved : goal.loop-strip-preserved
-loop-strip-preserved g c =
-    let laws = g.met.O.Offers.laws in
+loop-strip-preserved c =
     let b : Block = c.args.block.now in
     let m = length_in b in
     let x = level b.scale.low (rows_of b) in
     let y = level b.scale.low (columns_of b) in
     let n = length b.rows.e.now in
-    let d = b.column - b.row in
     let k = c.loop-strip.strip in
     let o = k * 16 in
     let w = c.min.result in
+    let u = min o c.args.width in
+    let l = min ((k + 1) * 16) c.args.width in
     let before = c.loop-strip.invariant in
     let next = c.scan_strip_at.ensures in
     record {
       places = next.places ∙ before.places;
-      fits = laws.still_fits m (rows_of b) (columns_of b)
-          (in_block (b.column + o - b.row) (b.column + o - b.row + w) b.row (b.row + n)) _ _ before.fits next.scanned;
-      scanned = scanned_next laws m (rows_of b) (columns_of b)
-          (in_block d (d + min o c.args.width) b.row (b.row + n))
-          (in_block (b.column + o - b.row) (b.column + o - b.row + w) b.row (b.row + n))
-          (in_block d (d + min ((k + 1) * 16) c.args.width) b.row (b.row + n)) _ _ _ c.requires.fits before.scanned
-          next.scanned
-          (λ i j _ _. strips_next b.row b.column o w c.args.width ((k + 1) * 16) b.row (b.row + n) i j
-          (omega (arith, c.requires.apart)) (omega arith) (omega (arith, c.min.ensures)) (omega arith));
+      sides = next.sides;
+      lowered = λ rs cs h. lowered_same b (λ r q. in_block 0 u 0 n r q || in_block o (o + w) 0 n r q) (in_block 0 l 0 n)
+          rs cs _ _ _ _ (next.lowered (in_block 0 u 0 n) rs cs (before.lowered rs cs h))
+          (λ r q _ _ _. strips_next o w c.args.width ((k + 1) * 16) 0 n r q (omega arith) (omega (arith, c.min.ensures))
+          (omega arith));
       done = λ s t lt lt' within behind. elim (last_or_before s k lt) [
         | inl same ↦
             let here : s * 16 ≡ o = omega (arith, same) in
@@ -84,23 +79,19 @@ loop-strip-preserved g c =
       left = λ s t le lt within behind.
           next.behind (s * 16 + t) (omega (arith, le))
           ∙ before.left s t (omega (arith, le)) lt (omega (arith, within, next.places)) behind;
-      limits = next.limits;
     }
 
-pub returns-clause-scanned : goal.returns-clause-scanned
-returns-clause-scanned g c =
-    let laws = g.met.O.Offers.laws in
+pub returns-clause-lowered : goal.returns-clause-lowered
+returns-clause-lowered c rs cs h =
     let b : Block = c.args.block.now in
     let n = length b.rows.e.now in
-    let d = b.column - b.row in
     let o = c.loop-strip.strip * 16 in
-    laws.same (length_in b) (rows_of b) (columns_of b) (in_block d (d + min o c.args.width) b.row (b.row + n))
-    (in_block d (d + c.args.width) b.row (b.row + n)) _ _ c.requires.fits c.loop-strip.invariant.scanned
-    (λ i j _ _. all_strips d c.args.width o b.row (b.row + n) i j
-    (omega (arith, (div_ceil_times c.args.width 16 (omega arith)).0)))
+    lowered_same b (in_block 0 (min o c.args.width) 0 n) (in_block 0 c.args.width 0 n) rs cs _ _ _ _
+    (c.loop-strip.invariant.lowered rs cs h)
+    (λ r q _ _ _. all_strips c.args.width o 0 n r q (omega (arith, (div_ceil_times c.args.width 16 (omega arith)).0)))
 
 pub returns-clause-sums : goal.returns-clause-sums
-returns-clause-sums g c = record {
+returns-clause-sums c = record {
   each = λ s t lt within before.
       c.loop-strip.invariant.done s t
       (omega (arith, within, c.loop-strip.invariant.places, c.requires.strips)) lt within before;

@@ -5,6 +5,7 @@ use Rattle.mp_tiles.specs.Scanning.{in_block}
 use Rattle.mp_tiles.specs.PatchScanning.{IsPatched}
 use Rattle.mp_tiles.specs.PatchLaws.{patch_offers, rows_alone, columns_alone}
 use Rattle.mp_tiles.proofs.BlockLemmas.{own_pairs}
+use Rattle.mp_tiles.proofs.LevelLemmas.{scaled_as}
 use Rattle.mp_tiles.proofs.PatchedTiles.{row_first}
 use Rattle.mp_tiles.proofs.scans.scan_patch.Goals as goal
 
@@ -39,3 +40,14 @@ pub returns-clause-columns : goal.returns-clause-columns
 returns-clause-columns c =
     columns_alone (has_pair 0 c.args.tile.now) c.args.m (series_of c.args.samples.now) _ _ _
     (row_first c.args.tile.now (omega (arith, c.requires.tile.after))) (scanned c).columns
+
+pub invariant_of-grid : goal.invariant_of-grid
+invariant_of-grid c =
+    let a = c.args.samples.now in
+    let here = c.of-windows.result in
+    record {
+      same_length = refl;
+      scaled = scaled_as c.find_scale.result a here.samples.now a here.samples.now c.args.m (here.rest + 1)
+          c.of-windows.ensures.samples c.of-windows.ensures.samples (omega (arith, c.of-windows.ensures.rest))
+          c.find_scale.ensures;
+    }

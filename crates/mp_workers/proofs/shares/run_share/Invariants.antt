@@ -10,7 +10,7 @@ invariant-loop-piece g l =
     record {
       value : part.value l.into
           ≡ merged_over part.merged (part.unit_of (kernel.size_of l.kernel)) (kernel.value_of l.kernel)
-          (share_below l.begun l.pieces l.workers l.worker l.piece);
+          (share_below l.pieces l.workers l.worker l.piece);
       size : part.size_of l.into ≡ kernel.size_of l.kernel;
       own : l.piece % l.workers ≡ l.worker;
       bound : l.piece ≤ l.pieces + l.workers;

@@ -16,9 +16,9 @@ run_both-merge_first-requires-after_bounds g t c =
     λ _ _. (
       size,
       merged_over part.merged (part.unit_of size) value
-          (shares team.begun team.pieces team.workers team.first (length c.args.low.now)),
+          (shares team.pieces team.workers team.first (length c.args.low.now)),
       merged_over part.merged (part.unit_of size) value
-          (shares others.begun others.pieces others.workers others.first (length c.args.high.now)),
+          (shares others.pieces others.workers others.first (length c.args.high.now)),
       search rules,
       search rules,
     )
@@ -36,17 +36,16 @@ run_both-returns g t c =
     let others = c.args.others in
     let low = length c.args.low.now in
     let high = length c.args.high.now in
-    let together = shares_merge part.is_value part.unit_of part.merged part_laws.laws size value team.begun
-    team.pieces team.workers team.first low high
+    let together = shares_merge part.is_value part.unit_of part.merged part_laws.laws size value team.pieces
+    team.workers team.first low high
     (λ k lt. kernel_laws.has_values c.args.kernel.now k (omega (arith, lt, c.requires.of_kernel))) in
+    let a = merged_over part.merged (part.unit_of size) value (shares team.pieces team.workers team.first low) in
+    let b = merged_over part.merged (part.unit_of size) value (shares others.pieces others.workers others.first high) in
     let over = merged_over part.merged (part.unit_of size) value in
-    let a = over (shares team.begun team.pieces team.workers team.first low) in
-    let b = over (shares others.begun others.pieces others.workers others.first high) in
-    let next : b ≡ over (shares team.begun team.pieces team.workers (team.first + low) high) =
-    ap (λ n. over (shares n others.pieces others.workers others.first high)) c.requires.same_begun
-    ∙ ap (λ n. over (shares team.begun n others.workers others.first high)) c.requires.same_pieces
-    ∙ ap (λ n. over (shares team.begun team.pieces n others.first high)) c.requires.same_workers
-    ∙ ap (λ n. over (shares team.begun team.pieces team.workers n high)) c.requires.next in
+    let next : b ≡ over (shares team.pieces team.workers (team.first + low) high) =
+    ap (λ n. over (shares n others.workers others.first high)) c.requires.same_pieces
+    ∙ ap (λ n. over (shares team.pieces n others.first high)) c.requires.same_workers
+    ∙ ap (λ n. over (shares team.pieces team.workers n high)) c.requires.next in
     subst (λ v. FirstHas part.size_of part.value size v c.merge_first.new.low) (ap (part.merged a) next ∙ together)
     (c.merge_first.ensures size a b (search rules) (search rules))
 
@@ -63,8 +62,8 @@ run_team-returns-then-partials-eq1 g t c =
       c.run_share.new.into,
       first_set partials c.run_share.new.into c.requires.team.some,
       c.run_share.ensures.size,
-      share_is_shares part.is_value part.unit_of part.merged part_laws.laws size value team.begun team.pieces
-          team.workers team.first (length partials)
+      share_is_shares part.is_value part.unit_of part.merged part_laws.laws size value team.pieces team.workers
+          team.first (length partials)
           (λ k lt. kernel_laws.has_values c.args.kernel.now k (omega (arith, lt, c.requires.of_kernel)))
           c.if-partials-eq1.true (part.value c.run_share.new.into) c.run_share.ensures.value,
     )

@@ -3,12 +3,12 @@ use Rattle.mp_workers.specs.Teams.{AllHave}
 use Rattle.mp_workers.proofs.Merges.{units_have, front_taken, all_shares_merge, all_is_value}
 use Rattle.mp_workers.proofs.teams.run_all.Goals as goal
 
-pub begin-begun-requires-clause-units : goal.begin-begun-requires-clause-units
-begin-begun-requires-clause-units g c κs within =
+pub run_team-requires-clause-units : goal.run_team-requires-clause-units
+run_team-requires-clause-units g c κs within =
     let part = g.K.Out.Part in
     let size = g.K.Kernel.size_of c.args.kernel.now in
     let new = c.in_ok-partials.ensures in
-    subst (AllHave part.size_of part.value size (part.unit_of size)) (sym c.as_mut_slice-all.ensures.value)
+    subst (AllHave part.size_of part.value size (part.unit_of size)) (sym c.as_mut_slice.ensures.value)
     (units_have part.size_of part.value size (part.unit_of size) c.args.workers c.in_ok-partials.partials.items
     (new.values ∙ ap (λ n. replicate c.args.workers (part.unit_of n)) c.size.ensures)
     (new.sizes ∙ ap (replicate c.args.workers) c.size.ensures)).1
@@ -32,11 +32,11 @@ returns-clause-value g c =
     front_taken c.run_team.new.partials (drop (length c.run_team.new.partials) c.in_ok-partials.partials.items)
     c.in_ok-partials.partials.len first.0 c.swap_remove.result
     (omega (arith, count, c.in_ok-partials.partials.ok, c.requires.some)) first.1 c.swap_remove.ensures.value in
-    all_shares_merge part.is_value part.unit_of part.merged part_laws.laws size value c.begin-begun.result
-    c.args.pieces c.from.result (length c.begin-begun.new.partials)
+    all_shares_merge part.is_value part.unit_of part.merged part_laws.laws size value c.args.pieces c.from.result
+    (length c.as_mut_slice.result.now)
     (λ k lt. kernel_laws.has_values c.args.kernel.now k (omega (arith, lt, c.requires.of_kernel)))
     (omega (arith, c.from.ensures, c.requires.some))
-    (c.begin-begun.ensures.places ∙ ap length c.as_mut_slice-all.ensures.value ∙ count ∙ sym c.from.ensures)
+    (ap length c.as_mut_slice.ensures.value ∙ count ∙ sym c.from.ensures)
     (part.value first.0) (part.value c.swap_remove.result) (ap part.value taken) first.3
 
 pub returns-clause-is_value : goal.returns-clause-is_value

@@ -12,7 +12,7 @@ use Rattle.mp_tiles.proofs.joins.JoinTilesKernel.run.Goals as goal
 
 pub returns-clause-value : goal.returns-clause-value
 returns-clause-value c =
-    let new = c.scan_both.new.into in
+    let new = c.scan_both_by.new.into in
     let old = c.args.into.now in
     let join = c.self.inside in
     let m = join.m in
@@ -24,4 +24,4 @@ returns-clause-value c =
     (subst (λ (t : Tile). ◌≡◌ {A = Value} (new.items ∷ [])
     (merged_columns (old.items ∷ []) (nearest_column (has_pair origin t) m a b ∷ [])))
     (sym (get_or_from_slice_get join.cut c.args.piece c.tile.result no_tile c.tile.ensures))
-    (ap (λ column. column ∷ []) c.scan_both.ensures.items))
+    (ap (λ column. column ∷ []) c.scan_both_by.ensures.joined.items))

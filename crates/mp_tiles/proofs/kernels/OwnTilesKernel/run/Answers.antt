@@ -19,11 +19,11 @@ merged_value old new p e f g = cc
 
 pub returns-clause-value : goal.returns-clause-value
 returns-clause-value c =
-    let new = c.scan_own.new.into in
+    let new = c.scan_own_by.new.into in
     let old = c.args.into.now in
     let own = c.self.inside in
     let merged = merged_value old new (profile_among (has_pair 0 c.tile.result) own.m (series_of own.samples.now))
-    c.scan_own.ensures.all c.scan_own.ensures.left c.scan_own.ensures.right in
+    c.scan_own_by.ensures.scanned.all c.scan_own_by.ensures.scanned.left c.scan_own_by.ensures.scanned.right in
     subst (λ (o : OwnTiling). ◌≡◌ {A = Value} (new.all ∷ new.left ∷ new.right ∷ [])
     (merged_columns (old.all ∷ old.left ∷ old.right ∷ []) (own_value o c.args.piece))) c.self.view_is
     (subst (λ (t : Tile). ◌≡◌ {A = Value} (new.all ∷ new.left ∷ new.right ∷ [])

@@ -4,7 +4,7 @@ use Rattle.std.proofs.lemmas.Int.{ints}
 use Rattle.mp_nums.specs.declared.samples.Sample.TheVariants.{Missing}
 use Rattle.mp_defs.specs.Series.{reading_of}
 use Rattle.mp_tiles.proofs.LevelLemmas.{between_all}
-use Rattle.mp_tiles.proofs.levels.widened.Goals as goal
+use Rattle.mp_tiles.proofs.scales.widened.Goals as goal
 
 pub loop-k-preserved : goal.loop-k-preserved
 loop-k-preserved c =

@@ -2,7 +2,7 @@ use Rattle.std.proofs.Common.{◌≡◌, ℕ, ◌<◌, get_or, ℤ}
 use Rattle.std.specs.Prelude.{Some, ◌≤ℤ◌}
 use Rattle.mp_nums.specs.declared.samples.Sample.TheVariants.{Missing}
 use Rattle.mp_defs.specs.Series.{reading_of}
-use Rattle.mp_tiles.proofs.levels.widened.Given as goal
+use Rattle.mp_tiles.proofs.scales.widened.Given as goal
 
 abbrev pub invariant-loop-k : goal.invariant-loop-k
 invariant-loop-k l = record {
