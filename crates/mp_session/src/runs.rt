@@ -1,24 +1,7 @@
 //! Lines run one after another, each with its report.
 
-ghost use Rattle.std.specs.Prelude.{
-  ◌≡◌,
-  ◌⊎◌,
-  ℕ,
-  ◌+◌,
-  ◌-◌,
-  ◌^◌,
-  ◌<◌,
-  ◌≤◌,
-  List,
-  [],
-  ◌∷◌,
-  length,
-  IfOk,
-  OnErr,
-  IsErrOf,
-  true,
-  false,
-};
+ghost use Rattle.std.specs.Prelude.{◌≡◌, ◌⊎◌, ℕ, ◌+◌, ◌-◌, ◌^◌, ◌<◌, ◌≤◌, List, [], ◌∷◌, length, IfOk, OnErr, IsErrOf};
+ghost use Rattle.std.specs.Prelude.{true, false};
 ghost use Rattle.mp_outside.specs.Counts.{Rose};
 ghost use Rattle.mp_replies.specs.Line.{ends};
 ghost use Rattle.mp_replies.specs.State.{State};

@@ -1,26 +1,7 @@
 //! A session: lines in, replies out.
 
-ghost use Rattle.std.specs.Prelude.{
-  ◌≡◌,
-  ◌↔◌,
-  ℕ,
-  ◌+◌,
-  ◌-◌,
-  ◌^◌,
-  ◌<◌,
-  ◌≤◌,
-  min,
-  All,
-  length,
-  IfOk,
-  OnOk,
-  OnErr,
-  IsErrOf,
-  IsNone,
-  IfSome,
-  true,
-  false,
-};
+ghost use Rattle.std.specs.Prelude.{◌≡◌, ◌↔◌, ℕ, ◌+◌, ◌-◌, ◌^◌, ◌<◌, ◌≤◌, min, All, length, IfOk, OnOk, OnErr, IsErrOf};
+ghost use Rattle.std.specs.Prelude.{IsNone, IfSome, true, false};
 ghost use Rattle.mp_outside.specs.Counts.{Rose};
 
 use mp_commands::{Change, Context, Prepared, Reply, Stop, prepare};

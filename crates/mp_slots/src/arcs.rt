@@ -1,21 +1,7 @@
 //! Arcs that follow a profile as it changes.
 
-ghost use Rattle.std.specs.Prelude.{
-  ◌≡◌,
-  ℕ,
-  ◌+◌,
-  ◌*◌,
-  ◌<◌,
-  ◌≤◌,
-  false,
-  true,
-  length,
-  min,
-  slice_index_or,
-  slice_set,
-  IfSome,
-  None,
-};
+ghost use Rattle.std.specs.Prelude.{◌≡◌, ℕ, ◌+◌, ◌*◌, ◌<◌, ◌≤◌, false, true, length, min, slice_index_or, slice_set};
+ghost use Rattle.std.specs.Prelude.{IfSome, None};
 ghost use Rattle.mp_arcs.specs.Arcs.{index_of, indices_of};
 ghost use Rattle.mp_arcs.specs.Board.{NameWithin};
 ghost use Rattle.mp_defs.specs.Limits.{max_samples};

@@ -1,35 +1,7 @@
 //! The slots.
 
-ghost use Rattle.std.specs.Prelude.{
-  ◌≡◌,
-  ◌≢◌,
-  ◌==◌,
-  ◌↔◌,
-  ◌+◌,
-  ◌-◌,
-  ◌*◌,
-  ◌^◌,
-  ◌<◌,
-  ◌≤◌,
-  ℕ,
-  List,
-  [],
-  ◌∷◌,
-  ◌++◌,
-  length,
-  vec_len,
-  map,
-  min,
-  sum_by,
-  take,
-  drop,
-  replicate,
-  All,
-  IfOk,
-  OnOk,
-  IsNone,
-  IfSome,
-};
+ghost use Rattle.std.specs.Prelude.{◌≡◌, ◌≢◌, ◌==◌, ◌↔◌, ◌+◌, ◌-◌, ◌*◌, ◌^◌, ◌<◌, ◌≤◌, ℕ, List, [], ◌∷◌, ◌++◌, length};
+ghost use Rattle.std.specs.Prelude.{vec_len, map, min, sum_by, take, drop, replicate, All, IfOk, OnOk, IsNone, IfSome};
 
 use crate::channels::Channel;
 use crate::groups::{add_all, reads_of, reserve_all};
@@ -77,22 +49,8 @@ impl Slots {
     ghost use Rattle.mp_replies.specs.Change.{AddSamples, PutChannels, changed};
     ghost use Rattle.mp_replies.specs.State.{Closed, Open, channels_at, is_closed, samples_in, series_at, store_at};
     ghost use Rattle.mp_report.specs.Profiles.{columns_in};
-    ghost use Rattle.mp_slots.specs.Slots.{
-      AreChannels,
-      AreEven,
-      HaveRoom,
-      HaveWindow,
-      IsChannel,
-      WasRead,
-      channel_at,
-      lent_once,
-      lists_in,
-      reads_in,
-      reads_to_add,
-      series_in,
-      slot_at,
-      stores_of,
-    };
+    ghost use Rattle.mp_slots.specs.Slots.{AreChannels, AreEven, HaveRoom, HaveWindow, IsChannel, WasRead, channel_at};
+    ghost use Rattle.mp_slots.specs.Slots.{lent_once, lists_in, reads_in, reads_to_add, series_in, slot_at, stores_of};
 
     /// Slot 0 is open with one empty channel, and the others are closed. Windows have `m` samples.
     pub fn new<R: Threads + Sync>(rt: &R, alloc: Global, m: u32) -> Result<Slots, Memory>

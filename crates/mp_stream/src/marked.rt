@@ -1,28 +1,7 @@
 //! A profile whose windows are marked by blocks where their entries change.
 
-ghost use Rattle.std.specs.Prelude.{
-  ◌≡◌,
-  ◌≢◌,
-  ◌+◌,
-  ◌/◌,
-  ◌<◌,
-  ◌≤◌,
-  ℕ,
-  nat_lt,
-  if◌then◌else◌,
-  [],
-  ◌∷◌,
-  ◌++◌,
-  false,
-  true,
-  length,
-  slice_index_or,
-  slice_set,
-  IfOk,
-  IsOk,
-  OnOk,
-  None,
-};
+ghost use Rattle.std.specs.Prelude.{◌≡◌, ◌≢◌, ◌+◌, ◌/◌, ◌<◌, ◌≤◌, ℕ, nat_lt, if◌then◌else◌, [], ◌∷◌, ◌++◌, false, true};
+ghost use Rattle.std.specs.Prelude.{length, slice_index_or, slice_set, IfOk, IsOk, OnOk, None};
 ghost use Rattle.mp_partial.specs.Values.{merged_column, offered};
 ghost use Rattle.mp_stream.specs.Blocks.{StayKnown, block_count};
 

@@ -1,23 +1,7 @@
 //! A row in sums of 64 bits.
 
-ghost use Rattle.std.specs.Prelude.{
-  ◌≡◌,
-  ◌+◌,
-  ◌-◌,
-  ◌^◌,
-  ◌<◌,
-  ◌≤◌,
-  ℕ,
-  ◌++◌,
-  ◌∷◌,
-  [],
-  length,
-  min,
-  slice_index,
-  IfOk,
-  IsOk,
-  OnOk,
-};
+ghost use Rattle.std.specs.Prelude.{◌≡◌, ◌+◌, ◌-◌, ◌^◌, ◌<◌, ◌≤◌, ℕ, ◌++◌, ◌∷◌, [], length, min, slice_index, IfOk};
+ghost use Rattle.std.specs.Prelude.{IsOk, OnOk};
 
 use mp_nums::{Items, Memory};
 use std::alloc::Global;

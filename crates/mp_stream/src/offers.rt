@@ -1,23 +1,7 @@
 //! What the distances of the last window make of a profile.
 
-ghost use Rattle.std.specs.Prelude.{
-  ◌≡◌,
-  ℕ,
-  ◌+◌,
-  ◌-◌,
-  ◌*◌,
-  ◌^◌,
-  ◌<◌,
-  ◌≤◌,
-  length,
-  false,
-  if◌then◌else◌,
-  slice_index,
-  slice_index_or,
-  Some,
-  None,
-  IfSome,
-};
+ghost use Rattle.std.specs.Prelude.{◌≡◌, ℕ, ◌+◌, ◌-◌, ◌*◌, ◌^◌, ◌<◌, ◌≤◌, length, false, if◌then◌else◌, slice_index};
+ghost use Rattle.std.specs.Prelude.{slice_index_or, Some, None, IfSome};
 ghost use Rattle.mp_nums.specs.Near.{nearer_of};
 ghost use Rattle.mp_defs.specs.Least.{near, near_at};
 ghost use Rattle.mp_partial.specs.Values.{offered};

@@ -1,21 +1,7 @@
 //! What the last window makes of a profile, by sums of 64 bits.
 
-ghost use Rattle.std.specs.Prelude.{
-  ◌≡◌,
-  ℕ,
-  ◌+◌,
-  ◌-◌,
-  ◌^◌,
-  ◌<◌,
-  ◌≤◌,
-  length,
-  false,
-  if◌then◌else◌,
-  slice_index,
-  slice_index_or,
-  Some,
-  None,
-};
+ghost use Rattle.std.specs.Prelude.{◌≡◌, ℕ, ◌+◌, ◌-◌, ◌^◌, ◌<◌, ◌≤◌, length, false, if◌then◌else◌, slice_index};
+ghost use Rattle.std.specs.Prelude.{slice_index_or, Some, None};
 ghost use Rattle.mp_nums.specs.Near.{nearer_of};
 ghost use Rattle.mp_defs.specs.Least.{near, near_at};
 ghost use Rattle.mp_partial.specs.Values.{offered};

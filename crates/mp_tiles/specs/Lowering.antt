@@ -26,9 +26,8 @@ pub record HasNearer (limits : List ℤ) (nearest : List ℕ) (k : ℕ) (dist : 
   pub limit_places : length limits' ≡ length limits
   pub nearest_places : length nearest' ≡ length nearest
 
--- a limit that began at some distance was lowered to the sum of the first of the nearest of these places, of which
--- those
--- are meant whose own limit began at no less than 0. Nowhere stands for none
+-- a limit that began at some distance was lowered to the sum of the first of the nearest of these places, of which only
+-- those are meant whose own limit began at 0 or more. Nowhere stands for none
 pub record IsLowered (pairs : ℕ → Bool) (others : List ℤ) (sum : ℕ → ℕ) (start limit : ℤ) (nearest : ℕ) : Type 0 where
   pub started : pos 0 ≤ℤ limit → pos 0 ≤ℤ start
   pub passing : pos 0 ≤ℤ start → pos 0 ≤ℤ limit

@@ -39,7 +39,8 @@ impl<'a> OwnTiles<'a> {
     ghost use Rattle.mp_tiles.specs.Cutting.{own_tiles};
     ghost use Rattle.mp_tiles.specs.Pieces.{own_together};
 
-    /// The tiles of at most `tile` diagonals of the samples' windows of length `m`. It takes no memory.
+    /// The tiles of at most `tile` diagonals of the samples' windows of length `m`. It looks at each sample once, and
+    /// takes no memory.
     pub fn new(samples: &'a [Sample], m: u32, tile: u32) -> OwnTiles<'a>
         requires shortest { MIN_WINDOW ≤ m }
         requires longest { m ≤ MAX_WINDOW }

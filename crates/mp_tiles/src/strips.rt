@@ -1,23 +1,7 @@
 //! Strips of sixteen diagonals: the pairs that a limit lets through lower it.
 
-ghost use Rattle.std.specs.Prelude.{
-  ◌≡◌,
-  ℕ,
-  ◌+◌,
-  ◌<◌,
-  ◌≤◌,
-  List,
-  min,
-  length,
-  ℤ,
-  pos,
-  ◌≤ℤ◌,
-  ◌<ℤ◌,
-  Bool,
-  true,
-  false,
-  ◌||◌,
-};
+ghost use Rattle.std.specs.Prelude.{◌≡◌, ℕ, ◌+◌, ◌<◌, ◌≤◌, List, min, length, ℤ, pos, ◌≤ℤ◌, ◌<ℤ◌, Bool, true, false};
+ghost use Rattle.std.specs.Prelude.{◌||◌};
 ghost use Rattle.mp_tiles.specs.Pairs.{only};
 ghost use Rattle.mp_tiles.specs.Scanning.{in_block};
 ghost use Rattle.mp_tiles.specs.Blocks.{sum_in, in_row, AreSumsAt};
