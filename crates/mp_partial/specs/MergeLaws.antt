@@ -59,7 +59,7 @@ all_zip f P h (x ∷ xs) (y ∷ ys) p q =
 
 -- ---- columns
 
-column_unit : (size : ℕ) (a : Column) → length a ≡ size → merged_column (empty_column size) a ≡ a
+pub column_unit : (size : ℕ) (a : Column) → length a ≡ size → merged_column (empty_column size) a ≡ a
 column_unit size a l = zip_unit_first nearer_of (λ _. ⊤) None (λ x _. (nearer_with_none x).0) size a l (λ _ _ _. tt)
 
 column_commutes : (a b : Column) → merged_column a b ≡ merged_column b a

@@ -1,6 +1,6 @@
 //! A profile of a part of the pairs of windows.
 
-ghost use Rattle.std.specs.Prelude.{◌≡◌, ◌≢◌, ◌+◌, ◌<◌, ◌≤◌, ◌↔◌, nat_lt, if◌then◌else◌, [], ◌∷◌, ◌++◌, length, IsOk, IsTrue, OnOk, Some, None};
+ghost use Rattle.std.specs.Prelude.{◌≡◌, ◌≢◌, ◌+◌, ◌<◌, ◌≤◌, ◌↔◌, nat_lt, if◌then◌else◌, [], ◌∷◌, ◌++◌, length, IsOk, IfOk, IsTrue, OnOk, Some, None};
 ghost use Rattle.mp_partial.specs.Values.{HasColumns, empty_column, empty_columns, merged_columns, merged_column, offered};
 ghost use Rattle.mp_partial.specs.MergeLaws.{columns_merge};
 ghost use Rattle.mp_partial.specs.Patching.{slots_from, placed};
@@ -44,6 +44,19 @@ impl Profile {
             left: Items::new(alloc),
             right: Items::new(alloc),
         }
+    }
+
+    /// The profile of what was found on both sides of windows.
+    pub fn of_sides(alloc: Global, left: Slots, right: Slots) -> Result<Profile, Memory>
+        requires { length right.items ≡ length left.items }
+        ensures left { IfOk result (λ p. p.left ≡ left.items) }
+        ensures right { IfOk result (λ p. p.right ≡ right.items) }
+        ensures all { IfOk result (λ p. p.all ≡ merged_column left.items right.items) }
+    {
+        let mut all = columns::empty(alloc, left.as_slice().len() as u64)?;
+        columns::merge(&mut all, &left);
+        columns::merge(&mut all, &right);
+        Ok(Profile { all, left, right })
     }
 
     /// The nearest windows.

@@ -2,11 +2,15 @@ pub mod TileLemmas
 pub mod CutLemmas
 pub mod PairLemmas
 pub mod SumLemmas
+pub mod SideLemmas
+pub mod SweepLemmas
+pub mod NarrowLemmas
 pub mod PlainLemmas
 pub mod BlockLemmas
 pub mod ColumnLemmas
 pub mod LaneLemmas
 pub mod LevelLemmas
+pub mod FirstLemmas
 pub mod BlockSums
 pub mod LimitLemmas
 pub mod LoweringLemmas

@@ -55,7 +55,7 @@ pub or_next : (s t u v : Bool) → (t || u) ≡ v → ((s || t) || u) ≡ (s || 
 or_next true t u v e = refl
 or_next false t u v e = e
 
-only_is : (p q r c : ℕ) → only p q r c ≡ true → (r ≡ p) × (c ≡ q)
+pub only_is : (p q r c : ℕ) → only p q r c ≡ true → (r ≡ p) × (c ≡ q)
 only_is p q r c e = (grind (arith, nat_tests), grind (arith, nat_tests))
 
 only_itself : (p q : ℕ) → only p q p q ≡ true
@@ -196,13 +196,13 @@ lowered_shut block pairs p q rs cs rows rn columns cn shut h =
     ])
 
 -- pairs that no limit lets through
-record InStrip (offset width from end r c : ℕ) : Type 0 where
-  first : from ≤ r
-  last : r < end
-  left : r + offset ≤ c
-  right : c < r + offset + width
+pub record InStrip (offset width from end r c : ℕ) : Type 0 where
+  pub first : from ≤ r
+  pub last : r < end
+  pub left : r + offset ≤ c
+  pub right : c < r + offset + width
 
-in_strip : (offset width from end r c : ℕ) → in_block offset (offset + width) from end r c ≡ true
+pub in_strip : (offset width from end r c : ℕ) → in_block offset (offset + width) from end r c ≡ true
     → InStrip offset width from end r c
 in_strip offset width from end r c e = record {
   first = grind (arith, nat_tests);

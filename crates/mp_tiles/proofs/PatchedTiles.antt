@@ -4,13 +4,12 @@ use Rattle.std.proofs.Common.{refl, sym, ap, ◌∙◌, arith}
 use Rattle.std.proofs.Common.{[], ◌∷◌}
 use Rattle.std.specs.Prelude.{None, ◌&&◌, ◌||◌, nat_lt}
 use Rattle.std.proofs.lemmas.Bool.Decides.{nat_tests}
-use Rattle.std.proofs.lemmas.List.{ext_get_or}
 use Rattle.std.proofs.lemmas.List.Elements.{All-head, All-tail}
-use Rattle.std.proofs.lemmas.Simd.{length-zip2, get_or-zip2}
+use Rattle.std.proofs.lemmas.Simd.{length-zip2}
 use Rattle.mp_nums.specs.Near.{nearer_of}
 use Rattle.mp_defs.specs.Series.{Series}
-use Rattle.mp_defs.specs.Profile.{windows_of, entry, left_entry, right_entry}
-use Rattle.mp_defs.specs.NearestLaws.{nearest_by_choice, entries_are_of_both_sides}
+use Rattle.mp_defs.specs.Profile.{windows_of, left_entry, right_entry}
+use Rattle.mp_defs.specs.NearestLaws.{nearest_by_choice}
 use Rattle.mp_defs.specs.ColumnLaws.{columns_have_places}
 use Rattle.mp_partial.specs.Values.{Column, HasColumns, merged_column}
 use Rattle.mp_partial.specs.Profiled.{Profiled}
@@ -20,6 +19,7 @@ use Rattle.mp_tiles.specs.declared.cuts.Tile.{Tile}
 use Rattle.mp_tiles.specs.Pairs.{has_pair}
 use Rattle.mp_tiles.specs.Among.{either_way, profile_among}
 use Rattle.mp_tiles.specs.Scanning.{HasPlaces}
+use Rattle.mp_tiles.specs.SideLaws.{profiles_are_of_both_sides}
 
 -- ---- pairs of a row and a later column
 
@@ -34,21 +34,7 @@ not_itself false i h = refl
 pub all_of_sides : (pairs : ℕ → ℕ → Bool) (m : ℕ) (a : Series) → ((i j : ℕ) → pairs i j ≡ true → i < j)
     → (profile_among pairs m a).all ≡ merged_column (profile_among pairs m a).left (profile_among pairs m a).right
 all_of_sides pairs m a order =
-    let may = either_way pairs in
-    let w = windows_of m a in
-    let p = profile_among pairs m a in
-    let all_long : length p.all ≡ w = columns_have_places.count (entry may m a) w in
-    let left_long : length p.left ≡ w = columns_have_places.count (left_entry may m a) w in
-    let right_long : length p.right ≡ w = columns_have_places.count (right_entry may m a) w in
-    ext_get_or None p.all (merged_column p.left p.right)
-    (all_long ∙ sym (length-zip2 nearer_of p.left p.right (left_long ∙ sym right_long) ∙ left_long))
-    (λ k lt. let below : k < w = omega (arith, lt, all_long) in
-    columns_have_places.at_place (entry may m a) w k below
-    ∙ entries_are_of_both_sides may (λ i. not_itself (pairs i i) i (order i i)) m a k
-    ∙ sym (get_or-zip2 nearer_of p.left p.right k None None None (omega (arith, below, left_long))
-    (omega (arith, below, right_long))
-    ∙ ap (λ s. nearer_of s (get_or p.right k None)) (columns_have_places.at_place (left_entry may m a) w k below)
-    ∙ ap (nearer_of (left_entry may m a k)) (columns_have_places.at_place (right_entry may m a) w k below)))
+    profiles_are_of_both_sides.any (either_way pairs) (λ i. not_itself (pairs i i) i (order i i)) m a
 
 -- ---- windows that are no rows or no columns
 

@@ -5,7 +5,7 @@ use Rattle.mp_defs.specs.Series.{Series}
 use Rattle.mp_defs.specs.Window.{excl}
 use Rattle.mp_defs.specs.Profile.{windows_of, nearest_column, profile, matrix_profile, ab_join}
 use Rattle.mp_defs.specs.Laws.{IsIrreflexive, IsSymmetric}
-use Rattle.mp_partial.specs.Values.{Value, merged_columns, empty_columns, merged_below}
+use Rattle.mp_partial.specs.Values.{Value, merged_column, merged_columns, empty_columns, merged_below}
 use Rattle.mp_tiles.specs.declared.cuts.Tile.{Tile}
 use Rattle.mp_tiles.specs.Pairs.{has_pair}
 use Rattle.mp_tiles.specs.Cutting.{own_tiles, both_tiles}
@@ -37,6 +37,17 @@ pub record TilesMakeTheProfile : Type 0 where
   -- and so of the cut outside the exclusion zone, however wide its tiles are
   pub own : (m width : ℕ) (a : Series) → 0 < width
       → tiles_value m a (own_tiles (windows_of m a) (excl m) width) ≡ columns_value (matrix_profile m a)
+
+-- ---- both sides
+
+-- the nearest window is the lesser of the nearest ones on both sides
+pub record ProfilesAreOfBothSides : Type 0 where
+  -- by any test of pairs that compares no window with itself
+  pub any : (may : ℕ → ℕ → Bool) → IsIrreflexive may → (m : ℕ) (a : Series)
+      → (profile may m a).all ≡ merged_column (profile may m a).left (profile may m a).right
+  -- and so in the matrix profile
+  pub own : (m : ℕ) (a : Series)
+      → (matrix_profile m a).all ≡ merged_column (matrix_profile m a).left (matrix_profile m a).right
 
 -- ---- from one series to another
 

@@ -11,7 +11,9 @@ pub mod Levels
 pub mod Scales
 pub mod Limits
 pub mod Blocks
+pub mod Firsts
 pub mod Lowering
+pub mod Sides
 pub mod Offering
 pub mod TakenLaws
 pub mod OfferingLaws
@@ -20,4 +22,8 @@ pub mod Laws
 pub mod Pieces
 pub mod Examples
 pub mod PatchScanning
+pub mod Tracks
+pub mod Sweeping
+pub mod NarrowPieces
+pub mod SideLaws
 pub mod PatchLaws

@@ -71,7 +71,7 @@ are_taken p m a b first old new l h =
     (sym (at_slots_from (nearest_column p m a b) first (length old) k (omega (arith, lt, l))))
     ∙ sym (get_or-zip2 nearer_of old part k None None None (omega (arith, lt, l)) (omega (arith, lt, l, long))))
 
-taken_quiet : (p : ℕ → ℕ → Bool) (m : ℕ) (a b : Series) (first : ℕ) (old : Column)
+pub taken_quiet : (p : ℕ → ℕ → Bool) (m : ℕ) (a b : Series) (first : ℕ) (old : Column)
     → ((i j d : ℕ) → first ≤ i → i < first + length old → i < windows_of m a → j < windows_of m b → p i j ≡ true
     → distance m a i b j ≡ Some d → Covers (get_or old (i - first) None) j d)
     → HasTakenFrom p m a b first old old

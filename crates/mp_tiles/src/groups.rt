@@ -12,8 +12,9 @@ ghost use Rattle.mp_tiles.specs.Blocks.{rows_of, columns_of, length_in, sum_in, 
 ghost use Rattle.mp_tiles.specs.Lowering.{AreSides, AreLowered};
 
 use crate::blocks::{Block, Steps};
+use crate::firsts::start_sums;
 use crate::found::{offer_columns, offer_rows};
-use crate::levels::{fill_steps, first_sum};
+use crate::levels::fill_steps;
 use crate::lows::NOWHERE;
 use crate::offers::Offers;
 use crate::scales::Scale;
@@ -29,7 +30,7 @@ pub(crate) const LANES: usize = 16;
 pub(crate) const GROUP: usize = 256;
 
 /// The most rows in a block. What its rows and columns are compared with stays in a small cache.
-const ROWS: usize = 1_024;
+pub(crate) const ROWS: usize = 1_024;
 
 /// The most columns in a block.
 const COLUMNS: usize = ROWS + GROUP;
@@ -77,23 +78,6 @@ fn fill_column_limits<O: Offers>(of: &Windows, start: usize, limits: &mut [i64],
     mark_whole(of, start, limits);
     for k in 0..limits.len() {
         raise_column_limit::<O>(into, start + k, &mut limits[k]);
-    }
-}
-
-/// The first sums of diagonals: of a row, and of each column from one on.
-fn start_sums(grid: &Grid, scale: &Scale, row: usize, column: usize, sums: &mut [i64])
-    requires row { row < 2 ^ 31 }
-    requires column { column + length sums.old < 2 ^ 31 }
-    requires narrow { AreNarrow (level scale.now.low (row_series grid.now)) (level scale.now.low (column_series
-        grid.now))
-        (window_length grid.now) scale.now.range }
-    ensures sums { AreStripSums (level scale.now.low (row_series grid.now)) (level scale.now.low (column_series
-        grid.now))
-        (window_length grid.now) grid.now.columns.count row column sums.new }
-    ensures places { length sums.new ≡ length sums.old }
-{
-    for t in 0..sums.len() {
-        sums[t] = first_sum(grid, scale, row, column + t) as i64;
     }
 }
 

@@ -6,6 +6,7 @@ ghost use Rattle.mp_defs.specs.Series.{series_of};
 ghost use Rattle.mp_defs.specs.Profile.{matrix_profile};
 
 use crate::cuts::{Cut, MAX_TILE, MAX_TILES, cut_own};
+use crate::narrow::NarrowTiles;
 use crate::scales::{Scale, find_scale};
 use crate::scans::scan_own_by;
 use mp_nums::{Memory, Sample};
@@ -111,5 +112,8 @@ pub fn profile(alloc: Global, samples: &[Sample], m: u32, tile: u32) -> Result<P
     ensures left { IfOk result (λ p. p.left ≡ (matrix_profile m (series_of samples.now)).left) }
     ensures right { IfOk result (λ p. p.right ≡ (matrix_profile m (series_of samples.now)).right) }
 {
-    run_in_order(alloc, &OwnTiles::new(samples, m, tile))
+    match NarrowTiles::new(alloc, samples, m, tile)? {
+        Some(tiles) => run_in_order(alloc, &tiles)?.profile(alloc),
+        None => run_in_order(alloc, &OwnTiles::new(samples, m, tile)),
+    }
 }

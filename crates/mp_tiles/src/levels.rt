@@ -1,18 +1,16 @@
-//! Samples less the least of them, and the sums of their squared differences.
+//! Samples less the least of them.
 
 ghost use Rattle.std.specs.Prelude.{◌≡◌, ◌+◌, ◌^◌, ◌<◌, ◌≤◌, length, unsigned_abs};
-ghost use Rattle.mp_defs.specs.Distance.{square_gap as square_of};
 ghost use Rattle.mp_defs.specs.Series.{series_of};
-ghost use Rattle.mp_tiles.specs.Levels.{level as level_of, AreNarrow, sum_at, AreSteps};
-ghost use Rattle.mp_tiles.specs.Grids.{row_series, column_series, window_length};
+ghost use Rattle.mp_tiles.specs.Levels.{level as level_of, AreSteps};
 
 use crate::scales::Scale;
-use crate::windows::{Grid, Windows};
+use crate::windows::Windows;
 use mp_nums::Sample;
 
 /// How far a sample lies above the least number. A missing one, and one past the end, count as 0.
 #[inline]
-fn level(samples: &[Sample], scale: &Scale, place: usize) -> i64
+pub(crate) fn level(samples: &[Sample], scale: &Scale, place: usize) -> i64
     ensures level { result ≡ level_of scale.now.low (series_of samples.now) place }
     ensures small { unsigned_abs result ≤ 4294967296 }
 {
@@ -42,38 +40,4 @@ pub(crate) fn fill_steps(of: &Windows, scale: &Scale, start: usize, e: &mut [i64
         e[k] = enters - leaves;
         s[k] = enters + leaves;
     }
-}
-
-/// The square of how far two samples lie apart.
-fn square_at(grid: &Grid, scale: &Scale, row: usize, column: usize) -> u64
-    requires { AreNarrow (level_of scale.now.low (row_series grid.now)) (level_of scale.now.low (column_series
-        grid.now))
-        (window_length grid.now) scale.now.range }
-    ensures { result ≡ square_of (level_of scale.now.low (row_series grid.now) row) (level_of scale.now.low
-        (column_series grid.now) column) }
-{
-    let gap = level(grid.rows.samples, scale, row).abs_diff(level(
-        grid.columns.samples,
-        scale,
-        column,
-    ));
-    gap * gap
-}
-
-/// The sum of a row and a column.
-pub(crate) fn first_sum(grid: &Grid, scale: &Scale, row: usize, column: usize) -> u64
-    requires row { row < 2 ^ 32 }
-    requires column { column < 2 ^ 32 }
-    requires narrow { AreNarrow (level_of scale.now.low (row_series grid.now)) (level_of scale.now.low (column_series
-        grid.now))
-        (window_length grid.now) scale.now.range }
-    ensures { result ≡ sum_at (level_of scale.now.low (row_series grid.now)) (level_of scale.now.low (column_series
-        grid.now))
-        (window_length grid.now) row column }
-{
-    let mut sum: u64 = 0;
-    for k in 0..grid.rows.rest + 1 {
-        sum += square_at(grid, scale, row + k, column + k);
-    }
-    sum
 }

@@ -14,7 +14,7 @@ use std::simd::prelude::*;
 
 /// Whether both windows of a pair are whole, by their limits.
 #[inline]
-fn are_whole(row: &i64, column: &i64) -> bool
+pub(crate) fn are_whole(row: &i64, column: &i64) -> bool
     ensures row { result ≡ true → pos 0 ≤ℤ row.now }
     ensures column { result ≡ true → pos 0 ≤ℤ column.now }
     ensures shut { result ≡ false → pos 0 ≤ℤ row.now → column.now <ℤ pos 0 }

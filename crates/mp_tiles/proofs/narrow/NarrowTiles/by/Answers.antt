@@ -1,0 +1,29 @@
+use Rattle.std.proofs.Common.{◌≡◌, length, get_or, sym, ap, ◌∙◌, arith}
+use Rattle.mp_defs.specs.Series.{series_of}
+use Rattle.mp_defs.specs.Profile.{windows_of, matrix_profile}
+use Rattle.mp_defs.specs.SeriesLaws.{series_are_of_samples}
+use Rattle.mp_partial.specs.Values.{merged_columns, empty_columns, merged_below}
+use Rattle.mp_tiles.specs.Pairs.{has_pair}
+use Rattle.mp_tiles.specs.Cutting.{own_tiles}
+use Rattle.mp_tiles.specs.Among.{profile_among}
+use Rattle.mp_tiles.specs.Laws.{no_tile, tiles_value}
+use Rattle.mp_tiles.specs.NarrowPieces.{sides_value}
+use Rattle.mp_tiles.proofs.ProfileLaws.{make_the_profile}
+use Rattle.mp_tiles.proofs.NarrowLemmas.{sides_together}
+use Rattle.mp_tiles.proofs.narrow.NarrowTiles.by.Goals as goal
+
+pub returns-clause-together : goal.returns-clause-together
+returns-clause-together c =
+    let m = c.args.m in
+    let samples = c.args.samples.now in
+    let a = series_of samples in
+    let tiles = c.cut_own.result in
+    let same = series_are_of_samples.windows_are m samples in
+    let count : c.of-windows.result.count ≡ windows_of m a = omega (arith, c.of-windows.result.all, c.of-windows.ensures.rest, ap length c.of-windows.ensures.samples, same, c.requires.some) in
+    ap (λ w. merged_below merged_columns (empty_columns 2 w)
+    (λ k. sides_value (profile_among (has_pair 0 (get_or tiles k no_tile)) m a)) (length tiles)) (sym same)
+    ∙ sides_together m a tiles (matrix_profile m a)
+    (ap (tiles_value m a)
+    (c.cut_own.ensures.tiles ∙ ap (λ w. own_tiles w c.excl.result c.args.tile) count
+    ∙ ap (λ zone. own_tiles (windows_of m a) zone c.args.tile) c.excl.ensures)
+    ∙ make_the_profile.own m c.args.tile a (omega arith))
