@@ -179,22 +179,27 @@ empty_profile size all left right e f g = record {
       ∙ ap (merged_column left) (sym g);
 }
 
-merged_push : (xs ys : Column) → length ys ≡ length xs
-    → merged_column (xs ++ None ∷ []) (ys ++ None ∷ []) ≡ merged_column xs ys ++ None ∷ []
-merged_push [] [] l = refl
-merged_push [] (y ∷ ys) l = absurd (omega arith)
-merged_push (x ∷ xs) [] l = absurd (omega arith)
-merged_push (x ∷ xs) (y ∷ ys) l = ap (λ zs. nearer_of x y ∷ zs) (merged_push xs ys (omega arith))
+merged_push : (xs ys : Column) (x y : Option Near) → length ys ≡ length xs
+    → merged_column (xs ++ x ∷ []) (ys ++ y ∷ []) ≡ merged_column xs ys ++ nearer_of x y ∷ []
+merged_push [] [] x y l = refl
+merged_push [] (b ∷ ys) x y l = absurd (omega arith)
+merged_push (a ∷ xs) [] x y l = absurd (omega arith)
+merged_push (a ∷ xs) (b ∷ ys) x y l = ap (λ zs. nearer_of a b ∷ zs) (merged_push xs ys x y (omega arith))
 
-pub profile_grown : (all left right all' left' right' : Column) → IsProfile all left right → all' ≡ all ++ None ∷ []
-    → left' ≡ left ++ None ∷ [] → right' ≡ right ++ None ∷ [] → IsProfile all' left' right'
-profile_grown all left right all' left' right' h e f g = record {
-  left_is = ap length f ∙ length_push left None ∙ ap (λ n. n + 1) h.left_is ∙ sym (ap length e ∙ length_push all None);
-  right_is = ap length g ∙ length_push right None ∙ ap (λ n. n + 1) h.right_is
-      ∙ sym (ap length e ∙ length_push all None);
-  lesser = e ∙ ap (λ column. column ++ None ∷ []) h.lesser ∙ sym (merged_push left right (h.right_is ∙ sym h.left_is))
-      ∙ ap (λ column. merged_column column (right ++ None ∷ [])) (sym f) ∙ ap (merged_column left') (sym g);
-}
+pub profile_pushed : (all left right all' left' right' : Column) (l r : Option Near) → IsProfile all left right
+    → all' ≡ all ++ nearer_of l r ∷ [] → left' ≡ left ++ l ∷ [] → right' ≡ right ++ r ∷ []
+    → IsProfile all' left' right'
+profile_pushed all left right all' left' right' l r h e f g =
+    let both = nearer_of l r in
+    record {
+      left_is = ap length f ∙ length_push left l ∙ ap (λ n. n + 1) h.left_is
+          ∙ sym (ap length e ∙ length_push all both);
+      right_is = ap length g ∙ length_push right r ∙ ap (λ n. n + 1) h.right_is
+          ∙ sym (ap length e ∙ length_push all both);
+      lesser = e ∙ ap (λ column. column ++ both ∷ []) h.lesser
+          ∙ sym (merged_push left right l r (h.right_is ∙ sym h.left_is))
+          ∙ ap (λ column. merged_column column (right ++ r ∷ [])) (sym f) ∙ ap (merged_column left') (sym g);
+    }
 
 pub merged_has : (a b : Column) → length b ≡ length a → length (merged_column a b) ≡ length a
 merged_has a b l = length-zip2 nearer_of a b (sym l)

@@ -1,14 +1,17 @@
 //! A profile of a part of the pairs of windows.
 
-ghost use Rattle.std.specs.Prelude.{◌≡◌, ◌≢◌, ◌+◌, ◌<◌, ◌≤◌, ◌↔◌, nat_lt, if◌then◌else◌, [], ◌∷◌, ◌++◌, length, IsOk, IfOk, IsTrue, OnOk, Some, None};
-ghost use Rattle.mp_partial.specs.Values.{HasColumns, empty_column, empty_columns, merged_columns, merged_column, offered};
+ghost use Rattle.std.specs.Prelude.{◌≡◌, ◌≢◌, ◌+◌, ◌<◌, ◌≤◌, ◌↔◌, nat_lt, if◌then◌else◌, [], ◌∷◌, ◌++◌, length};
+ghost use Rattle.std.specs.Prelude.{IsOk, IfOk, IsTrue, OnOk, Some, None};
+ghost use Rattle.mp_nums.specs.Near.{nearer_of};
+ghost use Rattle.mp_partial.specs.Values.{HasColumns, empty_column, empty_columns, merged_columns, merged_column};
+ghost use Rattle.mp_partial.specs.Values.{offered};
 ghost use Rattle.mp_partial.specs.MergeLaws.{columns_merge};
 ghost use Rattle.mp_partial.specs.Patching.{slots_from, placed};
 
 use crate::columns;
 use crate::parts::Part;
 use crate::patches::{MAX_PATCH_COLUMNS, MAX_PATCH_ROWS, Patch};
-use mp_nums::{Items, Memory, Near, Slot, Slots, Sq};
+use mp_nums::{Items, Memory, Near, Slot, Slots, Sq, nearer};
 use std::alloc::Global;
 use std::marker::Model;
 
@@ -27,7 +30,12 @@ impl Model for Profile {
 
     ghost Value = { Profiled };
 
-    ghost view = { λ p. record { all = p.all.items; left = p.left.items; right = p.right.items; spare = min p.all.spare (min p.left.spare p.right.spare) } };
+    ghost view = { λ p. record {
+      all = p.all.items;
+      left = p.left.items;
+      right = p.right.items;
+      spare = min p.all.spare (min p.left.spare p.right.spare);
+    } };
 
     ghost invariant = { λ p. IsProfile p.all.items p.left.items p.right.items };
 }
@@ -46,17 +54,16 @@ impl Profile {
         }
     }
 
-    /// The profile of what was found on both sides of windows.
-    pub fn of_sides(alloc: Global, left: Slots, right: Slots) -> Result<Profile, Memory>
-        requires { length right.items ≡ length left.items }
-        ensures left { IfOk result (λ p. p.left ≡ left.items) }
-        ensures right { IfOk result (λ p. p.right ≡ right.items) }
-        ensures all { IfOk result (λ p. p.all ≡ merged_column left.items right.items) }
+    /// The profile of no windows, with room for so many.
+    pub fn with_capacity(alloc: Global, windows: u64) -> Result<Profile, Memory>
+        ensures all { IfOk result (λ p. p.all ≡ []) }
+        ensures left { IfOk result (λ p. p.left ≡ []) }
+        ensures right { IfOk result (λ p. p.right ≡ []) }
+        ensures spare { IfOk result (λ p. windows ≤ p.spare) }
     {
-        let mut all = columns::empty(alloc, left.as_slice().len() as u64)?;
-        columns::merge(&mut all, &left);
-        columns::merge(&mut all, &right);
-        Ok(Profile { all, left, right })
+        let mut profile = Profile::new(alloc);
+        profile.reserve(windows)?;
+        Ok(profile)
     }
 
     /// The nearest windows.
@@ -189,6 +196,22 @@ impl Profile {
             .min(self.left.spare().min(self.right.spare()))
     }
 
+    /// Adds a window of which these were found.
+    #[inline]
+    pub fn push(&mut self, left: Slot, right: Slot)
+        requires { 0 < self.old.spare }
+        ensures all { self.new.all ≡ self.old.all ++ nearer_of left right ∷ [] }
+        ensures left { self.new.left ≡ self.old.left ++ left ∷ [] }
+        ensures right { self.new.right ≡ self.old.right ++ right ∷ [] }
+        ensures lesser { self.new.all ≡ merged_column self.new.left self.new.right }
+        ensures spare { self.old.spare ≤ self.new.spare + 1 }
+    {
+        let both = nearer(left, right);
+        self.all.push(both).unwrap();
+        self.left.push(left).unwrap();
+        self.right.push(right).unwrap();
+    }
+
     /// Adds a window that was not compared with any.
     pub fn grow(&mut self)
         requires { 0 < self.old.spare }
@@ -197,9 +220,7 @@ impl Profile {
         ensures right { self.new.right ≡ self.old.right ++ None ∷ [] }
         ensures spare { self.old.spare ≤ self.new.spare + 1 }
     {
-        self.all.push(None).unwrap();
-        self.left.push(None).unwrap();
-        self.right.push(None).unwrap();
+        self.push(None, None);
     }
 }
 

@@ -1,26 +1,21 @@
 -- What tiles give both sides of the profile.
-use Rattle.std.proofs.Common.{◌≡◌, ℕ, ◌+◌, ◌-◌, List, [], ◌∷◌, length, get_or, Bool, refl, ap, sym, ◌∙◌, arith}
-use Rattle.std.specs.Prelude.{ℤ, None}
+use Rattle.std.proofs.Common.{◌≡◌, ℕ, List, [], ◌∷◌, length, get_or, Bool, refl, ap, sym, ◌∙◌, arith}
+use Rattle.std.specs.Prelude.{None}
 use Rattle.std.specs.List.{range_with_len}
-use Rattle.std.proofs.lemmas.List.FromFn.{length-map-range_with_len}
-use Rattle.mp_defs.specs.Series.{Series, series_of}
-use Rattle.mp_defs.specs.SeriesLaws.{series_are_of_samples}
+use Rattle.mp_defs.specs.Series.{Series}
 use Rattle.mp_defs.specs.ColumnLaws.{columns_have_places}
 use Rattle.mp_defs.specs.Profile.{Columns, windows_of, nearest, nearest_column}
 use Rattle.mp_partial.specs.Values.{Column, Value, merged_column, merged_columns, empty_column, empty_columns}
-use Rattle.mp_partial.specs.Values.{HasColumns, merged_over, merged_below}
+use Rattle.mp_partial.specs.Values.{merged_over, merged_below}
 use Rattle.mp_partial.specs.Patching.{slots_from}
 use Rattle.mp_partial.specs.PatchingLaws.{are_slots_from}
 use Rattle.mp_tiles.specs.declared.cuts.Tile.{Tile}
-use Rattle.mp_tiles.specs.declared.windows.Windows.{Windows}
 use Rattle.mp_tiles.specs.Pairs.{has_pair}
 use Rattle.mp_tiles.specs.Among.{profile_among, columns_value}
 use Rattle.mp_tiles.specs.Laws.{no_tile, tiles_value}
-use Rattle.mp_tiles.specs.Lanes.{lane}
-use Rattle.mp_tiles.specs.Lowering.{place_at}
-use Rattle.mp_tiles.specs.Sides.{Lowered, Sided, slot, width, column_of, column}
+use Rattle.mp_tiles.specs.Sides.{Sided, column}
 use Rattle.mp_tiles.specs.PatchScanning.{HasTakenFrom}
-use Rattle.mp_tiles.specs.NarrowPieces.{sides_value, both}
+use Rattle.mp_tiles.specs.NarrowPieces.{sides_value}
 
 -- ---- columns behind a first one
 
@@ -53,15 +48,6 @@ sides_together m a tiles c e =
 
 -- ---- a side and the pairs of a tile
 
-pub windows_in : (windows : Windows)
-    → windows_of (windows.rest + 1) (series_of windows.samples.now) ≡ windows.count
-windows_in windows =
-    series_are_of_samples.windows_are (windows.rest + 1) windows.samples.now ∙ omega (arith, windows.all)
-
-pub places_of : (limits : List ℤ) (nearest : List ℕ) → length (column_of limits nearest) ≡ length limits - 16
-places_of limits nearest =
-    length-map-range_with_len (λ k. slot (lane limits k) (place_at nearest k)) 0 (length limits - 16)
-
 whole_slots : (found : Column) (n : ℕ) → length found ≡ n → slots_from found 0 n ≡ found
 whole_slots found n l =
     sym (are_slots_from found found 0 n l (λ k lt. ap (λ i. get_or found i None) (omega arith)))
@@ -75,14 +61,6 @@ taken_whole pairs m a old opened new e l h =
     h ∙ ap (merged_column opened) (whole_slots found (length opened)
     (columns_have_places.count (λ i. nearest m (pairs i) a i a) (windows_of m a) ∙ sym l ∙ sym (ap length e)))
     ∙ ap (λ c. merged_column c found) e
-
-pub sides_have : (left right : Lowered) → length right.limits ≡ length left.limits
-    → HasColumns 2 (width left) (column left ∷ column right ∷ [])
-sides_have left right same = record {
-  columns = refl;
-  places = both (λ c. length c ≡ width left) (column left) (column right) (places_of left.limits left.nearest)
-      (places_of right.limits right.nearest ∙ ap (λ n. n - 16) same);
-}
 
 pub sides_taken : (old new : Sided) (p q : Columns) → column new.left ≡ merged_column (column old.left) p.left
     → column new.right ≡ merged_column (column old.right) p.right → p ≡ q

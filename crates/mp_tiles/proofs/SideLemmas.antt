@@ -1,7 +1,7 @@
 -- The nearest windows on a side, place by place.
 use Rattle.std.proofs.Common.{◌≡◌, ◌≢◌, ℕ, ◌+◌, ◌-◌, ◌<◌, ◌≤◌, ◌⊎◌, inl, inr, List, length, get_or, set, sym, ap, ◌∙◌}
 use Rattle.std.proofs.Common.{◌++◌, take, drop, arith, subst, refl, w64, FitsSigned, ℤ, pos, true}
-use Rattle.std.specs.Prelude.{[], ◌∷◌, replicate, negsuc, ◌≤ℤ◌, None}
+use Rattle.std.specs.Prelude.{[], ◌∷◌, replicate, negsuc, ◌≤ℤ◌, Option, None}
 use Rattle.std.proofs.Math.Seq.{take-append_seam}
 use Rattle.std.proofs.lemmas.Bool.{cases_eq}
 use Rattle.std.proofs.lemmas.Bool.Decides.{nat_tests}
@@ -10,15 +10,17 @@ use Rattle.std.proofs.lemmas.List.{ext_get_or, length-set, get_or-set_same, get_
 use Rattle.std.proofs.lemmas.List.{length-replicate}
 use Rattle.std.proofs.lemmas.List.Elements.{All-cons, All-nil}
 use Rattle.std.proofs.lemmas.List.FromFn.{length-map-range_with_len, get_or-map-range_with_len}
+use Rattle.std.proofs.lemmas.List.FromFn.{map-range_with_len_more}
 use Rattle.std.proofs.lemmas.Simd.{length-zip2, get_or-zip2}
 use Rattle.mp_nums.specs.Near.{nearer_of}
+use Rattle.mp_nums.specs.declared.nearest.Near.{Near}
 use Rattle.mp_defs.specs.Series.{Series}
 use Rattle.mp_partial.specs.Values.{Column, HasColumns, merged_column, empty_column}
 use Rattle.mp_tiles.specs.declared.lows.TheConstants.{NOWHERE}
 use Rattle.mp_tiles.specs.Lanes.{lane}
 use Rattle.mp_tiles.specs.Limits.{has_no_gap, AreMarks}
 use Rattle.mp_tiles.specs.Lowering.{place_at, HasNearer}
-use Rattle.mp_tiles.specs.Sides.{Lowered, slot, width, column, column_of, IsSide, IsOpen}
+use Rattle.mp_tiles.specs.Sides.{Lowered, slot, slots_of, width, column, column_of, IsSide, IsOpen}
 
 -- ---- columns
 
@@ -29,6 +31,13 @@ pub column_at : (l : List ℤ) (n : List ℕ) (k : ℕ) → k < length l - 16
     → get_or (column_of l n) k None ≡ slot (lane l k) (place_at n k)
 column_at l n k lt =
     get_or-map-range_with_len (λ q. slot (lane l q) (place_at n q)) 0 (length l - 16) k k None lt (omega arith)
+
+-- the slot of the next window
+pub one_more_slot : (l : List ℤ) (n : List ℕ) (k : ℕ) (x : Option Near) → x ≡ slot (lane l k) (place_at n k)
+    → slots_of l n k ++ x ∷ [] ≡ slots_of l n (k + 1)
+one_more_slot l n k x e =
+    ap (λ y. slots_of l n k ++ y ∷ []) e
+    ∙ sym (map-range_with_len_more (λ q. slot (lane l q) (place_at n q)) 0 k k (omega arith))
 
 -- a column that has these slots
 pub column_is : (l : List ℤ) (n : List ℕ) (c : Column) → length c ≡ length l - 16
@@ -126,7 +135,8 @@ side_nearer l n k dist other l' n' h lt le fit near =
 
 -- a write to all of a vector
 pub written : {A : Type 0} (new old : List A) (n : ℕ) → length new ≡ n → take n (new ++ drop (length new) old) ≡ new
-written new old n e = ap (λ k. take k (new ++ drop (length new) old)) (sym e) ∙ take-append_seam new (drop (length new) old)
+written new old n e =
+    ap (λ k. take k (new ++ drop (length new) old)) (sym e) ∙ take-append_seam new (drop (length new) old)
 
 pub side_written : (l : List ℤ) (n : List ℕ) (i j : ℕ) (l' : List ℤ) (n' : List ℕ) → length l' ≡ i → length n' ≡ j
     → IsSide l' n' → IsSide (take i (l' ++ drop (length l') l)) (take j (n' ++ drop (length n') n))

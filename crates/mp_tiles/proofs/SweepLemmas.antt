@@ -43,7 +43,8 @@ MOST = pos 9223372036854775807
 no_slot : (limit : ℤ) (nearest : ℕ) → nearest ≡ NOWHERE → slot limit nearest ≡ None
 no_slot limit nearest e = grind (arith, nat_tests)
 
-some_slot : (limit : ℤ) (nearest : ℕ) → nearest ≢ NOWHERE → slot limit nearest ≡ Some (near_at nearest (unsigned_abs limit))
+some_slot : (limit : ℤ) (nearest : ℕ) → nearest ≢ NOWHERE
+    → slot limit nearest ≡ Some (near_at nearest (unsigned_abs limit))
 some_slot limit nearest ne = grind (arith, nat_tests)
 
 comes_first : (limit : ℤ) (nearest d j : ℕ) → pos 0 ≤ℤ limit → Precedes limit nearest (pos d) j
@@ -152,7 +153,8 @@ from_first k = omega arith
 
 -- ---- a track
 
-pub rows_there : (track : Track) → windows_of (length_in track.block) (rows_of track.block) ≡ track.block.grid.rows.count
+pub rows_there : (track : Track)
+    → windows_of (length_in track.block) (rows_of track.block) ≡ track.block.grid.rows.count
 rows_there track =
     windows_are track.block.grid.rows.samples.now track.block.grid.rows.count track.block.grid.rows.rest
     track.block.grid.rows.all
@@ -336,8 +338,8 @@ pair_taken track p q dist right right' left left' opened row col is near near' =
       rows = taken_one p q m a a 0 (column right) (column right') d lt lt' found (omega arith)
           (omega (arith, lt, rows, column_places right.limits right.nearest, opened.right_places))
           (subst (λ k. column right' ≡ taken (column right) k (Some (near_at q d))) (from_first p)
-          (column_taken m a right right' p q d opened.of_right (omega (arith, lt, rows, opened.right_places)) row q_small
-          (sum_small track p q)
+          (column_taken m a right right' p q d opened.of_right (omega (arith, lt, rows, opened.right_places)) row
+          q_small (sum_small track p q)
           (subst (λ z. HasNearer right.limits right.nearest p z q right'.limits right'.nearest) is near)));
       first_column = refl;
       columns = taken_turned p q m a a 0 (column left) (column left')

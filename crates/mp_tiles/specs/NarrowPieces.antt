@@ -47,7 +47,7 @@ narrow_together own = merged_below merged_columns (empty_columns 2 (own_size own
 
 -- ---- values have the places of the series
 
-pub both : (P : Column → Type 0) (a b : Column) → P a → P b → All P (a ∷ b ∷ [])
+both : (P : Column → Type 0) (a b : Column) → P a → P b → All P (a ∷ b ∷ [])
 both P a b p q zero d lt = p
 both P a b p q (suc zero) d lt = q
 both P a b p q (suc (suc k)) d lt = absurd (omega (arith, lt))

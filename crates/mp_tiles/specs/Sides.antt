@@ -25,10 +25,13 @@ width s = length s.limits - 16
 abbrev pub slot : ℤ → ℕ → Option Near
 slot limit nearest = if nearest == NOWHERE then None else Some (near_at nearest (unsigned_abs limit))
 
+-- the slots of the first windows
+abbrev pub slots_of : List ℤ → List ℕ → ℕ → Column
+slots_of limits nearest count = map (λ k. slot (lane limits k) (place_at nearest k)) (range_with_len 0 count)
+
 -- the slots of all windows
 abbrev pub column_of : List ℤ → List ℕ → Column
-column_of limits nearest =
-    map (λ k. slot (lane limits k) (place_at nearest k)) (range_with_len 0 (length limits - 16))
+column_of limits nearest = slots_of limits nearest (length limits - 16)
 
 abbrev pub column : Lowered → Column
 column s = column_of s.limits s.nearest

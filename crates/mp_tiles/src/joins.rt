@@ -40,8 +40,8 @@ impl<'a> JoinTiles<'a> {
     ghost use Rattle.mp_tiles.specs.Cutting.{both_tiles};
     ghost use Rattle.mp_tiles.specs.Pieces.{join_together};
 
-    /// The tiles of at most `tile` diagonals of both series' windows of length `m`. They may be the same series. It looks
-    /// at each sample once, and takes no memory.
+    /// The tiles of at most `tile` diagonals of both series' windows of length `m`. They may be the same series. It
+    /// looks at each sample once, and takes no memory.
     pub fn new(a: &'a [Sample], b: &'a [Sample], m: u32, tile: u32) -> JoinTiles<'a>
         requires shortest { MIN_WINDOW ≤ m }
         requires longest { m ≤ MAX_WINDOW }

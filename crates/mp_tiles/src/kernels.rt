@@ -113,7 +113,10 @@ pub fn profile(alloc: Global, samples: &[Sample], m: u32, tile: u32) -> Result<P
     ensures right { IfOk result (λ p. p.right ≡ (matrix_profile m (series_of samples.now)).right) }
 {
     match NarrowTiles::new(alloc, samples, m, tile)? {
-        Some(tiles) => run_in_order(alloc, &tiles)?.profile(alloc),
+        Some(tiles) => {
+            let room = Profile::with_capacity(alloc, tiles.size())?;
+            Ok(run_in_order(alloc, &tiles)?.profile(room))
+        }
         None => run_in_order(alloc, &OwnTiles::new(samples, m, tile)),
     }
 }

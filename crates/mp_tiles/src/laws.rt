@@ -1,6 +1,7 @@
 //! What tiles give together, as the contracts of functions that do nothing.
 
-ghost use Rattle.mp_tiles.specs.Laws.{CutsHoldEachPairOnce, TilesMakeTheProfile, ProfilesAreOfBothSides, TilesMakeTheJoin};
+ghost use Rattle.mp_tiles.specs.Laws.{CutsHoldEachPairOnce, TilesMakeTheProfile, TilesMakeTheJoin};
+ghost use Rattle.mp_tiles.specs.Laws.{ProfilesAreOfBothSides};
 
 /// Each pair that is cut lies in exactly one tile and no other pair in any, however long the series are and however
 /// wide the tiles.
@@ -15,8 +16,8 @@ pub fn tiles_make_the_profile()
     ensures { TilesMakeTheProfile }
 {}
 
-/// By any test of pairs that compares no window with itself, the nearest window is the lesser of the nearest ones on both
-/// sides. So it is in the matrix profile.
+/// By any test of pairs that compares no window with itself, the nearest window is the lesser of the nearest ones on
+/// both sides. So it is in the matrix profile.
 pub fn profiles_are_of_both_sides()
     ensures { ProfilesAreOfBothSides }
 {}

@@ -26,8 +26,8 @@ use mp_series::{MAX_SAMPLES, MAX_WINDOW, MIN_WINDOW, excl, windows};
 use std::alloc::Global;
 use std::marker::Model;
 
-/// The tiles of a series as the pieces of a kernel, where sums of 64 bits hold every distance. Their values together are
-/// the nearest windows on both sides.
+/// The tiles of a series as the pieces of a kernel, where sums of 64 bits hold every distance. Their values together
+/// are the nearest windows on both sides.
 #[derive(Debug, Drop)]
 pub struct NarrowTiles<'a> {
     samples: &'a [Sample],
@@ -84,8 +84,8 @@ fn track_of<'a>(windows: Windows<'a>, scale: Scale, steps: Steps<'a>, marks: &'a
 }
 
 impl<'a> NarrowTiles<'a> {
-    /// The tiles of at most `tile` diagonals of the samples' windows of length `m`. There are none where sums of 64 bits
-    /// don't hold every distance, where there is no window, or where tiles have fewer diagonals than run at once.
+    /// The tiles of at most `tile` diagonals of the samples' windows of length `m`. There are none where sums of 64
+    /// bits don't hold every distance, where there is no window, or where tiles have fewer diagonals than run at once.
     pub fn new(
         alloc: Global,
         samples: &'a [Sample],

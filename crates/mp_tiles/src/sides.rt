@@ -5,6 +5,7 @@ ghost use Rattle.mp_defs.specs.Series.{Series};
 ghost use Rattle.mp_nums.specs.Near.{nearer_of};
 ghost use Rattle.mp_partial.specs.Values.{HasColumns, empty_column, empty_columns, merged_column, merged_columns};
 ghost use Rattle.mp_partial.specs.MergeLaws.{columns_merge};
+ghost use Rattle.mp_tiles.specs.Lanes.{lane};
 ghost use Rattle.mp_tiles.specs.Limits.{AreMarks};
 ghost use Rattle.mp_tiles.specs.Lowering.{place_at, HasNearer};
 ghost use Rattle.mp_tiles.specs.Sides.{slot, width, column, column_of, IsSide, IsOpen};
@@ -13,7 +14,7 @@ use crate::cuts::Tile;
 use crate::lows::{NOWHERE, lower};
 use crate::sweeps::sweep;
 use crate::tracks::Track;
-use mp_nums::{Items, Memory, Near, Slot, Slots, Sq};
+use mp_nums::{Memory, Near, Slot, Sq};
 use mp_partial::{Part, Profile};
 use std::alloc::Global;
 use std::marker::Model;
@@ -127,17 +128,6 @@ fn slot_of(limit: &i64, nearest: usize) -> Slot
     }
 }
 
-/// The slots of the windows.
-fn fill_slots(slots: &mut [Slot], limits: &[i64], nearest: &[usize])
-    requires side { IsSide limits.now nearest.now }
-    requires places { length limits.now ≡ length slots.old + 16 }
-    ensures { slots.new ≡ column_of limits.now nearest.now }
-{
-    for k in 0..slots.len() {
-        slots[k] = slot_of(&limits[k], nearest[k]);
-    }
-}
-
 impl Side {
     /// A side of so many windows on which nothing was found.
     fn new(alloc: Global, size: u64) -> Result<Side, Memory>
@@ -216,17 +206,13 @@ impl Side {
         open_each(self.limits.as_mut_slice(), self.nearest.as_slice(), marks);
     }
 
-    /// The slots of the windows.
-    fn slots(&self, alloc: Global) -> Result<Slots, Memory>
-        ensures { IfOk result (λ slots. slots.items ≡ column self.now) }
+    /// The nearest window of a window.
+    #[inline]
+    fn slot(&self, k: usize) -> Slot
+        requires { k + 16 < length self.now.limits }
+        ensures { result ≡ slot (lane self.now.limits k) (place_at self.now.nearest k) }
     {
-        let mut slots = vec![in alloc; None; self.limits.len() - BEHIND]?;
-        fill_slots(
-            slots.as_mut_slice(),
-            self.limits.as_slice(),
-            self.nearest.as_slice(),
-        );
-        Ok(Items::from(slots))
+        slot_of(&self.limits[k], self.nearest[k])
     }
 }
 
@@ -277,13 +263,21 @@ impl Sides {
         );
     }
 
-    /// The profile of what was found.
-    pub fn profile(&self, alloc: Global) -> Result<Profile, Memory>
-        ensures left { IfOk result (λ p. p.left ≡ column self.now.left) }
-        ensures right { IfOk result (λ p. p.right ≡ column self.now.right) }
-        ensures all { IfOk result (λ p. p.all ≡ merged_column (column self.now.left) (column self.now.right)) }
+    /// The profile of what was found, in the room of a profile of no windows. It takes no memory.
+    pub fn profile(&self, room: Profile) -> Profile
+        requires no_window { room.all ≡ [] }
+        requires no_left { room.left ≡ [] }
+        requires no_right { room.right ≡ [] }
+        requires spare { width self.now.left ≤ room.spare }
+        ensures left { result.left ≡ column self.now.left }
+        ensures right { result.right ≡ column self.now.right }
+        ensures all { result.all ≡ merged_column (column self.now.left) (column self.now.right) }
     {
-        Profile::of_sides(alloc, self.left.slots(alloc)?, self.right.slots(alloc)?)
+        let mut profile = room;
+        for k in 0..self.left.len() as usize {
+            profile.push(self.left.slot(k), self.right.slot(k));
+        }
+        profile
     }
 }
 

@@ -1,5 +1,5 @@
-//! Sweeps of a series over itself: both sides take what pairs of its windows give, and their own limits tell which pairs
-//! give something.
+//! Sweeps of a series over itself: both sides take what pairs of its windows give, and their own limits tell which
+//! pairs give something.
 
 ghost use Rattle.std.specs.Prelude.{◌≡◌, ℕ, ◌+◌, ◌*◌, ◌^◌, ◌<◌, ◌≤◌, min, length, pos, ◌<ℤ◌, false};
 ghost use Rattle.std.specs.Int.{div_ceil};
@@ -19,22 +19,6 @@ use crate::tracks::Track;
 use crate::vectors::{load, store};
 use std::simd::prelude::*;
 
-/// A row and a column, where both are whole, take each other, where they are nearer than what was found.
-#[inline]
-fn take_pair(track: &Track, p: usize, q: usize, dist: &i64, right: &mut Side, left: &mut Side)
-    requires row { p < length right.old.limits }
-    requires column { q < length left.old.limits }
-    requires dist { dist.now ≡ pos (sum_in track.now.block p q) }
-    requires open { AreOpen track.now right.old left.old }
-    ensures taken { HaveTaken track.now (only p q) right.old left.old right.new left.new }
-    ensures open { AreOpen track.now right.new left.new }
-{
-    if are_whole(&track.marks[p], &track.marks[q]) {
-        right.lower(p, dist, q);
-        left.lower(q, dist, p);
-    }
-}
-
 /// Whether a distance is within the limit of a row or of a column.
 #[inline]
 fn is_within_either(row: &i64, column: &i64, dist: &i64) -> bool
@@ -44,8 +28,8 @@ fn is_within_either(row: &i64, column: &i64, dist: &i64) -> bool
     *dist <= *row || *dist <= *column
 }
 
-/// A row and a column take each other, where a limit lets their distance pass.
-fn look_at_pair(track: &Track, p: usize, q: usize, dist: &i64, right: &mut Side, left: &mut Side)
+/// A row and a column, where both are whole, take each other, where they are nearer than what was found.
+fn take_pair(track: &Track, p: usize, q: usize, dist: &i64, right: &mut Side, left: &mut Side)
     requires row { p < length right.old.limits }
     requires column { q < length left.old.limits }
     requires dist { dist.now ≡ pos (sum_in track.now.block p q) }
@@ -53,8 +37,13 @@ fn look_at_pair(track: &Track, p: usize, q: usize, dist: &i64, right: &mut Side,
     ensures taken { HaveTaken track.now (only p q) right.old left.old right.new left.new }
     ensures open { AreOpen track.now right.new left.new }
 {
-    if is_within_either(&right.limits()[p], &left.limits()[q], dist) {
-        take_pair(track, p, q, dist, right, left);
+    // most are farther, which limits alone tell
+    if !is_within_either(&right.limits()[p], &left.limits()[q], dist) {
+        return;
+    }
+    if are_whole(&track.marks[p], &track.marks[q]) {
+        right.lower(p, dist, q);
+        left.lower(q, dist, p);
     }
 }
 
@@ -78,7 +67,7 @@ fn take_row(
     ensures open { AreOpen track.now right.new left.new }
 {
     for t in 0..width {
-        look_at_pair(track, p, c + t, &sums[t], right, left);
+        take_pair(track, p, c + t, &sums[t], right, left);
     }
 }
 

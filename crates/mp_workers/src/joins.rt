@@ -37,7 +37,10 @@ pub fn self_join<R: Threads + Sync, G: Gate>(
     ensures right { IfOk result (λ p. p.right ≡ (matrix_profile m (series_of samples.now)).right) }
 {
     match NarrowTiles::new(alloc, samples, m, tile)? {
-        Some(tiles) => { run_all(rt, alloc, &tiles, tiles.pieces(), workers, gate)?.profile(alloc) }
+        Some(tiles) => {
+            let room = Profile::with_capacity(alloc, tiles.size())?;
+            Ok(run_all(rt, alloc, &tiles, tiles.pieces(), workers, gate)?.profile(room))
+        }
         None => {
             let tiles = OwnTiles::new(samples, m, tile);
             run_all(rt, alloc, &tiles, tiles.pieces(), workers, gate)

@@ -189,7 +189,8 @@ fn a_thousand_runs_find_the_same(rt: HostRuntime) -> Result<(), Fail> {
         let samples = ties(rt.alloc(), 24 + seed % 17, seed)?;
         let samples = samples.as_slice();
         let whole = profile(rt.alloc(), samples, 3, 256)?;
-        let found = self_join(&rt, rt.alloc(), samples, 3, 1, 8, &OpenGate)?;
+        let tile = if seed % 2 == 0 { 1 } else { 16 };
+        let found = self_join(&rt, rt.alloc(), samples, 3, tile, 8, &OpenGate)?;
         expect_same(&rt, &found, &whole);
     }
     Ok(())

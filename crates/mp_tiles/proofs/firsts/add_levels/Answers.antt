@@ -19,7 +19,8 @@ add_squares-requires-clause-fits c t lt =
     (sym (first_next x y n i j t _ _ _ (c.loop-k.invariant.firsts.each t lt)
     (c.requires.rows.each k (omega (arith, c.loop-k-test.true)) ∙ ap x (omega arith))
     (cut_lane c.args.columns.now k _ t (omega (arith, lt))
-    ∙ c.requires.columns.each (k + t) (omega (arith, lt, c.requires.places, c.loop-k.invariant.places, c.loop-k-test.true))
+    ∙ c.requires.columns.each (k + t)
+    (omega (arith, lt, c.requires.places, c.loop-k.invariant.places, c.loop-k-test.true))
     ∙ ap y (omega arith))))
     (omega (
       arith,

@@ -18,9 +18,10 @@ loop-row-init c =
       after = omega arith;
       order = inr refl;
       opened = c.requires.open;
-      taken = nothing_taken track (in_block first end top top) _ _ (λ i j. no_block first end top top i j (omega arith));
-      sums = subst (λ count. AreStripSums (level b.scale.low (rows_of b)) (level b.scale.low (columns_of b)) (length_in b)
-          count top (top + first) c.start_sums.new.sums) (same_count track) c.start_sums.ensures.sums;
+      taken = nothing_taken track (in_block first end top top) _ _
+          (λ i j. no_block first end top top i j (omega arith));
+      sums = subst (λ count. AreStripSums (level b.scale.low (rows_of b)) (level b.scale.low (columns_of b))
+          (length_in b) count top (top + first) c.start_sums.new.sums) (same_count track) c.start_sums.ensures.sums;
       places = refl;
     }
 
@@ -50,7 +51,7 @@ returns-clause-taken c =
     let track = c.args.track.now in
     let first = c.args.first in
     let end = first + c.args.width in
-    taken_same track (in_block first end c.args.top c.loop-row.row) (in_block first end c.args.top c.args.bottom) _ _ _ _
-    c.loop-row.invariant.taken
-    (λ i j _ lt. rows_done first end c.args.top c.args.bottom c.loop-row.row c.min-end.result track.block.grid.rows.count
-    i j c.min-end.ensures c.loop-row-test.false c.loop-row.invariant.order lt)
+    taken_same track (in_block first end c.args.top c.loop-row.row) (in_block first end c.args.top c.args.bottom)
+    _ _ _ _ c.loop-row.invariant.taken
+    (λ i j _ lt. rows_done first end c.args.top c.args.bottom c.loop-row.row c.min-end.result
+    track.block.grid.rows.count i j c.min-end.ensures c.loop-row-test.false c.loop-row.invariant.order lt)

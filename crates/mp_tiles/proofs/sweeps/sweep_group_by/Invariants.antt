@@ -12,8 +12,8 @@ invariant-loop-row l =
       after : l.top ≤ l.row;
       order : (l.row ≤ l.end) ⊎ (l.row ≡ l.top);
       opened : AreOpen l.track l.right l.left;
-      taken : HaveTaken l.track (in_block l.first (l.first + l.width) l.top l.row) l.initial.right l.initial.left l.right
-          l.left;
+      taken : HaveTaken l.track (in_block l.first (l.first + l.width) l.top l.row) l.initial.right l.initial.left
+          l.right l.left;
       sums : AreStripSums (level b.scale.low (rows_of b)) (level b.scale.low (columns_of b)) (length_in b)
           b.grid.rows.count l.row (l.row + l.first) l.sums;
       places : length l.sums ≡ length l.initial.sums;

@@ -9,8 +9,8 @@ invariant-loop-done l = record {
   after : l.from ≤ l.done;
   within : l.done ≤ l.end;
   sums : AreSumsAt l.track.block l.done (l.done + l.offset) l.sums;
-  taken : HaveTaken l.track (in_block l.offset (l.offset + l.width) l.from l.done) l.initial.right l.initial.left l.right
-      l.left;
+  taken : HaveTaken l.track (in_block l.offset (l.offset + l.width) l.from l.done) l.initial.right l.initial.left
+      l.right l.left;
   opened : AreOpen l.track l.right l.left;
 }
 

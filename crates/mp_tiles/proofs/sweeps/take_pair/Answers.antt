@@ -1,6 +1,16 @@
-use Rattle.std.proofs.Common.{arith}
-use Rattle.mp_tiles.proofs.SweepLemmas.{marked_whole, pair_shut, pair_taken, sides_open}
+use Rattle.std.proofs.Common.{List, ℤ, subst, arith}
+use Rattle.std.specs.Prelude.{◌<ℤ◌}
+use Rattle.mp_tiles.specs.Lanes.{lane}
+use Rattle.mp_tiles.proofs.SweepLemmas.{marked_whole, pair_quiet, pair_shut, pair_taken, sides_open}
 use Rattle.mp_tiles.proofs.sweeps.take_pair.Goals as goal
+
+pub returns-then-not-is_within_either-clause-taken : goal.returns-then-not-is_within_either-clause-taken
+returns-then-not-is_within_either-clause-taken c =
+    let far = c.if-not-is_within_either.true in
+    pair_quiet c.args.track.now c.args.p c.args.q c.args.dist.now _ _ c.requires.open c.requires.dist
+    (subst (λ (v : List ℤ). lane v c.args.p <ℤ c.args.dist.now) c.limits.ensures (c.is_within_either.ensures.row far))
+    (subst (λ (v : List ℤ). lane v c.args.q <ℤ c.args.dist.now) c.limits-2.ensures
+    (c.is_within_either.ensures.column far))
 
 pub returns-then-are_whole-clause-taken : goal.returns-then-are_whole-clause-taken
 returns-then-are_whole-clause-taken c =

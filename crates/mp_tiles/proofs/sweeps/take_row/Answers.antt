@@ -20,9 +20,9 @@ loop-t-preserved c =
     let t = c.loop-t.t in
     record {
       taken = taken_next c.args.track.now (in_row p q (q + t)) (only p (q + t)) (in_row p q (q + (t + 1))) _ _ _ _ _ _
-          c.loop-t.invariant.taken c.look_at_pair.ensures.taken
+          c.loop-t.invariant.taken c.take_pair.ensures.taken
           (λ x y _ _. one_more_column p q (q + t) (q + t) (q + (t + 1)) x y (omega arith) (omega arith) (omega arith));
-      opened = c.look_at_pair.ensures.open;
+      opened = c.take_pair.ensures.open;
     }
 
 pub returns-clause-taken : goal.returns-clause-taken

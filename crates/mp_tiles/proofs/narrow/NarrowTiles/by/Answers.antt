@@ -19,7 +19,15 @@ returns-clause-together c =
     let a = series_of samples in
     let tiles = c.cut_own.result in
     let same = series_are_of_samples.windows_are m samples in
-    let count : c.of-windows.result.count ≡ windows_of m a = omega (arith, c.of-windows.result.all, c.of-windows.ensures.rest, ap length c.of-windows.ensures.samples, same, c.requires.some) in
+    let count : c.of-windows.result.count ≡ windows_of m a =
+    omega (
+      arith,
+      c.of-windows.result.all,
+      c.of-windows.ensures.rest,
+      ap length c.of-windows.ensures.samples,
+      same,
+      c.requires.some,
+    ) in
     ap (λ w. merged_below merged_columns (empty_columns 2 w)
     (λ k. sides_value (profile_among (has_pair 0 (get_or tiles k no_tile)) m a)) (length tiles)) (sym same)
     ∙ sides_together m a tiles (matrix_profile m a)
