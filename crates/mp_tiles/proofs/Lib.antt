@@ -10,6 +10,7 @@ pub mod BlockLemmas
 pub mod ColumnLemmas
 pub mod LaneLemmas
 pub mod LevelLemmas
+pub mod ScaleLemmas
 pub mod FirstLemmas
 pub mod BlockSums
 pub mod LimitLemmas

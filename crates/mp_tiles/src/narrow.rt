@@ -1,12 +1,13 @@
 //! The tiles of a series whose sums fit in 64 bits, as the pieces of a kernel, and both sides that they make.
 
-ghost use Rattle.std.specs.Prelude.{◌≡◌, ◌+◌, ◌≤◌, length, IfOk, Some};
+ghost use Rattle.std.specs.Prelude.{◌≡◌, ◌+◌, ◌<◌, ◌≤◌, ◌⊎◌, length, IfOk, Some, None};
 ghost use Rattle.mp_series.specs.declared.limits.TheConstants.{MAX_SAMPLES, MAX_WINDOW, MIN_WINDOW};
 ghost use Rattle.mp_defs.specs.Series.{series_of};
 ghost use Rattle.mp_defs.specs.Window.{windows as windows_in, excl as zone};
 ghost use Rattle.mp_defs.specs.Profile.{matrix_profile};
 ghost use Rattle.mp_tiles.specs.Cutting.{own_tiles};
 ghost use Rattle.mp_tiles.specs.Levels.{level, AreNarrow, AreSteps};
+ghost use Rattle.mp_tiles.specs.Scales.{AreFarApart};
 ghost use Rattle.mp_tiles.specs.Limits.{AreMarks};
 ghost use Rattle.mp_tiles.specs.Blocks.{length_in};
 ghost use Rattle.mp_tiles.specs.Pieces.{OwnTiling, own_size};
@@ -84,8 +85,9 @@ fn track_of<'a>(windows: Windows<'a>, scale: Scale, steps: Steps<'a>, marks: &'a
 }
 
 impl<'a> NarrowTiles<'a> {
-    /// The tiles of at most `tile` diagonals of the samples' windows of length `m`. There are none where sums of 64
-    /// bits don't hold every distance, where there is no window, or where tiles have fewer diagonals than run at once.
+    /// The tiles of at most `tile` diagonals of the samples' windows of length `m`. There are none where there is no
+    /// window, where tiles have fewer diagonals than run at once, or where two numbers lie so far apart that sums of 64
+    /// bits don't hold every distance.
     pub fn new(
         alloc: Global,
         samples: &'a [Sample],
@@ -104,6 +106,8 @@ impl<'a> NarrowTiles<'a> {
         ensures few { IfOk result (λ found. (own : OwnTiling) → found ≡ Some own → length own.tiles ≤ MAX_TILES) }
         ensures together { IfOk result (λ found. (own : OwnTiling) → found ≡ Some own
             → narrow_together own ≡ sides_value (matrix_profile m (series_of samples.now))) }
+        ensures none { IfOk result (λ found. found ≡ None → (length samples.now < m) ⊎ (tile < 16)
+            ⊎ AreFarApart (series_of samples.now) (series_of samples.now) m) }
     {
         if samples.len() < m as usize || (tile as usize) < LANES {
             return Ok(None);

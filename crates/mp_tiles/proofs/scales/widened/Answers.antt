@@ -3,6 +3,7 @@ use Rattle.std.specs.Prelude.{Some, ◌≤ℤ◌}
 use Rattle.std.proofs.lemmas.Int.{ints}
 use Rattle.mp_nums.specs.declared.samples.Sample.TheVariants.{Missing}
 use Rattle.mp_defs.specs.Series.{reading_of}
+use Rattle.mp_tiles.proofs.ScaleLemmas.{still_has}
 use Rattle.mp_tiles.proofs.LevelLemmas.{between_all}
 use Rattle.mp_tiles.proofs.scales.widened.Goals as goal
 
@@ -22,6 +23,8 @@ loop-k-preserved c =
           below_more
           (λ n. reading_of (get_or samples n Missing) ≡ Some x → x ≤ℤ c.with_sample-wide.result.high)
           c.loop-k.k (λ n less is. omega (arith, ints, before.below n x less is, next.high)) (next.below x) t lt;
+      least = still_has samples c.loop-k.k _ _ _ before.least next.least;
+      greatest = still_has samples c.loop-k.k _ _ _ before.greatest next.greatest;
     }
 
 pub returns-clause-between : goal.returns-clause-between

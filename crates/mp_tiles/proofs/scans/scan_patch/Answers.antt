@@ -49,5 +49,5 @@ invariant_of-grid c =
       same_length = refl;
       scaled = scaled_as c.find_scale.result a here.samples.now a here.samples.now c.args.m (here.rest + 1)
           c.of-windows.ensures.samples c.of-windows.ensures.samples (omega (arith, c.of-windows.ensures.rest))
-          c.find_scale.ensures;
+          c.find_scale.ensures.scaled;
     }
