@@ -29,10 +29,7 @@ fn run<R: AllocGlobal + Clock + Env + Input + Print + Threads + Sync>(rt: &R) ->
     let samples = read_samples(rt)?;
     let empty = Samples::new(rt.alloc());
     let mut stream = Stream::from(rt, rt.alloc(), empty, words.window, 256, 1, &OpenGate)?;
-    stream.reserve(samples.len() as u64)?;
-    let start = Instant::now(rt)?;
-    append_each(&mut stream, samples.as_slice())?;
-    let time = start.elapsed(rt)?;
+    let time = timed_appends(rt, &mut stream, samples.as_slice())?;
     report(rt, &stream, words.timed, time)
 }
 
@@ -53,6 +50,14 @@ fn read_samples<R: AllocGlobal + Input>(rt: &R) -> Result<Vec<Sample>> {
         samples.push(Sample::Value(number))?;
     }
     Ok(samples)
+}
+
+/// Appends the samples, and tells how long that took.
+fn timed_appends(rt: &impl Clock, stream: &mut Stream, samples: &[Sample]) -> Result<Duration> {
+    stream.reserve(samples.len() as u64)?;
+    let start = Instant::now(rt)?;
+    append_each(stream, samples)?;
+    Ok(start.elapsed(rt)?)
 }
 
 fn append_each(stream: &mut Stream, samples: &[Sample]) -> Result<()> {

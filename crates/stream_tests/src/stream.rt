@@ -1,23 +1,25 @@
 ghost use Rattle.std.specs.Prelude.{◌≤◌};
 ghost use Rattle.mp_series.specs.declared.limits.TheConstants.{MIN_WINDOW, MAX_WINDOW};
 
-use mp_nums::{Near, Sample, Slot, Sq};
+use mp_nums::{Sample, Slot};
 use mp_outside::OpenGate;
 use mp_plain::profile;
 use mp_series::{Samples, windows};
 use mp_stream::{BLOCK, Stream};
 use std::alloc::Global;
+use std::ops::Range;
 use std::process::Abort;
 use std::test::Fail;
 use std::thread::Threads;
 
 const GAP: Sample = Sample::Missing;
 
-fn near(dist: u128, index: u64) -> Slot {
-    Some(Near {
-        dist: Sq(dist),
-        index,
-    })
+/// Expects slots with these distances and starts.
+fn expect_slots(rt: &impl Abort, slots: &[Slot], expected: &[Option<(u128, u64)>]) {
+    assert_eq!(rt; slots.len(), expected.len());
+    for (slot, pair) in slots.iter().zip(expected) {
+        assert_eq!(rt; slot.map(|near| (near.dist.0, near.index)), *pair);
+    }
 }
 
 /// An empty stream of windows of `m` samples.
@@ -57,24 +59,34 @@ fn append_each(rt: &impl Abort, stream: &mut Stream, samples: &[Sample]) -> Resu
     Ok(())
 }
 
+/// Appends the samples, and compares the profile, before and after.
+fn compare_and_append(
+    rt: &impl Abort,
+    alloc: Global,
+    stream: &mut Stream,
+    samples: &[Sample],
+) -> Result<(), Fail> {
+    expect_whole(rt, alloc, stream)?;
+    append_each(rt, stream, samples)?;
+    expect_whole(rt, alloc, stream)
+}
+
+/// Appends six samples to an empty stream.
+fn expect_six(rt: &impl Abort, stream: &mut Stream) -> Result<(), Fail> {
+    assert_eq!(rt; stream.profile().len(), 0);
+    append_each(rt, stream, &[1, 2, 3, 1, 2, 3].map(Sample::Value))?;
+    let profile = stream.profile();
+    let (left, right) = ([Some((6, 0)), Some((0, 0))], [Some((0, 3)), Some((6, 3))]);
+    expect_slots(rt, profile.all(), &[right[0], right[1], left[0], left[1]]);
+    expect_slots(rt, profile.left(), &[None, None, left[0], left[1]]);
+    expect_slots(rt, profile.right(), &[right[0], right[1], None, None]);
+    Ok(())
+}
+
 #[test]
 fn samples_one_by_one(rt: HostRuntime) -> Result<(), Fail> {
     let mut stream = empty(&rt, rt.alloc(), 3)?;
-    assert_eq!(rt; stream.profile().len(), 0);
-    append_each(&rt, &mut stream, &[1, 2, 3, 1, 2, 3].map(Sample::Value))?;
-    assert_eq!(rt;
-        stream.profile().all(),
-        [near(0, 3), near(6, 3), near(6, 0), near(0, 0)].as_slice()
-    );
-    assert_eq!(rt;
-        stream.profile().left(),
-        [None, None, near(6, 0), near(0, 0)].as_slice()
-    );
-    assert_eq!(rt;
-        stream.profile().right(),
-        [near(0, 3), near(6, 3), None, None].as_slice()
-    );
-    Ok(())
+    expect_six(&rt, &mut stream)
 }
 
 #[test]
@@ -88,9 +100,7 @@ fn room_for_more_samples(rt: HostRuntime) -> Result<(), Fail> {
 #[test]
 fn a_whole_series(rt: HostRuntime) -> Result<(), Fail> {
     let mut stream = stream_of(&rt, rt.alloc(), &[1, 2, 3, 1, 2, 3].map(Sample::Value))?;
-    expect_whole(&rt, rt.alloc(), &mut stream)?;
-    append_each(&rt, &mut stream, &[3, 1, 2].map(Sample::Value))?;
-    expect_whole(&rt, rt.alloc(), &mut stream)
+    compare_and_append(&rt, rt.alloc(), &mut stream, &[3, 1, 2].map(Sample::Value))
 }
 
 /// The next number of a sequence that looks like chance.
@@ -110,16 +120,22 @@ fn tied(state: u64) -> Sample {
     }
 }
 
+/// Appends 90 samples, and compares the profile after each.
+fn append_ties(rt: &impl Abort, alloc: Global, stream: &mut Stream, seed: u64) -> Result<(), Fail> {
+    let mut state = seed;
+    for _ in 0..90 {
+        state = next(state);
+        append_each(rt, stream, &[tied(state)])?;
+        expect_whole(rt, alloc, stream)?;
+    }
+    Ok(())
+}
+
 #[test]
 fn ties_and_missing_samples(rt: HostRuntime) -> Result<(), Fail> {
-    let mut state = 1;
     for m in 3..21 {
         let mut stream = empty(&rt, rt.alloc(), m)?;
-        for _ in 0..90 {
-            state = next(state);
-            append_each(&rt, &mut stream, &[tied(state)])?;
-            expect_whole(&rt, rt.alloc(), &mut stream)?;
-        }
+        append_ties(&rt, rt.alloc(), &mut stream, u64::from(m))?;
     }
     Ok(())
 }
@@ -135,17 +151,28 @@ fn widening(state: u64, k: u32) -> Sample {
     }
 }
 
+/// Appends such samples for these `k`, and compares the profile after each.
+fn append_widening(
+    rt: &impl Abort,
+    alloc: Global,
+    stream: &mut Stream,
+    seed: u64,
+    places: Range<u32>,
+) -> Result<(), Fail> {
+    let mut state = seed;
+    for k in places {
+        state = next(state);
+        append_each(rt, stream, &[widening(state, k)])?;
+        expect_whole(rt, alloc, stream)?;
+    }
+    Ok(())
+}
+
 #[test]
 fn a_range_that_outgrows_64_bits(rt: HostRuntime) -> Result<(), Fail> {
-    let mut state = 3;
     for m in 3..21 {
         let mut stream = empty(&rt, rt.alloc(), m)?;
-        stream.reserve(120)?;
-        for k in 0..120 {
-            state = next(state);
-            append_each(&rt, &mut stream, &[widening(state, k)])?;
-            expect_whole(&rt, rt.alloc(), &mut stream)?;
-        }
+        append_widening(&rt, rt.alloc(), &mut stream, u64::from(m), 0..120)?;
     }
     Ok(())
 }
@@ -153,11 +180,20 @@ fn a_range_that_outgrows_64_bits(rt: HostRuntime) -> Result<(), Fail> {
 #[test]
 fn a_wide_series_that_grows(rt: HostRuntime) -> Result<(), Fail> {
     let mut stream = stream_of(&rt, rt.alloc(), &[i32::MAX, i32::MIN, 5].map(Sample::Value))?;
-    let mut state = 9;
-    for k in 60..160 {
-        state = next(state);
-        append_each(&rt, &mut stream, &[widening(state, k)])?;
-        expect_whole(&rt, rt.alloc(), &mut stream)?;
+    append_widening(&rt, rt.alloc(), &mut stream, 9, 60..160)
+}
+
+/// Appends the samples, and tells for each window whether none of its samples is missing.
+fn expect_free(
+    rt: &impl Abort,
+    stream: &mut Stream,
+    samples: &[Sample],
+    free: &[bool],
+) -> Result<(), Fail> {
+    append_each(rt, stream, samples)?;
+    assert_eq!(rt; windows(stream.len(), stream.window()), free.len() as u64);
+    for i in 0..free.len() {
+        assert_eq!(rt; stream.free(i as u64), free[i], "window {i}");
     }
     Ok(())
 }
@@ -166,13 +202,8 @@ fn a_wide_series_that_grows(rt: HostRuntime) -> Result<(), Fail> {
 fn windows_without_missing_samples(rt: HostRuntime) -> Result<(), Fail> {
     let one = Sample::Value(1);
     let mut stream = stream_of(&rt, rt.alloc(), &[one, one, one, GAP, one, one])?;
-    append_each(&rt, &mut stream, &[one, one, GAP])?;
-    let free: [bool; 7] = [true, false, false, false, true, true, false];
-    assert_eq!(rt; windows(stream.len(), stream.window()), free.len() as u64);
-    for i in 0..free.len() {
-        assert_eq!(rt; stream.free(i as u64), free[i], "window {i}");
-    }
-    Ok(())
+    let free = [true, false, false, false, true, true, false];
+    expect_free(&rt, &mut stream, &[one, one, GAP], &free)
 }
 
 /// The greatest number, 0 or a small one.
@@ -184,51 +215,52 @@ fn spread(state: u64, greatest: i32) -> Sample {
     }
 }
 
-/// Appends samples that reach up to a greatest number, at windows of 8 samples.
-fn expect_up_to<R: Threads + Sync + Abort>(
-    rt: &R,
+/// Appends 60 samples that reach up to a greatest number, and compares the profile after each.
+fn append_spread(
+    rt: &impl Abort,
     alloc: Global,
+    stream: &mut Stream,
     greatest: i32,
 ) -> Result<(), Fail> {
-    let mut stream = empty(rt, alloc, 8)?;
     let mut state = 7;
     for _ in 0..60 {
         state = next(state);
-        append_each(rt, &mut stream, &[spread(state, greatest)])?;
-        expect_whole(rt, alloc, &mut stream)?;
+        append_each(rt, stream, &[spread(state, greatest)])?;
+        expect_whole(rt, alloc, stream)?;
     }
     Ok(())
 }
 
+/// At windows of 8 samples. 8 times the square of 2^30 is 2^63.
 #[test]
 fn ranges_about_the_greatest_sum_of_64_bits(rt: HostRuntime) -> Result<(), Fail> {
-    // 8 times the square of 2^30 is 2^63.
-    expect_up_to(&rt, rt.alloc(), (1 << 30) - 1)?;
-    expect_up_to(&rt, rt.alloc(), 1 << 30)?;
-    expect_up_to(&rt, rt.alloc(), i32::MAX)
+    for greatest in [(1 << 30) - 1, 1 << 30, i32::MAX] {
+        let mut stream = empty(&rt, rt.alloc(), 8)?;
+        append_spread(&rt, rt.alloc(), &mut stream, greatest)?;
+    }
+    Ok(())
+}
+
+/// Appends the numbers, and compares the profile after each.
+fn append_numbers(
+    rt: &impl Abort,
+    alloc: Global,
+    stream: &mut Stream,
+    numbers: &[i32],
+) -> Result<(), Fail> {
+    for number in numbers {
+        append_each(rt, stream, &[Sample::Value(*number)])?;
+        expect_whole(rt, alloc, stream)?;
+    }
+    Ok(())
 }
 
 #[test]
 fn the_ends_of_32_bits(rt: HostRuntime) -> Result<(), Fail> {
+    let (low, high) = (i32::MIN, i32::MAX);
+    let numbers = [5, -3, 4, 5, low, low, low, high, high, high, 5, -3];
     let mut stream = empty(&rt, rt.alloc(), 3)?;
-    for sample in [
-        5,
-        -3,
-        4,
-        5,
-        i32::MIN,
-        i32::MIN,
-        i32::MIN,
-        i32::MAX,
-        i32::MAX,
-        i32::MAX,
-        5,
-        -3,
-    ] {
-        append_each(&rt, &mut stream, &[Sample::Value(sample)])?;
-        expect_whole(&rt, rt.alloc(), &mut stream)?;
-    }
-    Ok(())
+    append_numbers(&rt, rt.alloc(), &mut stream, &numbers)
 }
 
 /// Whether each block of windows that isn't marked has the nearest windows that were known.
@@ -243,18 +275,35 @@ fn are_known(stream: &Stream, known: &[Slot]) -> bool {
     are
 }
 
+/// Appends three samples.
+fn append_three(rt: &impl Abort, stream: &mut Stream, seed: u64) -> Result<(), Fail> {
+    let mut state = seed;
+    for _ in 0..3 {
+        state = next(state);
+        append_each(rt, stream, &[tied(state)])?;
+    }
+    Ok(())
+}
+
+/// Appends three samples, and looks for what changed.
+fn expect_marks(
+    rt: &impl Abort,
+    alloc: Global,
+    stream: &mut Stream,
+    seed: u64,
+) -> Result<(), Fail> {
+    let known = Vec::from_slice(alloc, stream.profile().all())?;
+    stream.clear_changed();
+    append_three(rt, stream, seed)?;
+    assert!(rt; are_known(stream, known.as_slice()));
+    Ok(())
+}
+
 #[test]
 fn blocks_that_are_not_marked_stay(rt: HostRuntime) -> Result<(), Fail> {
-    let mut state = 5;
     let mut stream = empty(&rt, rt.alloc(), 4)?;
-    for _ in 0..40 {
-        let known = Vec::from_slice(rt.alloc(), stream.profile().all())?;
-        stream.clear_changed();
-        for _ in 0..3 {
-            state = next(state);
-            append_each(&rt, &mut stream, &[tied(state)])?;
-        }
-        assert!(rt; are_known(&stream, known.as_slice()));
+    for seed in 0..40 {
+        expect_marks(&rt, rt.alloc(), &mut stream, seed)?;
     }
     Ok(())
 }

@@ -4,26 +4,59 @@ ghost use Rattle.mp_defs.specs.Window.{windows as windows_in, excl as zone};
 ghost use Rattle.mp_tiles.specs.Cutting.{diagonals_between};
 ghost use Rattle.mp_tiles.specs.Pairs.{IsTileBetween};
 
+use mp_nums::Sample::{Missing, Value};
 use mp_nums::{Memory, Near, Sample, Slot, Slots, Sq};
 use mp_partial::{Bench, Part, Patch, Profile};
+use mp_plain::Columns;
 use mp_series::{excl, windows};
 use mp_tiles::{
-    MAX_TILE, Tile, cut_both, cut_own, join, profile, scan_both, scan_on_bench, scan_own,
+    Cut, MAX_TILE, Tile, cut_both, cut_own, join, profile, scan_both, scan_on_bench, scan_own,
 };
 use std::alloc::Global;
+use std::process::Abort;
 use std::test::Fail;
 
-const GAP: Sample = Sample::Missing;
-
-fn value(number: i32) -> Sample {
-    Sample::Value(number)
+/// Expects slots with these distances and starts.
+fn expect_slots(rt: &impl Abort, slots: &[Slot], expected: &[Option<(u128, u64)>]) {
+    assert_eq!(rt; slots.len(), expected.len());
+    for (slot, pair) in slots.iter().zip(expected) {
+        assert_eq!(rt; slot.map(|near| (near.dist.0, near.index)), *pair);
+    }
 }
 
-fn near(dist: u128, index: u64) -> Slot {
-    Some(Near {
-        dist: Sq(dist),
-        index,
-    })
+/// Expects columns with these distances and starts.
+fn expect_sides(
+    rt: &impl Abort,
+    profile: &Profile,
+    all: &[Option<(u128, u64)>],
+    left: &[Option<(u128, u64)>],
+    right: &[Option<(u128, u64)>],
+) {
+    expect_slots(rt, profile.all(), all);
+    expect_slots(rt, profile.left(), left);
+    expect_slots(rt, profile.right(), right);
+}
+
+/// Expects the columns that every pair gives.
+fn expect_columns(rt: &impl Abort, profile: &Profile, every: &Columns) {
+    assert_eq!(rt; profile.all(), every.all.as_slice());
+    assert_eq!(rt; profile.left(), every.left.as_slice());
+    assert_eq!(rt; profile.right(), every.right.as_slice());
+}
+
+/// Expects so many tiles, and some of them, by their places: their first and last diagonal, and first and last row.
+fn expect_tiles(rt: &impl Abort, cut: &Cut, count: u64, tiles: &[(u64, [u64; 4])]) {
+    assert_eq!(rt; cut.count(), count);
+    for (place, [first, last, first_row, last_row]) in tiles {
+        assert!(rt; *place < count);
+        let expected = Tile {
+            first: *first,
+            last: *last,
+            first_row: *first_row,
+            last_row: *last_row,
+        };
+        assert_eq!(rt; cut.tile(*place), expected, "at {place}");
+    }
 }
 
 /// A part in which nothing was found, through the bound.
@@ -34,7 +67,9 @@ fn unit<P: Part>(alloc: Global, size: u64) -> Result<P, Memory>
 }
 
 /// Merges the part with a unit and with itself, which changes nothing.
-fn merge_with_unit<P: Part>(alloc: Global, part: &mut P) -> Result<(), Memory> {
+fn merge_with_unit<P: Part>(alloc: Global, part: &mut P) -> Result<(), Memory>
+    ensures { P.size_of part.new ≡ P.size_of part.old }
+{
     let mut other: P = unit(alloc, part.size())?;
     other.merge(part);
     part.merge(&other);
@@ -88,27 +123,22 @@ fn spread(alloc: Global, count: u64, low: i32, high: i32) -> Result<Vec<Sample>,
 #[test]
 fn last_sample_is_missing(rt: HostRuntime) -> Result<(), Fail> {
     let samples = [
-        value(1),
-        value(2),
-        value(3),
-        value(1),
-        value(2),
-        value(3),
-        GAP,
+        Value(1),
+        Value(2),
+        Value(3),
+        Value(1),
+        Value(2),
+        Value(3),
+        Missing,
     ];
     let profile = profile(rt.alloc(), samples.as_slice(), 3, 256)?;
     assert_eq!(rt; profile.len(), 5);
-    assert_eq!(rt;
-        profile.all(),
-        [near(0, 3), near(6, 3), near(6, 0), near(0, 0), None].as_slice()
-    );
-    assert_eq!(rt;
-        profile.left(),
-        [None, None, near(6, 0), near(0, 0), None].as_slice()
-    );
-    assert_eq!(rt;
-        profile.right(),
-        [near(0, 3), near(6, 3), None, None, None].as_slice()
+    expect_sides(
+        &rt,
+        &profile,
+        &[Some((0, 3)), Some((6, 3)), Some((6, 0)), Some((0, 0)), None],
+        &[None, None, Some((6, 0)), Some((0, 0)), None],
+        &[Some((0, 3)), Some((6, 3)), None, None, None],
     );
     Ok(())
 }
@@ -116,18 +146,19 @@ fn last_sample_is_missing(rt: HostRuntime) -> Result<(), Fail> {
 #[test]
 fn middle_sample_is_missing(rt: HostRuntime) -> Result<(), Fail> {
     let samples = [
-        value(1),
-        value(2),
-        value(3),
-        GAP,
-        value(1),
-        value(2),
-        value(3),
+        Value(1),
+        Value(2),
+        Value(3),
+        Missing,
+        Value(1),
+        Value(2),
+        Value(3),
     ];
     let profile = profile(rt.alloc(), samples.as_slice(), 3, 256)?;
-    assert_eq!(rt;
+    expect_slots(
+        &rt,
         profile.all(),
-        [near(0, 4), None, None, None, near(0, 0)].as_slice()
+        &[Some((0, 4)), None, None, None, Some((0, 0))],
     );
     Ok(())
 }
@@ -135,58 +166,68 @@ fn middle_sample_is_missing(rt: HostRuntime) -> Result<(), Fail> {
 #[test]
 fn sums_go_on_past_a_missing_sample(rt: HostRuntime) -> Result<(), Fail> {
     let samples = [
-        value(1),
-        value(2),
-        GAP,
-        value(1),
-        value(2),
-        value(3),
-        value(1),
-        value(2),
-        value(3),
+        Value(1),
+        Value(2),
+        Missing,
+        Value(1),
+        Value(2),
+        Value(3),
+        Value(1),
+        Value(2),
+        Value(3),
     ];
     let mut profile = profile(rt.alloc(), samples.as_slice(), 3, 1)?;
     merge_with_unit(rt.alloc(), &mut profile)?;
-    assert_eq!(rt;
-        profile.all(),
-        [
-            None,
-            None,
-            None,
-            near(0, 6),
-            near(6, 6),
-            near(6, 3),
-            near(0, 3)
-        ]
-        .as_slice()
-    );
-    assert_eq!(rt;
-        profile.left(),
-        [None, None, None, None, None, near(6, 3), near(0, 3)].as_slice()
-    );
-    assert_eq!(rt;
-        profile.right(),
-        [None, None, None, near(0, 6), near(6, 6), None, None].as_slice()
+    let (first, second) = (Some((0, 6)), Some((6, 6)));
+    let (third, fourth) = (Some((6, 3)), Some((0, 3)));
+    expect_sides(
+        &rt,
+        &profile,
+        &[None, None, None, first, second, third, fourth],
+        &[None, None, None, None, None, third, fourth],
+        &[None, None, None, first, second, None, None],
     );
     Ok(())
 }
 
 #[test]
-fn units_and_growth(rt: HostRuntime) -> Result<(), Fail> {
+fn units_are_merged(rt: HostRuntime) -> Result<(), Fail> {
     let mut slots: Slots = unit(rt.alloc(), 2)?;
-    assert_eq!(rt; slots.as_slice(), [None, None].as_slice());
-    slots.push(near(5, 1))?;
+    expect_slots(&rt, slots.as_slice(), &[None, None]);
+    slots.push(Some(Near {
+        dist: Sq(5),
+        index: 1,
+    }))?;
     merge_with_unit(rt.alloc(), &mut slots)?;
-    assert_eq!(rt; slots.as_slice(), [None, None, near(5, 1)].as_slice());
-    let two: Profile = unit(rt.alloc(), 2)?;
-    assert_eq!(rt; two.all(), [None, None].as_slice());
-    assert_eq!(rt; two.left(), [None, None].as_slice());
-    assert_eq!(rt; two.right(), [None, None].as_slice());
-    let mut one = Profile::new(rt.alloc());
-    one.reserve(1)?;
-    assert!(rt; 1 <= one.spare());
-    one.grow();
-    assert_eq!(rt; one.len(), 1);
+    expect_slots(&rt, slots.as_slice(), &[None, None, Some((5, 1))]);
+    let profile: Profile = unit(rt.alloc(), 2)?;
+    expect_sides(&rt, &profile, &[None, None], &[None, None], &[None, None]);
+    Ok(())
+}
+
+#[test]
+fn a_profile_grows(rt: HostRuntime) -> Result<(), Fail> {
+    let mut profile = Profile::with_capacity(rt.alloc(), 2)?;
+    assert!(rt; 2 <= profile.spare());
+    profile.grow();
+    let (left, right) = (
+        Near {
+            dist: Sq(7),
+            index: 0,
+        },
+        Near {
+            dist: Sq(6),
+            index: 4,
+        },
+    );
+    profile.push(Some(left), Some(right));
+    expect_sides(
+        &rt,
+        &profile,
+        &[None, Some((6, 4))],
+        &[None, Some((7, 0))],
+        &[None, Some((6, 4))],
+    );
     Ok(())
 }
 
@@ -195,96 +236,79 @@ fn a_pair_is_found_by_its_row_and_by_its_column(rt: HostRuntime) -> Result<(), F
     let mut patch = Patch::new(rt.alloc())?;
     patch.start(0, 2, 2, 2);
     patch.offer(0, 2, Sq(6));
-    assert_eq!(rt; patch.rows(), [near(6, 2), None].as_slice());
-    assert_eq!(rt; patch.columns(), [near(6, 0), None].as_slice());
+    expect_slots(&rt, patch.rows(), &[Some((6, 2)), None]);
+    expect_slots(&rt, patch.columns(), &[Some((6, 0)), None]);
     patch.start(1, 1, 3, 1);
-    assert_eq!(rt; patch.rows(), [None].as_slice());
-    assert_eq!(rt; patch.columns(), [None].as_slice());
+    expect_slots(&rt, patch.rows(), &[None]);
+    expect_slots(&rt, patch.columns(), &[None]);
     Ok(())
 }
 
 #[test]
 fn a_profile_absorbs_its_patch(rt: HostRuntime) -> Result<(), Fail> {
     let mut bench: Bench = unit(rt.alloc(), 3)?;
-    assert_eq!(rt; bench.profile.all(), [None, None, None].as_slice());
-    assert_eq!(rt; bench.profile.left(), [None, None, None].as_slice());
-    assert_eq!(rt; bench.profile.right(), [None, None, None].as_slice());
+    let none = [None, None, None];
+    expect_sides(&rt, &bench.profile, &none, &none, &none);
     bench.begin(0, 1, 2, 1);
     bench.patch.offer(0, 2, Sq(6));
     bench.absorb();
     bench.absorb();
     merge_with_unit(rt.alloc(), &mut bench)?;
-    assert_eq!(rt;
-        bench.profile.all(),
-        [near(6, 2), None, near(6, 0)].as_slice()
+    expect_sides(
+        &rt,
+        &bench.profile,
+        &[Some((6, 2)), None, Some((6, 0))],
+        &[None, None, Some((6, 0))],
+        &[Some((6, 2)), None, None],
     );
-    assert_eq!(rt; bench.profile.left(), [None, None, near(6, 0)].as_slice());
-    assert_eq!(rt; bench.profile.right(), [near(6, 2), None, None].as_slice());
     bench.begin(0, 2, 1, 2);
-    assert_eq!(rt; bench.patch.rows(), [near(6, 2), None].as_slice());
-    assert_eq!(rt; bench.patch.columns(), [None, near(6, 0)].as_slice());
+    expect_slots(&rt, bench.patch.rows(), &[Some((6, 2)), None]);
+    expect_slots(&rt, bench.patch.columns(), &[None, Some((6, 0))]);
     Ok(())
-}
-
-/// The tile of these diagonals and rows.
-fn tile(first: u64, last: u64, first_row: u64, last_row: u64) -> Tile {
-    Tile {
-        first,
-        last,
-        first_row,
-        last_row,
-    }
 }
 
 #[test]
 fn groups_of_three_diagonals(rt: HostRuntime) {
-    let cut = cut_own(10, 1, 3);
-    assert_eq!(rt; cut.count(), 3);
-    assert_eq!(rt; cut.tile(0), tile(2, 4, 0, 7));
-    assert_eq!(rt; cut.tile(1), tile(5, 7, 0, 4));
-    assert_eq!(rt; cut.tile(2), tile(8, 9, 0, 1));
-    let cut = cut_both(3, 2, 3);
-    assert_eq!(rt; cut.count(), 2);
-    assert_eq!(rt; cut.tile(0), tile(0, 2, 0, 2));
-    assert_eq!(rt; cut.tile(1), tile(3, 3, 0, 0));
-    assert_eq!(rt; cut_both(0, 2, 3).count(), 0);
-    assert_eq!(rt; cut_own(9, u64::MAX, 3).count(), 0);
+    let tiles = [(0, [2, 4, 0, 7]), (1, [5, 7, 0, 4]), (2, [8, 9, 0, 1])];
+    expect_tiles(&rt, &cut_own(10, 1, 3), 3, &tiles);
+    let tiles = [(0, [0, 2, 0, 2]), (1, [3, 3, 0, 0])];
+    expect_tiles(&rt, &cut_both(3, 2, 3), 2, &tiles);
+    expect_tiles(&rt, &cut_both(0, 2, 3), 0, &[]);
+    expect_tiles(&rt, &cut_own(9, u64::MAX, 3), 0, &[]);
 }
 
 #[test]
 fn groups_of_one_diagonal(rt: HostRuntime) {
-    let cut = cut_own(4, 1, 1);
-    assert_eq!(rt; cut.count(), 2);
-    assert_eq!(rt; cut.tile(0), tile(2, 2, 0, 1));
-    assert_eq!(rt; cut.tile(1), tile(3, 3, 0, 0));
+    let tiles = [(0, [2, 2, 0, 1]), (1, [3, 3, 0, 0])];
+    expect_tiles(&rt, &cut_own(4, 1, 1), 2, &tiles);
 }
 
 #[test]
 fn rows_are_cut_in_bands(rt: HostRuntime) {
-    let cut = cut_own(65_539, 1, 65_536);
-    assert_eq!(rt; cut.count(), 3);
-    assert_eq!(rt; cut.tile(0), tile(2, 65_537, 0, 65_535));
-    assert_eq!(rt; cut.tile(1), tile(65_538, 65_538, 0, 0));
-    assert_eq!(rt; cut.tile(2), tile(2, 65_537, 65_536, 65_536));
-    let cut = cut_both(65_537, 2, 65_536);
-    assert_eq!(rt; cut.count(), 3);
-    assert_eq!(rt; cut.tile(0), tile(0, 65_535, 1, 65_535));
-    assert_eq!(rt; cut.tile(1), tile(65_536, 65_537, 0, 1));
-    assert_eq!(rt; cut.tile(2), tile(0, 65_535, 65_536, 65_536));
+    let tiles = [
+        (0, [2, 65_537, 0, 65_535]),
+        (1, [65_538, 65_538, 0, 0]),
+        (2, [2, 65_537, 65_536, 65_536]),
+    ];
+    expect_tiles(&rt, &cut_own(65_539, 1, 65_536), 3, &tiles);
+    let tiles = [
+        (0, [0, 65_535, 1, 65_535]),
+        (1, [65_536, 65_537, 0, 1]),
+        (2, [0, 65_535, 65_536, 65_536]),
+    ];
+    expect_tiles(&rt, &cut_both(65_537, 2, 65_536), 3, &tiles);
 }
 
 /// Each of four bands has 65,536 rows and 262,144 columns, and so 327,679 diagonals.
 #[test]
 fn bands_of_the_longest_series(rt: HostRuntime) {
-    let cut = cut_both(262_144, 262_144, 1);
-    assert_eq!(rt; cut.count(), 1_310_716);
-    assert_eq!(rt; cut.tile(0), tile(196_608, 196_608, 65_535, 65_535));
-    assert_eq!(rt; cut.tile(327_678), tile(524_286, 524_286, 0, 0));
-    assert_eq!(rt; cut.tile(327_679), tile(131_072, 131_072, 131_071, 131_071));
-    assert_eq!(rt;
-        cut.tile(1_310_715),
-        tile(327_678, 327_678, 196_608, 196_608)
-    );
+    let tiles = [
+        (0, [196_608, 196_608, 65_535, 65_535]),
+        (327_678, [524_286, 524_286, 0, 0]),
+        (327_679, [131_072, 131_072, 131_071, 131_071]),
+        (1_310_715, [327_678, 327_678, 196_608, 196_608]),
+    ];
+    expect_tiles(&rt, &cut_both(262_144, 262_144, 1), 1_310_716, &tiles);
 }
 
 #[test]
@@ -295,9 +319,7 @@ fn tiles_give_what_every_pair_gives(rt: HostRuntime) -> Result<(), Fail> {
             let every = mp_plain::profile(rt.alloc(), samples.as_slice(), m)?;
             for tile in [1, 7, 65, 256] {
                 let tiled = profile(rt.alloc(), samples.as_slice(), m, tile)?;
-                assert_eq!(rt; tiled.all(), every.all.as_slice());
-                assert_eq!(rt; tiled.left(), every.left.as_slice());
-                assert_eq!(rt; tiled.right(), every.right.as_slice());
+                expect_columns(&rt, &tiled, &every);
             }
         }
     }
@@ -371,9 +393,7 @@ fn rows_in_parts_give_what_every_pair_gives(rt: HostRuntime) -> Result<(), Fail>
                 (65_536, 33),
             ] {
                 let parts = profile_in_parts(rt.alloc(), samples, m, tile, rows)?;
-                assert_eq!(rt; parts.all(), every.all.as_slice());
-                assert_eq!(rt; parts.left(), every.left.as_slice());
-                assert_eq!(rt; parts.right(), every.right.as_slice());
+                expect_columns(&rt, &parts, &every);
             }
         }
     }
@@ -410,9 +430,7 @@ fn patches_give_what_every_pair_gives(rt: HostRuntime) -> Result<(), Fail> {
         let every = mp_plain::profile(rt.alloc(), samples, 20)?;
         for tile in [1, 65, 256, 65_536] {
             let patches = profile_by_patches(rt.alloc(), samples, 20, tile)?;
-            assert_eq!(rt; patches.all(), every.all.as_slice());
-            assert_eq!(rt; patches.left(), every.left.as_slice());
-            assert_eq!(rt; patches.right(), every.right.as_slice());
+            expect_columns(&rt, &patches, &every);
         }
     }
     Ok(())
@@ -502,16 +520,16 @@ fn rows_in_parts_give_the_join_of_every_pair(rt: HostRuntime) -> Result<(), Fail
 
 #[test]
 fn joins_of_short_series(rt: HostRuntime) -> Result<(), Fail> {
-    let rising = [1, 2, 3, 4].map(value);
+    let rising = [Value(1), Value(2), Value(3), Value(4)];
     let (rising, none) = (rising.as_slice(), [].as_slice());
     let same = join(rt.alloc(), rising, rising, 3, 256)?;
-    assert_eq!(rt; same.as_slice(), [near(0, 0), near(0, 1)].as_slice());
+    expect_slots(&rt, same.as_slice(), &[Some((0, 0)), Some((0, 1))]);
     let two = &rising[..2];
     for short in [none, two] {
         let into_short = join(rt.alloc(), rising, short, 3, 256)?;
-        assert_eq!(rt; into_short.as_slice(), [None, None].as_slice());
+        expect_slots(&rt, into_short.as_slice(), &[None, None]);
         let of_short = join(rt.alloc(), short, rising, 3, 256)?;
-        assert_eq!(rt; of_short.as_slice(), [].as_slice());
+        expect_slots(&rt, of_short.as_slice(), &[]);
     }
     Ok(())
 }
@@ -540,9 +558,7 @@ fn long_series_give_what_every_pair_gives(rt: HostRuntime) -> Result<(), Fail> {
         let every = mp_plain::profile(rt.alloc(), samples.as_slice(), 5)?;
         for tile in [1, 7, 256, 65_536] {
             let tiled = profile(rt.alloc(), samples.as_slice(), 5, tile)?;
-            assert_eq!(rt; tiled.all(), every.all.as_slice());
-            assert_eq!(rt; tiled.left(), every.left.as_slice());
-            assert_eq!(rt; tiled.right(), every.right.as_slice());
+            expect_columns(&rt, &tiled, &every);
         }
     }
     Ok(())
@@ -564,9 +580,7 @@ fn ranges_on_both_sides_of_64_bits(rt: HostRuntime) -> Result<(), Fail> {
             let samples = samples.as_slice();
             let every = mp_plain::profile(rt.alloc(), samples, m)?;
             let tiled = profile(rt.alloc(), samples, m, 256)?;
-            assert_eq!(rt; tiled.all(), every.all.as_slice());
-            assert_eq!(rt; tiled.left(), every.left.as_slice());
-            assert_eq!(rt; tiled.right(), every.right.as_slice());
+            expect_columns(&rt, &tiled, &every);
             let (a, b) = samples.split_at(40);
             let every = mp_plain::join(rt.alloc(), a, b, m)?;
             let tiled = join(rt.alloc(), a, b, m, 256)?;
