@@ -2,5 +2,6 @@
 //! proved twice.
 #![tactic(auto)]
 
+pub mod series;
 #[cfg(test)]
 mod stream;

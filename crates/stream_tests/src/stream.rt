@@ -1,6 +1,7 @@
 ghost use Rattle.std.specs.Prelude.{◌≤◌};
 ghost use Rattle.mp_series.specs.declared.limits.TheConstants.{MIN_WINDOW, MAX_WINDOW};
 
+use crate::series::{next, tied};
 use mp_nums::{Sample, Slot};
 use mp_outside::OpenGate;
 use mp_plain::profile;
@@ -101,23 +102,6 @@ fn room_for_more_samples(rt: HostRuntime) -> Result<(), Fail> {
 fn a_whole_series(rt: HostRuntime) -> Result<(), Fail> {
     let mut stream = stream_of(&rt, rt.alloc(), &[1, 2, 3, 1, 2, 3].map(Sample::Value))?;
     compare_and_append(&rt, rt.alloc(), &mut stream, &[3, 1, 2].map(Sample::Value))
-}
-
-/// The next number of a sequence that looks like chance.
-fn next(state: u64) -> u64 {
-    state
-        .wrapping_mul(6_364_136_223_846_793_005)
-        .wrapping_add(1_442_695_040_888_963_407)
-}
-
-/// One of three numbers, so that distances are often equal, or a missing sample.
-fn tied(state: u64) -> Sample {
-    match state >> 59 {
-        0 => GAP,
-        1..=12 => Sample::Value(-1),
-        13..=25 => Sample::Value(2),
-        _ => Sample::Value(0),
-    }
 }
 
 /// Appends 90 samples, and compares the profile after each.

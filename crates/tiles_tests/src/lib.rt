@@ -2,5 +2,6 @@
 //! crate with tests is proved twice.
 #![tactic(auto)]
 
+pub mod series;
 #[cfg(test)]
 mod tiles;

@@ -1,9 +1,10 @@
-ghost use Rattle.std.specs.Prelude.{◌≡◌, ◌+◌, ◌≤◌, IfOk, length, vec_len};
+ghost use Rattle.std.specs.Prelude.{◌≡◌, ◌+◌, ◌≤◌, IfOk, length};
 ghost use Rattle.mp_series.specs.declared.limits.TheConstants.{MAX_SAMPLES, MAX_WINDOW, MIN_WINDOW};
 ghost use Rattle.mp_defs.specs.Window.{windows as windows_in, excl as zone};
 ghost use Rattle.mp_tiles.specs.Cutting.{diagonals_between};
 ghost use Rattle.mp_tiles.specs.Pairs.{IsTileBetween};
 
+use crate::series::{spread, ties};
 use mp_nums::Sample::{Missing, Value};
 use mp_nums::{Memory, Near, Sample, Slot, Slots, Sq};
 use mp_partial::{Bench, Part, Patch, Profile};
@@ -76,48 +77,6 @@ fn merge_with_unit<P: Part>(alloc: Global, part: &mut P) -> Result<(), Memory>
     other.clear();
     part.merge(&other);
     Ok(())
-}
-
-/// A series of few numbers, so that many distances are equal, in which about one sample in eight is missing.
-fn ties(alloc: Global, count: u64, seed: u64) -> Result<Vec<Sample>, Memory>
-    ensures { IfOk result (λ samples. vec_len samples ≡ count) }
-{
-    let mut samples = Vec::new(alloc);
-    let mut state = seed;
-    for _ in 0..count {
-        state = state
-            .wrapping_mul(6_364_136_223_846_793_005)
-            .wrapping_add(1_442_695_040_888_963_407);
-        samples.push(match state >> 61 {
-            0 => Sample::Missing,
-            1 | 2 => Sample::Value(-1),
-            3 | 4 => Sample::Value(2),
-            _ => Sample::Value(0),
-        })?;
-    }
-    Ok(samples)
-}
-
-/// A series of the least number, the greatest, and one in the middle, in which some samples are missing: the first and
-/// the last of sixteen, of 1,024, and others.
-fn spread(alloc: Global, count: u64, low: i32, high: i32) -> Result<Vec<Sample>, Memory>
-    ensures { IfOk result (λ samples. vec_len samples ≡ count) }
-{
-    let mut samples = Vec::new(alloc);
-    let mut state = count;
-    for k in 0..count {
-        state = state
-            .wrapping_mul(6_364_136_223_846_793_005)
-            .wrapping_add(1_442_695_040_888_963_407);
-        let is_missing = [15, 16, 300, 1_023, 1_024, 1_025].contains(&k);
-        samples.push(match state >> 62 {
-            _ if is_missing => Sample::Missing,
-            0 => Sample::Value(low),
-            1 => Sample::Value(high),
-            _ => Sample::Value(low / 2 + high / 2),
-        })?;
-    }
-    Ok(samples)
 }
 
 #[test]

@@ -1,5 +1,5 @@
 use Rattle.std.proofs.Common.{◌≡◌, vec_len}
-use Rattle.tiles_tests.proofs.tiles.ties.Given as goal
+use Rattle.tiles_tests.proofs.series.ties.Given as goal
 
 abbrev pub invariant-loop : goal.invariant-loop
 invariant-loop l = vec_len l.samples ≡ l.counter

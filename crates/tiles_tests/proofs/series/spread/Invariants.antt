@@ -1,5 +1,5 @@
 use Rattle.std.proofs.Common.{◌≡◌, vec_len}
-use Rattle.tiles_tests.proofs.tiles.spread.Given as goal
+use Rattle.tiles_tests.proofs.series.spread.Given as goal
 
 abbrev pub invariant-loop-k : goal.invariant-loop-k
 invariant-loop-k l = vec_len l.samples ≡ l.k-counter
