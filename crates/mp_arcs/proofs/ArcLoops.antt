@@ -4,10 +4,9 @@ use Rattle.std.proofs.Common.{◌≢◌, sym, ap, ◌∙◌, arith, ⊎_elim, ge
 use Rattle.std.specs.Prelude.{slice_get}
 use Rattle.std.proofs.lemmas.Bool.{cases_eq}
 use Rattle.std.proofs.lemmas.List.{ext_get_or, length-map, get_or-map}
-use Rattle.std.proofs.lemmas.Option.{slice_get-get_or, slice_get_within, get_or_from_slice_get}
+use Rattle.std.proofs.lemmas.Option.{slice_get-get_or}
 use Rattle.mp_nums.specs.declared.nearest.Near.{Near}
-use Rattle.mp_arcs.specs.Arcs.{index_of, indices_of}
-use Rattle.mp_arcs.specs.Board.{NameWithin}
+use Rattle.mp_results.specs.Arcs.{index_of, indices_of, NameWithin}
 
 pub record AreGrown (items : List (Option ℕ)) (spare grown windows : ℕ) : Type 0 where
   pub as_long : length items ≡ grown
@@ -57,15 +56,3 @@ pub AreChanged-all : (column : List (Option Near)) (items : List (Option ℕ)) (
 AreChanged-all column items place all kept =
     ext_get_or None items (indices_of column) (kept.as_long ∙ sym (length-map column index_of))
     (λ k inside. kept.same k (omega (arith, inside, all, kept.as_long)))
-
--- a column that names windows by its indices
-pub names_within : (column : List (Option Near))
-    → ((i j : ℕ) → i < length column → index_of (get_or column i None) ≡ Some j → j < length column)
-    → NameWithin (indices_of column)
-names_within column named i j is =
-    let within = slice_get_within (indices_of column) i (Some j) is in
-    let inside : i < length column = omega (arith, within, length-map column index_of) in
-    let there : get_or (indices_of column) i None ≡ Some j =
-    get_or_from_slice_get (indices_of column) i (Some j) None is in
-    let small = named i j inside (sym (index_there column i inside) ∙ there) in
-    omega (arith, small, length-map column index_of)

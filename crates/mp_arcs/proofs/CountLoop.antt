@@ -4,7 +4,7 @@ use Rattle.std.proofs.Common.{ap, ◌∙◌, arith, zero-add}
 use Rattle.std.specs.List.{range_with_len}
 use Rattle.std.proofs.lemmas.List.FromFn.{map-range_with_len_more}
 use Rattle.mp_series.specs.declared.limits.TheConstants.{MAX_SAMPLES}
-use Rattle.mp_arcs.specs.Arcs.{arc_count}
+use Rattle.mp_results.specs.Arcs.{arc_count}
 use Rattle.mp_arcs.specs.Board.{AreEnds}
 use Rattle.mp_arcs.proofs.Counting.{passing-le}
 use Rattle.mp_arcs.proofs.EndLemmas.{crosses, crossing, pass_or_end, crossing-next, crossing-first}

@@ -4,7 +4,7 @@ use Rattle.std.proofs.Common.{ltb-true}
 use Rattle.std.specs.Prelude.{slice_index, nat_lt, if◌then◌else◌}
 use Rattle.std.specs.List.{range_with_len}
 use Rattle.std.proofs.lemmas.List.{length-map, get_or-map}
-use Rattle.mp_arcs.specs.Curve.{whole, is_end, share, capped, value_at}
+use Rattle.mp_results.specs.Curve.{whole, is_end, share, capped, value_at}
 use Rattle.mp_arcs.specs.Laws.{CurveIsAtMostOne}
 
 abbrev IsPart : ℕ × ℕ → Type 0

@@ -9,7 +9,8 @@ use Rattle.std.proofs.lemmas.Bool.{cases_eq}
 use Rattle.std.proofs.lemmas.Bool.Decides.{nat_tests}
 use Rattle.std.proofs.lemmas.Option.{get_or_from_slice_get, slice_get_within, slice_get-get_or, same_Some, none-some}
 use Rattle.mp_series.specs.declared.limits.TheConstants.{MAX_SAMPLES}
-use Rattle.mp_arcs.specs.Board.{has_end, ends_at, NameWithin, CountEnds, AreEnds}
+use Rattle.mp_arcs.specs.Board.{has_end, ends_at, CountEnds, AreEnds}
+use Rattle.mp_results.specs.Arcs.{NameWithin}
 use Rattle.mp_arcs.proofs.Counting.{tally, passing-push, passing-none}
 use Rattle.mp_arcs.proofs.EndLemmas.{ends_at-le, ends_at-set, CountEnds-changed}
 

@@ -9,9 +9,9 @@ use Rattle.std.proofs.lemmas.Bool.{cases_eq}
 use Rattle.std.proofs.lemmas.List.{length-map, get_or-map}
 use Rattle.std.proofs.lemmas.Bool.Decides.{nat_tests}
 use Rattle.std.proofs.lemmas.Option.{get_or_from_slice_get, slice_get_within}
-use Rattle.mp_arcs.specs.Arcs.{passes, arc_count}
+use Rattle.mp_results.specs.Arcs.{passes, arc_count, ArcsAreFew}
 use Rattle.mp_arcs.specs.Board.{has_end, ends_at, begun_at, ended_at, CountEnds}
-use Rattle.mp_arcs.specs.Laws.{ArcsComeAndGo, ArcsAreFew}
+use Rattle.mp_arcs.specs.Laws.{ArcsComeAndGo}
 use Rattle.mp_arcs.proofs.Counting.{tally, passing, passing-le, passing-set, passing-same, passing-both, passing-none}
 
 -- an arc from before t on into t

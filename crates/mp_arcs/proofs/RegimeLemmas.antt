@@ -11,8 +11,8 @@ use Rattle.mp_picks.specs.CandidateLaws.{by_key_total, candidates_told_apart}
 use Rattle.mp_picks.specs.PickLaws.{picks_described}
 use Rattle.mp_picks.specs.Picks.{picks}
 use Rattle.mp_picks.specs.Retelling.{picks_map}
-use Rattle.mp_arcs.specs.Curve.{parts_of}
-use Rattle.mp_arcs.specs.Regimes.{below_one, low_places, regimes_of, AreRegimes, parts_cmp, parts_below_one}
+use Rattle.mp_results.specs.Curve.{parts_of}
+use Rattle.mp_results.specs.Regimes.{below_one, low_places, regimes_of, AreRegimes, parts_cmp, parts_below_one}
 use Rattle.mp_arcs.specs.Laws.{RegimesAreDescribed, RegimesAreOfParts}
 
 module _ (curve : List Ratio) (zone count : ℕ) where

@@ -1,7 +1,8 @@
 -- What is kept of arcs: how many begin and how many end at each place.
-use Rattle.std.specs.Prelude.{◌≡◌, ℕ, ◌<◌, ◌≤◌, min, max, Bool, false, ◌==◌, List, length, count_by, slice_get}
+use Rattle.std.specs.Prelude.{◌≡◌, ℕ, ◌<◌, ◌≤◌, min, max, Bool, false, ◌==◌, List, length, count_by}
 use Rattle.std.specs.Prelude.{slice_index, Option, None, Some}
 use Rattle.std.specs.List.{enumerate_from}
+use Rattle.mp_results.specs.Arcs.{NameWithin}
 use Rattle.mp_series.specs.declared.limits.TheConstants.{MAX_SAMPLES}
 
 -- window i has an arc, whose lesser or whose greater end is t
@@ -18,10 +19,6 @@ begun_at = ends_at min
 
 abbrev pub ended_at : List (Option ℕ) → ℕ → ℕ
 ended_at = ends_at max
-
--- each window that names one names one of these
-abbrev pub NameWithin : List (Option ℕ) → Type 0
-NameWithin indices = (i j : ℕ) → slice_get indices i ≡ Some (Some j) → j < length indices
 
 -- so many ends are at each place
 pub record CountEnds (which : ℕ → ℕ → ℕ) (indices : List (Option ℕ)) (counts : List ℕ) : Type 0 where

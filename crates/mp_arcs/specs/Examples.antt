@@ -2,9 +2,9 @@
 use Rattle.std.specs.Prelude.{◌≡◌, ℕ, List, [], ◌∷◌, map, Option, None, Some}
 use Rattle.std.proofs.Common.{lit<}
 use Rattle.mp_nums.specs.declared.ratios.Ratio.{Ratio}
-use Rattle.mp_arcs.specs.Arcs.{arcs_of}
-use Rattle.mp_arcs.specs.Curve.{parts_of, whole, curve_of}
-use Rattle.mp_arcs.specs.Regimes.{regimes_of}
+use Rattle.mp_results.specs.Arcs.{arcs_of}
+use Rattle.mp_results.specs.Curve.{parts_of, whole, curve_of}
+use Rattle.mp_results.specs.Regimes.{regimes_of}
 
 -- 0 and 1 name each other, and so do 2 and 3
 abbrev pub pairs : List (Option ℕ)

@@ -1,9 +1,9 @@
 -- What holds of arcs, of their curve and of regimes, in the subject's own words.
-use Rattle.std.specs.Prelude.{◌≡◌, ℕ, ◌+◌, ◌<◌, ◌≤◌, ◌↔◌, List, All, map, length, Option}
+use Rattle.std.specs.Prelude.{◌≡◌, ℕ, ◌+◌, ◌<◌, ◌≤◌, ◌↔◌, List, All, map, Option}
 use Rattle.mp_nums.specs.declared.ratios.Ratio.{Ratio}
-use Rattle.mp_arcs.specs.Arcs.{arc_count, arcs_of}
-use Rattle.mp_arcs.specs.Curve.{curve_of, parts_of}
-use Rattle.mp_arcs.specs.Regimes.{regimes_of, regimes_in, AreRegimes}
+use Rattle.mp_results.specs.Arcs.{arc_count}
+use Rattle.mp_results.specs.Curve.{curve_of, parts_of}
+use Rattle.mp_results.specs.Regimes.{regimes_of, regimes_in, AreRegimes}
 use Rattle.mp_arcs.specs.Board.{begun_at, ended_at}
 
 -- from place to place, the arcs that begin there come, and those that end there go
@@ -11,10 +11,6 @@ pub record ArcsComeAndGo : Type 0 where
   pub at_first : (indices : List (Option ℕ)) → arc_count indices 0 + ended_at indices 0 ≡ begun_at indices 0
   pub then_on : (indices : List (Option ℕ)) (t : ℕ)
       → arc_count indices (t + 1) + ended_at indices (t + 1) ≡ arc_count indices t + begun_at indices (t + 1)
-
--- no more arcs pass over a place than there are windows
-abbrev pub ArcsAreFew : Type 0
-ArcsAreFew = (indices : List (Option ℕ)) → All (λ count. count ≤ length indices) (arcs_of indices)
 
 -- no value of the curve is above one
 abbrev pub CurveIsAtMostOne : Type 0

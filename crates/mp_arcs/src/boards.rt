@@ -3,7 +3,7 @@
 ghost use Rattle.std.specs.Prelude.{◌≡◌, ◌+◌, ◌<◌, ◌≤◌, ◌↔◌, [], ◌∷◌, ◌++◌, length, slice_get, slice_set, IsOk, OnOk, IfOk, IfSome};
 ghost use Rattle.std.specs.Prelude.{IsTrue, None, Some};
 ghost use Rattle.mp_series.specs.declared.limits.TheConstants.{MAX_SAMPLES};
-ghost use Rattle.mp_arcs.specs.Arcs.{arcs_of};
+ghost use Rattle.mp_results.specs.Arcs.{arcs_of};
 
 use crate::ends;
 use mp_nums::{Items, Memory, Places};

@@ -1,7 +1,6 @@
 ghost use Rattle.std.specs.Prelude.{◌≡◌, ◌≤◌, length, IfOk};
 ghost use Rattle.mp_series.specs.declared.limits.TheConstants.{MAX_SAMPLES};
-ghost use Rattle.mp_arcs.specs.Arcs.{arcs_of, index_of, indices_of};
-ghost use Rattle.mp_arcs.specs.Board.{NameWithin};
+ghost use Rattle.mp_results.specs.Arcs.{arcs_of, index_of, indices_of, NameWithin};
 
 use crate::boards::ArcBoard;
 use mp_nums::{Memory, Places, Slot};

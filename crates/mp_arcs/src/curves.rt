@@ -1,7 +1,7 @@
 ghost use Rattle.std.specs.Prelude.{◌≡◌, ◌*◌, ◌<◌, ◌≤◌, All, map, length, IfOk};
 ghost use Rattle.mp_series.specs.declared.limits.TheConstants.{MAX_SAMPLES, MAX_WINDOW};
 ghost use Rattle.mp_arcs.specs.declared.curves.TheConstants.{MAX_FACTOR};
-ghost use Rattle.mp_arcs.specs.Curve.{parts_of, whole, value_at, curve_of};
+ghost use Rattle.mp_results.specs.Curve.{parts_of, whole, value_at, curve_of};
 
 use mp_nums::{Memory, Ratio};
 use mp_series::{MAX_SAMPLES, MAX_WINDOW};

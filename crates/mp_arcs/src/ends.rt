@@ -1,7 +1,7 @@
 //! How many arcs begin and how many end at each place. What an arc adds at its lesser end it takes away at its greater.
 
 ghost use Rattle.std.specs.Prelude.{◌≡◌, ◌<◌, ℕ, List, length, slice_get, slice_set, Option, None, Some, IfOk, IfSome};
-ghost use Rattle.mp_arcs.specs.Arcs.{arcs_of};
+ghost use Rattle.mp_results.specs.Arcs.{arcs_of};
 ghost use Rattle.mp_arcs.specs.Board.{AreEnds};
 
 use mp_nums::{Memory, Places};

@@ -1,12 +1,7 @@
 //! Laws of arcs, their curve and regimes, each the contract of a function that does nothing.
 
-ghost use Rattle.mp_arcs.specs.Laws.{
-  ArcsComeAndGo,
-  ArcsAreFew,
-  CurveIsAtMostOne,
-  RegimesAreDescribed,
-  RegimesAreOfParts,
-};
+ghost use Rattle.mp_results.specs.Arcs.{ArcsAreFew};
+ghost use Rattle.mp_arcs.specs.Laws.{ArcsComeAndGo, CurveIsAtMostOne, RegimesAreDescribed, RegimesAreOfParts};
 
 /// From one place to the next, the arcs whose lesser end is there come, and those whose greater end is there go.
 pub fn arcs_come_and_go()

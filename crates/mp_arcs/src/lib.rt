@@ -18,6 +18,3 @@ pub use laws::{
     regimes_are_of_parts,
 };
 pub use segments::regimes;
-
-#[cfg(test)]
-mod tests;

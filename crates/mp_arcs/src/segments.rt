@@ -1,7 +1,7 @@
 ghost use Rattle.std.specs.Prelude.{◌≡◌, map, IfOk};
 ghost use Rattle.mp_picks.specs.Candidates.{place_of};
-ghost use Rattle.mp_arcs.specs.Curve.{parts_of};
-ghost use Rattle.mp_arcs.specs.Regimes.{AreRegimes, below_one, regimes_in, regimes_of};
+ghost use Rattle.mp_results.specs.Curve.{parts_of};
+ghost use Rattle.mp_results.specs.Regimes.{AreRegimes, below_one, regimes_in, regimes_of};
 
 use mp_nums::{Memory, Places, Ratio};
 use mp_picks::{Candidate, picks};

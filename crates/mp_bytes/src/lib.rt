@@ -12,6 +12,3 @@ pub use digits::read_number;
 pub use fields::{Fields, without_cr};
 pub use laws::{fields_are_found_again, lines_are_the_input};
 pub use values::Values;
-
-#[cfg(test)]
-mod tests;

@@ -6,8 +6,8 @@ use Rattle.std.proofs.lemmas.List.Elements.{filter-append}
 use Rattle.std.proofs.lemmas.List.{map-append, append-nil}
 use Rattle.std.specs.Option.{option_map_or}
 use Rattle.mp_nums.specs.declared.nearest.Near.{Near}
-use Rattle.mp_chains.specs.Columns.{AreColumns}
-use Rattle.mp_chains.specs.Chains.{successor, predecessor, chain_from}
+use Rattle.mp_results.specs.Columns.{AreColumns}
+use Rattle.mp_results.specs.Chains.{successor, predecessor, chain_from}
 use Rattle.mp_chains.specs.Laws.{Succeeds, ChainsFollow}
 use Rattle.mp_chains.proofs.Names.{named_back-tells, named_back-same}
 use Rattle.mp_chains.proofs.Links.{GoesOn, links-step, Follows-links}

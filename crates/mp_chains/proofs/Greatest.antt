@@ -9,7 +9,7 @@ use Rattle.std.proofs.lemmas.List.{get_or-map, get_or_default, length-map}
 use Rattle.std.proofs.lemmas.List.Elements.{All-head, All-tail, All-map, All-from_get_or}
 use Rattle.std.proofs.lemmas.List.Sums.{position_or_len_is, best_none, best_keeps, best_takes}
 use Rattle.mp_nums.specs.Listed.{Listed}
-use Rattle.mp_chains.specs.Chains.{greatest_length, longest_of}
+use Rattle.mp_results.specs.Chains.{greatest_length, longest_of}
 use Rattle.mp_chains.specs.Laws.{LongestIsFirst}
 
 max-le : (a v : ℕ) (xs : List ℕ) → a ≤ v → All (λ x. x ≤ v) xs → fold max a xs ≤ v

@@ -2,7 +2,7 @@
 use Rattle.std.proofs.Common.{◌≡◌, ℕ, zero, suc, ◌+◌, ◌<◌, ◌≤◌, List, [], ◌∷◌, length, get_or, Option, None, Some}
 use Rattle.std.proofs.Common.{refl, sym, ap, ◌∙◌, add-one, arith}
 use Rattle.std.specs.Option.{option_map_or}
-use Rattle.mp_chains.specs.Chains.{links}
+use Rattle.mp_results.specs.Chains.{links}
 
 -- what comes next is later, and below a number
 abbrev pub GoesOn : (ℕ → Option ℕ) → ℕ → Type 0

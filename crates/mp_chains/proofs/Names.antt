@@ -4,7 +4,7 @@ use Rattle.std.specs.Prelude.{option_and_then, if◌then◌else◌, is_none, is_
 use Rattle.std.proofs.lemmas.Bool.Decides.{nat_tests}
 use Rattle.std.proofs.lemmas.Option.{same_Some}
 use Rattle.mp_nums.specs.declared.nearest.Near.{Near}
-use Rattle.mp_chains.specs.Columns.{index_at, is_number, if_named_back, named_back}
+use Rattle.mp_results.specs.Columns.{index_at, is_number, if_named_back, named_back}
 
 is_number-tells : (o : Option ℕ) (j : ℕ) → is_number o j ≡ true → o ≡ Some j
 is_number-tells None j is = cc

@@ -11,8 +11,8 @@ use Rattle.std.proofs.lemmas.List.FromFn.{length-range_with_len, get_or-range_wi
 use Rattle.std.proofs.lemmas.Option.{same_Some}
 use Rattle.std.proofs.lemmas.List.Sums.{sum_by-cons, sum_by-append}
 use Rattle.mp_nums.specs.declared.nearest.Near.{Near}
-use Rattle.mp_chains.specs.Columns.{AreColumns}
-use Rattle.mp_chains.specs.Chains.{successor, predecessor, is_first, links, chain_from, chains_of}
+use Rattle.mp_results.specs.Columns.{AreColumns}
+use Rattle.mp_results.specs.Chains.{successor, predecessor, is_first, links, chain_from, chains_of}
 use Rattle.mp_chains.specs.Laws.{IsWholeChain, ChainsAreWhole, ChainsPartTheWindows}
 use Rattle.mp_chains.proofs.Names.{named_back-back}
 use Rattle.mp_chains.proofs.Links.{GoesOn}

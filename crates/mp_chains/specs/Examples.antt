@@ -1,7 +1,7 @@
 -- Chains that were computed by hand.
 use Rattle.std.specs.Prelude.{◌≡◌, ℕ, List, [], ◌∷◌, Option, Some, None}
 use Rattle.mp_nums.specs.declared.nearest.Near.{Near}
-use Rattle.mp_chains.specs.Chains.{chain_from, chains_of, longest_of}
+use Rattle.mp_results.specs.Chains.{chain_from, chains_of, longest_of}
 
 abbrev at : ℕ → Option Near
 at j = Some (record { dist = record { 0 = 0 }; index = j })

@@ -3,8 +3,8 @@ use Rattle.std.specs.Prelude.{◌≡◌, ℕ, ◌+◌, ◌<◌, ◌==◌, ◌↔
 use Rattle.std.specs.Prelude.{Option, Some}
 use Rattle.std.specs.List.{IsFirstMaxByKey, concat}
 use Rattle.mp_nums.specs.declared.nearest.Near.{Near}
-use Rattle.mp_chains.specs.Columns.{index_at, AreColumns}
-use Rattle.mp_chains.specs.Chains.{chain_from, chains_of, longest_of}
+use Rattle.mp_results.specs.Columns.{index_at, AreColumns}
+use Rattle.mp_results.specs.Chains.{chain_from, chains_of, longest_of}
 
 -- the right index of j is k, and the left index of k is j
 pub record Succeeds (left right : List (Option Near)) (j k : ℕ) : Type 0 where

@@ -1,4 +1,2 @@
-pub mod Columns
-pub mod Chains
 pub mod Laws
 pub mod Examples

@@ -1,6 +1,6 @@
 ghost use Rattle.std.specs.Prelude.{◌≡◌, ◌<◌, ℕ, map, length, IfOk, OnOk, Some};
-ghost use Rattle.mp_chains.specs.Columns.{index_at, named_back, AreColumns};
-ghost use Rattle.mp_chains.specs.Chains.{chain_from, chains_of};
+ghost use Rattle.mp_results.specs.Columns.{index_at, named_back, AreColumns};
+ghost use Rattle.mp_results.specs.Chains.{chain_from, chains_of};
 
 use mp_nums::{Memory, Places, Slot};
 use std::alloc::Global;

@@ -1,5 +1,5 @@
 ghost use Rattle.std.specs.Prelude.{◌≡◌, map};
-ghost use Rattle.mp_chains.specs.Chains.{longest_of};
+ghost use Rattle.mp_results.specs.Chains.{longest_of};
 
 use mp_nums::Places;
 

@@ -13,6 +13,3 @@ pub use laws::{
     successors_are_unique,
 };
 pub use lengths::longest;
-
-#[cfg(test)]
-mod tests;

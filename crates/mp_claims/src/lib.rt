@@ -7,8 +7,6 @@ mod cores;
 mod events;
 mod laws;
 mod states;
-#[cfg(test)]
-mod tests;
 
 pub use boards::{MAX_PIECES, MAX_WORKERS};
 pub use cores::Core;

@@ -4,13 +4,13 @@ use Rattle.std.specs.Prelude.{Option, Some, None, slice_get, slice_index_or, ◌
 use Rattle.std.proofs.lemmas.Bool.Decides.{nat_tests}
 use Rattle.std.proofs.lemmas.Option.{slice_get-get_or, slice_get_within}
 use Rattle.mp_nums.specs.declared.nearest.Near.{Near}
-use Rattle.mp_chains.specs.Columns.{AreColumns, index_at, index_of}
+use Rattle.mp_results.specs.Columns.{AreColumns, index_at, index_of}
 use Rattle.mp_defs.specs.ColumnLaws.{columns_have_places}
 use Rattle.mp_defs.specs.Laws.{IsNearest, IsNearestWindow}
 use Rattle.mp_defs.specs.NearestLaws.{entries_are_nearest}
 use Rattle.mp_defs.specs.Profile.{Columns, column, entry, left_entry, matrix_profile, right_entry, windows_of}
 use Rattle.mp_partial.specs.Profiled.{Profiled}
-use Rattle.mp_report.specs.Profiles.{columns_in}
+use Rattle.mp_replies.specs.Profiles.{columns_in}
 use Rattle.mp_defs.specs.Series.{Series}
 use Rattle.mp_defs.specs.Window.{is_allowed}
 

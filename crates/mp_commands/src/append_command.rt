@@ -53,9 +53,9 @@ pub(crate) fn prepare_append(
         Ok(more) => more,
         Err(cause) => return Ok(Prepared::refused(cause)),
     };
-    let added = read_items(alloc, items, form, more)?;
     slots.reserve(slot, more)?;
     let text = ok_text(alloc, context.line(), Some(slots.len(slot) + more))?;
+    let added = read_items(alloc, items, form, more)?;
     Ok(Prepared {
         answer: Answer::Accepted(text),
         change: Change::AddSamples { slot, added },

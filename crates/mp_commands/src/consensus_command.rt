@@ -1,7 +1,7 @@
 //! `consensus R R ..`: the window that several channels have in common.
 
 ghost use Rattle.std.specs.Prelude.{◌≡◌, ◌≤◌, All, length, map, IfOk, option_map};
-ghost use Rattle.mp_consensus.specs.Consensus.{central, centre_of};
+ghost use Rattle.mp_results.specs.Consensus.{central, centre_of};
 ghost use Rattle.mp_defs.specs.Limits.{max_samples};
 ghost use Rattle.mp_defs.specs.Series.{series_of};
 ghost use Rattle.mp_replies.specs.Limits.{max_refs, min_refs};

@@ -8,6 +8,7 @@ mod conditions;
 mod consensus_command;
 mod context;
 mod discords_command;
+mod end_command;
 mod join_command;
 mod load_command;
 mod match_command;

@@ -1,6 +1,8 @@
 //! `match R Q I RADIUS MAX`: the windows of a channel that match a window of another.
 
-ghost use Rattle.std.specs.Prelude.{◌≡◌, ◌+◌, ◌≤◌, drop, length, take};
+ghost use Rattle.std.specs.Prelude.{◌≡◌, ◌+◌, ◌≤◌, drop, length, take, IfOk};
+ghost use Rattle.mp_defs.specs.Series.{series_of};
+ghost use Rattle.mp_replies.specs.MatchCommand.{match_text, matches_in};
 ghost use Rattle.mp_commands.specs.Reports.{IsReported, OnlyReads, asks_match};
 
 use crate::answers::Answer;
@@ -8,7 +10,7 @@ use crate::conditions::match_cause;
 use crate::context::Context;
 use crate::queries::Pattern;
 use mp_motifs::matches;
-use mp_nums::{Memory, Sample, Sq};
+use mp_nums::{Memory, Sample, Sq, Text};
 use mp_replies::Ref;
 use mp_report::match_text;
 use mp_series::excl;
@@ -35,15 +37,33 @@ pub(crate) fn report_match(
     }
     let list = slots.copies(alloc, &[at, query])?;
     let m = slots.window_len();
-    let window = window_of(list.series(1), start, m);
+    let (series, from) = (list.series(0), list.series(1));
+    let text = text_of(rt, alloc, series, from, m, pattern, context.line())?;
+    Ok(Answer::Accepted(text))
+}
+
+/// The report of a line by a series, and the series whose window is sought in it.
+fn text_of(
+    rt: &(impl Threads + Sync),
+    alloc: Global,
+    series: &[Sample],
+    from: &[Sample],
+    m: u32,
+    pattern: Pattern,
+    line: u64,
+) -> Result<Text, Memory>
+    requires { pattern.start + m ≤ length from.now }
+    ensures { IfOk result (λ text. text.items ≡ match_text line
+        (matches_in m (series_of series.now) (series_of from.now) pattern.start pattern.radius pattern.max)) }
+{
+    let window = window_of(from, pattern.start, m);
     // (its length and its samples were tested, so nothing but memory can be wanting)
-    let Ok(dist) = distances(rt, alloc, window, list.series(0)) else {
+    let Ok(dist) = distances(rt, alloc, window, series) else {
         return Err(Memory);
     };
     let radius = Sq(pattern.radius);
     let found = matches(alloc, dist.as_slice(), excl(m), None, radius, pattern.max)?;
-    let text = match_text(alloc, context.line(), found.as_slice())?;
-    Ok(Answer::Accepted(text))
+    match_text(alloc, line, found.as_slice())
 }
 
 /// The samples of the window at `start`.

@@ -1,18 +1,22 @@
 //! `mpdist R Q`: MPdist of two channels.
 
+ghost use Rattle.std.specs.Prelude.{◌≡◌, ◌≤◌, length, IfOk};
+ghost use Rattle.mp_defs.specs.Limits.{max_samples};
+ghost use Rattle.mp_defs.specs.Series.{series_of};
 ghost use Rattle.mp_replies.specs.Command as asked;
 ghost use Rattle.mp_replies.specs.Line.{Asks};
+ghost use Rattle.mp_replies.specs.MpdistCommand.{mpdist_between, mpdist_text};
 ghost use Rattle.mp_commands.specs.Reports.{IsReported, OnlyReads};
 
 use crate::answers::Answer;
 use crate::conditions::pair_cause;
 use crate::context::Context;
 use mp_mpdist::mpdist;
-use mp_nums::Memory;
+use mp_nums::{Memory, Sample, Text};
 use mp_outside::Gate;
 use mp_replies::Ref;
 use mp_report::mpdist_text;
-use mp_slots::Slots;
+use mp_slots::{Plan, Slots};
 use mp_workers::ab_join;
 use std::alloc::Global;
 use std::thread::Threads;
@@ -36,6 +40,25 @@ pub(crate) fn report_mpdist<R: Threads + Sync, G: Gate>(
     let list = slots.copies(alloc, &[a, b])?;
     let plan = context.plan(slots.window_len());
     let (first, second) = (list.series(0), list.series(1));
+    let text = text_between(rt, alloc, first, second, plan, context.line(), gate)?;
+    Ok(Answer::Accepted(text))
+}
+
+/// The report of a line by two series.
+fn text_between<R: Threads + Sync, G: Gate>(
+    rt: &R,
+    alloc: Global,
+    first: &[Sample],
+    second: &[Sample],
+    plan: Plan,
+    line: u64,
+    gate: &G,
+) -> Result<Text, Memory>
+    requires first { length first.now ≤ max_samples }
+    requires second { length second.now ≤ max_samples }
+    ensures { IfOk result (λ text. text.items
+        ≡ mpdist_text line (mpdist_between plan.m (series_of first.now) (series_of second.now))) }
+{
     let there = ab_join(
         rt,
         alloc,
@@ -58,5 +81,5 @@ pub(crate) fn report_mpdist<R: Threads + Sync, G: Gate>(
     )?;
     let (na, nb) = (first.len() as u64, second.len() as u64);
     let dist = mpdist(alloc, there.as_slice(), back.as_slice(), na, nb)?;
-    Ok(Answer::Accepted(mpdist_text(alloc, context.line(), dist)?))
+    mpdist_text(alloc, line, dist)
 }

@@ -4,10 +4,11 @@ ghost use Rattle.std.specs.Prelude.{◌≡◌, ◌≤◌, All, length, map, IfOk
 ghost use Rattle.mp_defs.specs.Limits.{max_samples};
 ghost use Rattle.mp_defs.specs.Series.{series_of};
 ghost use Rattle.mp_multi.specs.Conditions.{HaveOneLength};
-ghost use Rattle.mp_multi.specs.Multi.{multi_of};
+ghost use Rattle.mp_results.specs.Multi.{multi_of};
 ghost use Rattle.mp_replies.specs.Command as asked;
 ghost use Rattle.mp_replies.specs.Limits.{max_channels};
 ghost use Rattle.mp_replies.specs.Line.{Asks};
+ghost use Rattle.mp_replies.specs.MultiCommand.{multi_text};
 ghost use Rattle.mp_commands.specs.Reads.{refs_of};
 ghost use Rattle.mp_commands.specs.Reports.{IsReported, OnlyReads};
 
@@ -15,7 +16,7 @@ use crate::answers::Answer;
 use crate::conditions::multi_cause;
 use crate::context::Context;
 use mp_multi::multi;
-use mp_nums::{Memory, Slots as SlotList};
+use mp_nums::{Memory, Text};
 use mp_outside::Gate;
 use mp_replies::Ref;
 use mp_report::{SlotsName, slots_text};
@@ -41,36 +42,30 @@ pub(crate) fn report_multi<R: Threads + Sync, G: Gate>(
     }
     let refs = channels_of(alloc, slots, slot)?;
     let channels = slots.copies(alloc, refs.as_slice())?;
-    let profile = profile_of(
-        rt,
-        alloc,
-        &channels,
-        context.plan(slots.window_len()),
-        k,
-        gate,
-    )?;
-    let text = slots_text(alloc, context.line(), SlotsName::Multi, profile.as_slice())?;
+    let plan = context.plan(slots.window_len());
+    let text = text_of(rt, alloc, &channels, plan, k, context.line(), gate)?;
     Ok(Answer::Accepted(text))
 }
 
-/// The profile of all of them, K together.
-fn profile_of<R: Threads + Sync, G: Gate>(
+/// The report of a line by all of them, K together.
+fn text_of<R: Threads + Sync, G: Gate>(
     rt: &R,
     alloc: Global,
     channels: &Bundle,
     plan: Plan,
     k: u64,
+    line: u64,
     gate: &G,
-) -> Result<SlotList, Memory>
+) -> Result<Text, Memory>
     requires one { 1 ≤ length channels.now }
     requires few { length channels.now ≤ max_channels }
     requires one_length { HaveOneLength channels.now }
     requires samples { All (λ samples. length samples ≤ max_samples) channels.now }
     requires some { 1 ≤ k }
     requires present { k ≤ length channels.now }
-    ensures { IfOk result (λ found. found.items ≡ multi_of plan.m k (map series_of channels.now)) }
+    ensures { IfOk result (λ text. text.items ≡ multi_text line (multi_of plan.m k (map series_of channels.now))) }
 {
-    multi(
+    let profile = multi(
         rt,
         alloc,
         channels,
@@ -79,7 +74,8 @@ fn profile_of<R: Threads + Sync, G: Gate>(
         plan.tile,
         plan.workers,
         gate,
-    )
+    )?;
+    slots_text(alloc, line, SlotsName::Multi, profile.as_slice())
 }
 
 /// All channels of a slot.

@@ -9,6 +9,7 @@ use crate::chain_command::{report_chain, report_chains};
 use crate::consensus_command::report_consensus;
 use crate::context::Context;
 use crate::discords_command::report_discords;
+use crate::end_command::report_end;
 use crate::join_command::report_join;
 use crate::match_command::report_match;
 use crate::motifs_command::report_motifs;
@@ -22,7 +23,6 @@ use crate::window_command::report_window;
 use mp_lines::Command;
 use mp_nums::Memory;
 use mp_outside::Gate;
-use mp_report::ok_text;
 use mp_slots::Slots;
 use std::alloc::Global;
 use std::thread::Threads;
@@ -91,6 +91,6 @@ pub(crate) fn report<R: Threads + Sync, G: Gate>(
         }
         Command::Mpdist { a, b } => report_mpdist(rt, alloc, slots, context, a, b, gate),
         Command::Consensus { refs } => report_consensus(rt, alloc, slots, context, refs, gate),
-        Command::End => Ok(Answer::Ended(ok_text(alloc, context.line(), None)?)),
+        Command::End => report_end(alloc, context),
     }
 }

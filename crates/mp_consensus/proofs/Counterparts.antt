@@ -15,7 +15,7 @@ use Rattle.mp_defs.specs.SeriesLaws.{series_are_of_samples}
 use Rattle.mp_defs.specs.Least.{at_distance}
 use Rattle.mp_defs.specs.Profile.{windows_of}
 use Rattle.mp_defs.specs.LeastLaws.{near_same}
-use Rattle.mp_consensus.specs.Consensus.{series_at, counterpart, farthest, those_there, least_at}
+use Rattle.mp_results.specs.Consensus.{series_at, counterpart, farthest, those_there, least_at}
 use Rattle.mp_consensus.specs.Columns.{counterpart_column, counterpart_columns, slot_at, items_of, least_of}
 use Rattle.mp_consensus.proofs.Steps.{farthest_same, those_same}
 

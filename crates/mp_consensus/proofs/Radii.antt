@@ -12,7 +12,7 @@ use Rattle.mp_defs.specs.Profile.{join_entry}
 use Rattle.mp_defs.specs.Laws.{IsNearest}
 use Rattle.mp_defs.specs.NearestLaws.{entries_are_nearest}
 use Rattle.mp_defs.specs.DistanceLaws.{of_free_windows}
-use Rattle.mp_consensus.specs.Consensus.{series_at, counterpart, farther, farthest, radius_of}
+use Rattle.mp_results.specs.Consensus.{series_at, counterpart, farther, farthest, radius_of}
 use Rattle.mp_consensus.specs.Laws.{HasNearest, IsRadius, RadiusIsGreatest}
 
 some_none : {A : Type 0} {x : A} → Some x ≡ None → ⊥

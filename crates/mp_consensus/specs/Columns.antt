@@ -7,7 +7,7 @@ use Rattle.mp_nums.specs.Listed.{Listed}
 use Rattle.mp_defs.specs.Series.{Series}
 use Rattle.mp_defs.specs.Least.{near_at, at_distance, near}
 use Rattle.mp_defs.specs.Profile.{windows_of, column}
-use Rattle.mp_consensus.specs.Consensus.{series_at, counterpart, farthest}
+use Rattle.mp_results.specs.Consensus.{series_at, counterpart, farthest}
 
 -- each window at distance 0 from itself
 abbrev pub own_column : ℕ → List (Option Near)

@@ -3,7 +3,7 @@ use Rattle.std.specs.Prelude.{◌≡◌, ℕ, ℤ, pos, List, [], ◌∷◌, Opt
 use Rattle.mp_nums.specs.declared.nearest.Near.{Near}
 use Rattle.mp_defs.specs.Series.{Series}
 use Rattle.mp_defs.specs.Least.{near_at}
-use Rattle.mp_consensus.specs.Consensus.{Central, centre_of}
+use Rattle.mp_results.specs.Consensus.{Central, centre_of}
 
 abbrev number : ℕ → Option ℤ
 number n = Some (pos n)

@@ -4,7 +4,7 @@ use Rattle.mp_nums.specs.declared.nearest.Near.{Near}
 use Rattle.mp_defs.specs.Series.{Series}
 use Rattle.mp_defs.specs.Window.{is_free}
 use Rattle.mp_defs.specs.Profile.{windows_of, join_entry}
-use Rattle.mp_consensus.specs.Consensus.{Central, series_at, counterpart, radius_of, centre_of}
+use Rattle.mp_results.specs.Consensus.{Central, series_at, counterpart, radius_of, centre_of}
 
 -- the nearest window at another place q is there
 abbrev pub HasNearest : ℕ → List Series → ℕ → ℕ → ℕ → Near → Type 0

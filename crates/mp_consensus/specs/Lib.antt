@@ -1,4 +1,3 @@
-pub mod Consensus
 pub mod Columns
 pub mod Conditions
 pub mod Laws

@@ -6,7 +6,7 @@ ghost use Rattle.mp_series.specs.declared.limits.TheConstants.{MAX_SAMPLES, MAX_
 ghost use Rattle.mp_claims.specs.declared.boards.TheConstants.{MAX_WORKERS};
 ghost use Rattle.mp_defs.specs.Series.{series_of};
 ghost use Rattle.mp_consensus.specs.Conditions.{MayBeCompared};
-ghost use Rattle.mp_consensus.specs.Consensus.{central, central_at, least_at, lesser, centre_of};
+ghost use Rattle.mp_results.specs.Consensus.{central, central_at, least_at, lesser, centre_of};
 
 use crate::columns::counterpart_columns;
 use crate::reaches::{least_reach, windows_at};

@@ -10,6 +10,3 @@ mod reaches;
 pub use centres::{MAX_SERIES, consensus};
 pub use examples::worked_centres;
 pub use laws::{centre_is_least, radius_is_greatest};
-
-#[cfg(test)]
-mod tests;

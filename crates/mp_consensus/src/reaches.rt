@@ -2,7 +2,7 @@
 
 ghost use Rattle.std.specs.Prelude.{◌≡◌, ◌<◌, ◌≤◌, max, length, All, IfOk};
 ghost use Rattle.std.specs.Option.{option_map};
-ghost use Rattle.mp_consensus.specs.Consensus.{farthest, those_there};
+ghost use Rattle.mp_results.specs.Consensus.{farthest, those_there};
 ghost use Rattle.mp_consensus.specs.Columns.{slot_at, items_of, least_of, as_square};
 
 use mp_nums::{Items, Memory, Near, NearList, Slot, Slots, Sq, nearer};

@@ -11,6 +11,3 @@ pub use feeds::{Fed, Feed};
 pub use laws::pieces_give_the_lines;
 pub use readers::{LineReader, Next};
 pub use writes::write_report;
-
-#[cfg(test)]
-mod tests;

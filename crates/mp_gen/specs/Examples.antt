@@ -1,7 +1,7 @@
 -- Samples that were computed by hand.
 use Rattle.std.specs.Prelude.{◌≡◌, pos}
 use Rattle.mp_nums.specs.declared.samples.Sample.TheVariants.{Missing, Value}
-use Rattle.mp_gen.specs.Generator.{drawn, sample_of}
+use Rattle.mp_results.specs.Generator.{drawn, sample_of}
 
 pub record SamplesByHand : Type 0 where
   -- what is drawn from the seed 0

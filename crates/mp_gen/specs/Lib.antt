@@ -1,2 +1,1 @@
-pub mod Generator
 pub mod Examples

@@ -3,8 +3,6 @@
 
 mod examples;
 mod samples;
-#[cfg(test)]
-mod tests;
 
 pub use examples::samples_by_hand;
 pub use samples::sample_at;

@@ -1,5 +1,5 @@
 ghost use Rattle.std.specs.Prelude.{◌≡◌, ◌≤◌};
-ghost use Rattle.mp_gen.specs.Generator.{drawn, folded, period, sample_of, wave};
+ghost use Rattle.mp_results.specs.Generator.{drawn, folded, period, sample_of, wave};
 
 use mp_nums::Sample;
 

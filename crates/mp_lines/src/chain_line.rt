@@ -7,18 +7,18 @@ ghost use Rattle.mp_lines.specs.Lines.{read_as};
 
 use crate::commands::{Command, LineFault};
 use crate::numbers::{read_ref, read_u64};
+use crate::texts::two_texts;
 use mp_bytes::Fields;
 
 /// Reads what stands behind the word.
-pub(crate) fn parse_chain(mut fields: Fields<'_>) -> Result<Command<'_>, LineFault>
+pub(crate) fn parse_chain(fields: Fields<'_>) -> Result<Command<'_>, LineFault>
     ensures { read_as result ≡ asks (by_form chain_form (fields_in fields.entry.text.now)) }
 {
-    let at = fields.next().ok_or(LineFault::Fields)?;
-    let start = fields.next().ok_or(LineFault::Fields)?;
-    if fields.next().is_some() {
+    let Some((at, start)) = two_texts(fields) else {
         return Err(LineFault::Fields);
+    };
+    match read_ref(at).zip(read_u64(start)) {
+        Some((at, start)) => Ok(Command::Chain { at, start }),
+        None => Err(LineFault::Number),
     }
-    let at = read_ref(at).ok_or(LineFault::Number)?;
-    let start = read_u64(start).ok_or(LineFault::Number)?;
-    Ok(Command::Chain { at, start })
 }

@@ -7,16 +7,18 @@ ghost use Rattle.mp_lines.specs.Lines.{read_as};
 
 use crate::commands::{Command, LineFault};
 use crate::numbers::read_ref;
+use crate::texts::one_text;
 use mp_bytes::Fields;
 
 /// Reads what stands behind the word.
-pub(crate) fn parse_chains(mut fields: Fields<'_>) -> Result<Command<'_>, LineFault>
+pub(crate) fn parse_chains(fields: Fields<'_>) -> Result<Command<'_>, LineFault>
     ensures { read_as result ≡ asks (by_form chains_form (fields_in fields.entry.text.now)) }
 {
-    let at = fields.next().ok_or(LineFault::Fields)?;
-    if fields.next().is_some() {
+    let Some(at) = one_text(fields) else {
         return Err(LineFault::Fields);
+    };
+    match read_ref(at) {
+        Some(at) => Ok(Command::Chains { at }),
+        None => Err(LineFault::Number),
     }
-    let at = read_ref(at).ok_or(LineFault::Number)?;
-    Ok(Command::Chains { at })
 }

@@ -7,18 +7,18 @@ ghost use Rattle.mp_lines.specs.Lines.{read_as};
 
 use crate::commands::{Command, LineFault};
 use crate::numbers::{read_count, read_ref};
+use crate::texts::two_texts;
 use mp_bytes::Fields;
 
 /// Reads what stands behind the word.
-pub(crate) fn parse_discords(mut fields: Fields<'_>) -> Result<Command<'_>, LineFault>
+pub(crate) fn parse_discords(fields: Fields<'_>) -> Result<Command<'_>, LineFault>
     ensures { read_as result ≡ asks (by_form discords_form (fields_in fields.entry.text.now)) }
 {
-    let at = fields.next().ok_or(LineFault::Fields)?;
-    let count = fields.next().ok_or(LineFault::Fields)?;
-    if fields.next().is_some() {
+    let Some((at, count)) = two_texts(fields) else {
         return Err(LineFault::Fields);
+    };
+    match read_ref(at).zip(read_count(count)) {
+        Some((at, count)) => Ok(Command::Discords { at, count }),
+        None => Err(LineFault::Number),
     }
-    let at = read_ref(at).ok_or(LineFault::Number)?;
-    let count = read_count(count).ok_or(LineFault::Number)?;
-    Ok(Command::Discords { at, count })
 }

@@ -7,18 +7,18 @@ ghost use Rattle.mp_lines.specs.Lines.{read_as};
 
 use crate::commands::{Command, LineFault};
 use crate::numbers::read_ref;
+use crate::texts::two_texts;
 use mp_bytes::Fields;
 
 /// Reads what stands behind the word.
-pub(crate) fn parse_join(mut fields: Fields<'_>) -> Result<Command<'_>, LineFault>
+pub(crate) fn parse_join(fields: Fields<'_>) -> Result<Command<'_>, LineFault>
     ensures { read_as result ≡ asks (by_form join_form (fields_in fields.entry.text.now)) }
 {
-    let a = fields.next().ok_or(LineFault::Fields)?;
-    let b = fields.next().ok_or(LineFault::Fields)?;
-    if fields.next().is_some() {
+    let Some((a, b)) = two_texts(fields) else {
         return Err(LineFault::Fields);
+    };
+    match read_ref(a).zip(read_ref(b)) {
+        Some((a, b)) => Ok(Command::Join { a, b }),
+        None => Err(LineFault::Number),
     }
-    let a = read_ref(a).ok_or(LineFault::Number)?;
-    let b = read_ref(b).ok_or(LineFault::Number)?;
-    Ok(Command::Join { a, b })
 }

@@ -20,8 +20,7 @@ mod profile_line;
 mod ref_lists;
 mod segments_line;
 mod session_line;
-#[cfg(test)]
-mod tests;
+mod texts;
 mod window_line;
 
 pub use commands::{Command, LineFault, parse_line};

@@ -7,20 +7,16 @@ ghost use Rattle.mp_lines.specs.Lines.{read_as};
 
 use crate::commands::{Command, LineFault};
 use crate::numbers::{read_count, read_ref, read_square, read_u64};
+use crate::texts::five_texts;
 use mp_bytes::Fields;
 
 /// Reads what stands behind the word.
-pub(crate) fn parse_match(mut fields: Fields<'_>) -> Result<Command<'_>, LineFault>
+pub(crate) fn parse_match(fields: Fields<'_>) -> Result<Command<'_>, LineFault>
     ensures { read_as result ≡ asks (by_form match_form (fields_in fields.entry.text.now)) }
 {
-    let at = fields.next().ok_or(LineFault::Fields)?;
-    let query = fields.next().ok_or(LineFault::Fields)?;
-    let start = fields.next().ok_or(LineFault::Fields)?;
-    let radius = fields.next().ok_or(LineFault::Fields)?;
-    let max = fields.next().ok_or(LineFault::Fields)?;
-    if fields.next().is_some() {
+    let Some((at, query, start, radius, max)) = five_texts(fields) else {
         return Err(LineFault::Fields);
-    }
+    };
     let at = read_ref(at).ok_or(LineFault::Number)?;
     let query = read_ref(query).ok_or(LineFault::Number)?;
     let start = read_u64(start).ok_or(LineFault::Number)?;

@@ -7,21 +7,16 @@ ghost use Rattle.mp_lines.specs.Lines.{read_as};
 
 use crate::commands::{Command, LineFault};
 use crate::numbers::{read_few, read_neighbours, read_ref, read_square};
+use crate::texts::six_texts;
 use mp_bytes::Fields;
 
 /// Reads what stands behind the word.
-pub(crate) fn parse_motifs(mut fields: Fields<'_>) -> Result<Command<'_>, LineFault>
+pub(crate) fn parse_motifs(fields: Fields<'_>) -> Result<Command<'_>, LineFault>
     ensures { read_as result ≡ asks (by_form motifs_form (fields_in fields.entry.text.now)) }
 {
-    let at = fields.next().ok_or(LineFault::Fields)?;
-    let count = fields.next().ok_or(LineFault::Fields)?;
-    let cutoff = fields.next().ok_or(LineFault::Fields)?;
-    let radius = fields.next().ok_or(LineFault::Fields)?;
-    let neighbours = fields.next().ok_or(LineFault::Fields)?;
-    let matches = fields.next().ok_or(LineFault::Fields)?;
-    if fields.next().is_some() {
+    let Some((at, count, cutoff, radius, neighbours, matches)) = six_texts(fields) else {
         return Err(LineFault::Fields);
-    }
+    };
     let at = read_ref(at).ok_or(LineFault::Number)?;
     let count = read_few(count).ok_or(LineFault::Number)?;
     let cutoff = read_square(cutoff).ok_or(LineFault::Number)?;

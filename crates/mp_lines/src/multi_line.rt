@@ -7,18 +7,18 @@ ghost use Rattle.mp_lines.specs.Lines.{read_as};
 
 use crate::commands::{Command, LineFault};
 use crate::numbers::read_u64;
+use crate::texts::two_texts;
 use mp_bytes::Fields;
 
 /// Reads what stands behind the word.
-pub(crate) fn parse_multi(mut fields: Fields<'_>) -> Result<Command<'_>, LineFault>
+pub(crate) fn parse_multi(fields: Fields<'_>) -> Result<Command<'_>, LineFault>
     ensures { read_as result ≡ asks (by_form multi_form (fields_in fields.entry.text.now)) }
 {
-    let slot = fields.next().ok_or(LineFault::Fields)?;
-    let k = fields.next().ok_or(LineFault::Fields)?;
-    if fields.next().is_some() {
+    let Some((slot, k)) = two_texts(fields) else {
         return Err(LineFault::Fields);
+    };
+    match read_u64(slot).zip(read_u64(k)) {
+        Some((slot, k)) => Ok(Command::Multi { slot, k }),
+        None => Err(LineFault::Number),
     }
-    let slot = read_u64(slot).ok_or(LineFault::Number)?;
-    let k = read_u64(k).ok_or(LineFault::Number)?;
-    Ok(Command::Multi { slot, k })
 }

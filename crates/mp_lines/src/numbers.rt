@@ -1,6 +1,8 @@
 //! Numbers, refs and lists of columns.
 
-ghost use Rattle.std.specs.Prelude.{◌≡◌, ◌+◌, ◌<◌, [], length, drop, position, is_some, unwrap_or, Some, true, IfOk, IfSome};
+ghost use Rattle.std.specs.Prelude.{◌≡◌, ◌+◌, ◌^◌, ◌<◌, ◌≤◌, [], length, drop, position, is_some, unwrap_or, Some, true, IfOk, IfSome};
+ghost use Rattle.mp_bytes.specs.Digits.{number_of};
+ghost use Rattle.mp_replies.specs.Limits.{max_digits};
 ghost use Rattle.mp_replies.specs.Numbers.{
   column,
   columns,
@@ -24,25 +26,36 @@ use std::alloc::Global;
 const MAX_DIGITS: usize = 39;
 
 /// The most windows that are asked for, and the most neighbours.
-const MAX_COUNT: u32 = 262_144;
+const MAX_COUNT: u64 = 262_144;
 
 /// The most motifs, and the most matches of one.
-const MAX_MOTIFS: u32 = 1_024;
+const MAX_MOTIFS: u64 = 1_024;
 
 /// The most window lengths of a regime's zone.
-const MAX_FACTOR: u32 = 100;
+const MAX_FACTOR: u64 = 100;
 
 /// The greatest column, counted from 0.
-const MAX_COLUMN: u32 = 65_535;
+const MAX_COLUMN: u64 = 65_535;
 
 /// The most columns.
 const MAX_COLUMNS: usize = 8;
+
+/// A number up to a greatest one.
+fn read_at_most(field: &[u8], most: u64) -> Option<u64>
+    ensures number { result ≡ number_of max_digits most field.now }
+    ensures within { IfSome result (λ n. n ≤ most) }
+{
+    match read_number(field, MAX_DIGITS, u128::from(most)) {
+        None => None,
+        Some(n) => Some(n as u64),
+    }
+}
 
 /// A number of 64 bits.
 pub(crate) fn read_u64(field: &[u8]) -> Option<u64>
     ensures { result ≡ number field.now }
 {
-    Some(read_number(field, MAX_DIGITS, u128::from(u64::MAX))? as u64)
+    read_at_most(field, u64::MAX)
 }
 
 /// A squared distance.
@@ -52,38 +65,52 @@ pub(crate) fn read_square(field: &[u8]) -> Option<u128>
     read_number(field, MAX_DIGITS, u128::MAX)
 }
 
+/// A number up to a greatest one of 32 bits.
+fn read_small(field: &[u8], most: u64) -> Option<u32>
+    requires { most < 2 ^ 32 }
+    ensures { result ≡ number_of max_digits most field.now }
+{
+    match read_at_most(field, most) {
+        None => None,
+        Some(n) => Some(n as u32),
+    }
+}
+
 /// How many windows are asked for.
 pub(crate) fn read_count(field: &[u8]) -> Option<u64>
     ensures { result ≡ count_of field.now }
 {
-    unless_zero(read_number(field, MAX_DIGITS, u128::from(MAX_COUNT))? as u64)
+    unless_zero(read_at_most(field, MAX_COUNT))
 }
 
 /// How many motifs, or matches of one.
 pub(crate) fn read_few(field: &[u8]) -> Option<u64>
     ensures { result ≡ few field.now }
 {
-    unless_zero(read_number(field, MAX_DIGITS, u128::from(MAX_MOTIFS))? as u64)
+    unless_zero(read_at_most(field, MAX_MOTIFS))
 }
 
-fn unless_zero(n: u64) -> Option<u64>
-    ensures { result ≡ positive (Some n) }
+fn unless_zero(read: Option<u64>) -> Option<u64>
+    ensures { result ≡ positive read }
 {
-    if n >= 1 { Some(n) } else { None }
+    match read {
+        Some(n) if n >= 1 => Some(n),
+        _ => None,
+    }
 }
 
 /// How many windows must match a motif beside itself.
 pub(crate) fn read_neighbours(field: &[u8]) -> Option<u64>
     ensures { result ≡ neighbours field.now }
 {
-    Some(read_number(field, MAX_DIGITS, u128::from(MAX_COUNT))? as u64)
+    read_at_most(field, MAX_COUNT)
 }
 
 /// How many window lengths.
 pub(crate) fn read_factor(field: &[u8]) -> Option<u32>
     ensures { result ≡ factor field.now }
 {
-    Some(read_number(field, MAX_DIGITS, u128::from(MAX_FACTOR))? as u32)
+    read_small(field, MAX_FACTOR)
 }
 
 /// A slot, or a slot and a channel with a point between.
@@ -120,7 +147,7 @@ fn behind(field: &[u8], at: usize) -> &[u8]
 fn read_column(text: &[u8]) -> Option<u32>
     ensures { result ≡ column text.now }
 {
-    Some(read_number(text, MAX_DIGITS, u128::from(MAX_COLUMN))? as u32)
+    read_small(text, MAX_COLUMN)
 }
 
 /// A field that lists 1 to 8 columns.

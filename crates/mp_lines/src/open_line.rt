@@ -7,18 +7,18 @@ ghost use Rattle.mp_lines.specs.Lines.{read_as};
 
 use crate::commands::{Command, LineFault};
 use crate::numbers::read_u64;
+use crate::texts::two_texts;
 use mp_bytes::Fields;
 
 /// Reads what stands behind the word.
-pub(crate) fn parse_open(mut fields: Fields<'_>) -> Result<Command<'_>, LineFault>
+pub(crate) fn parse_open(fields: Fields<'_>) -> Result<Command<'_>, LineFault>
     ensures { read_as result ≡ asks (by_form open_form (fields_in fields.entry.text.now)) }
 {
-    let slot = fields.next().ok_or(LineFault::Fields)?;
-    let channels = fields.next().ok_or(LineFault::Fields)?;
-    if fields.next().is_some() {
+    let Some((slot, channels)) = two_texts(fields) else {
         return Err(LineFault::Fields);
+    };
+    match read_u64(slot).zip(read_u64(channels)) {
+        Some((slot, channels)) => Ok(Command::Open { slot, channels }),
+        None => Err(LineFault::Number),
     }
-    let slot = read_u64(slot).ok_or(LineFault::Number)?;
-    let channels = read_u64(channels).ok_or(LineFault::Number)?;
-    Ok(Command::Open { slot, channels })
 }

@@ -7,18 +7,16 @@ ghost use Rattle.mp_lines.specs.Lines.{read_as};
 
 use crate::commands::{Command, LineFault};
 use crate::numbers::{read_count, read_factor, read_ref};
+use crate::texts::three_texts;
 use mp_bytes::Fields;
 
 /// Reads what stands behind the word.
-pub(crate) fn parse_segments(mut fields: Fields<'_>) -> Result<Command<'_>, LineFault>
+pub(crate) fn parse_segments(fields: Fields<'_>) -> Result<Command<'_>, LineFault>
     ensures { read_as result ≡ asks (by_form segments_form (fields_in fields.entry.text.now)) }
 {
-    let at = fields.next().ok_or(LineFault::Fields)?;
-    let count = fields.next().ok_or(LineFault::Fields)?;
-    let factor = fields.next().ok_or(LineFault::Fields)?;
-    if fields.next().is_some() {
+    let Some((at, count, factor)) = three_texts(fields) else {
         return Err(LineFault::Fields);
-    }
+    };
     let at = read_ref(at).ok_or(LineFault::Number)?;
     let count = read_count(count).ok_or(LineFault::Number)?;
     let factor = read_factor(factor).ok_or(LineFault::Number)?;

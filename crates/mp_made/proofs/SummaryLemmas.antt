@@ -1,36 +1,28 @@
--- What is computed of a made series is what its summary tells.
-use Rattle.std.proofs.Common.{◌≡◌, ◌∙◌, ◌*◌, ◌<◌, List, [], ◌∷◌, ℕ, ap, arith, length, map, subst, sym, ◌≤◌}
+-- What is computed of a profile is what the summary tells.
+use Rattle.std.proofs.Common.{◌≡◌, ◌∙◌, ◌*◌, ◌<◌, List, [], ◌∷◌, ℕ, ap, arith, length, subst, sym, ◌≤◌}
 use Rattle.std.specs.Prelude.{All, IfSome, Option, None, Some, slice_get}
-use Rattle.std.specs.List.{range_with_len}
 use Rattle.std.proofs.lemmas.List.{length-map}
-use Rattle.mp_arcs.specs.Regimes.{regimes_in}
+use Rattle.mp_results.specs.Regimes.{regimes_in}
 use Rattle.mp_defs.specs.ColumnLaws.{columns_have_places}
 use Rattle.mp_defs.specs.Limits.{max_samples, min_window}
 use Rattle.mp_defs.specs.Profile.{entry, matrix_profile, windows_of}
 use Rattle.mp_defs.specs.Series.{reading_of, series_of}
 use Rattle.mp_defs.specs.Window.{excl, is_allowed}
-use Rattle.mp_gen.specs.Generator.{sample_of}
 use Rattle.mp_nums.specs.declared.nearest.Near.{Near}
 use Rattle.mp_nums.specs.declared.samples.Sample.{Sample}
 use Rattle.mp_replies.specs.SegmentsCommand.{curve_in}
-use Rattle.mp_replies.specs.Summary.{summary_factor, summary_of, summary_text}
-use Rattle.mp_replies.specs.declared.makes.Make.{Make}
+use Rattle.mp_replies.specs.Summary.{summary_factor, summary_text}
+use Rattle.mp_made.specs.Summaries.{summary_by}
 
-pub summary_is : (m : ℕ) (make : Make) (items : List Sample) (column : List (Option Near)) (zone : ℕ)
-    (regime : Option ℕ) (curve : List (ℕ × ℕ))
-    → items ≡ map (sample_of make.number) (range_with_len 0 make.count)
-    → column ≡ (matrix_profile m (series_of items)).all → zone ≡ excl m
-    → regime ≡ slice_get (regimes_in curve (summary_factor * m) 1) 0 → curve ≡ curve_in m column summary_factor
-    → summary_text make.count column zone regime curve ≡ summary_of m make
-summary_is m make items column zone regime curve items_are column_is zone_is regime_is curve_is =
+pub summary_is : (m samples : ℕ) (column : List (Option Near)) (zone : ℕ) (regime : Option ℕ) (curve : List (ℕ × ℕ))
+    → zone ≡ excl m → regime ≡ slice_get (regimes_in curve (summary_factor * m) 1) 0
+    → curve ≡ curve_in m column summary_factor
+    → summary_text samples column zone regime curve ≡ summary_by m samples column
+summary_is m samples column zone regime curve zone_is regime_is curve_is =
     let first : List (ℕ × ℕ) → Option ℕ = λ (c : List (ℕ × ℕ)). slice_get (regimes_in c (summary_factor * m) 1) 0 in
-    ap (λ (z : ℕ). summary_text make.count column z regime curve) zone_is
-    ∙ ap (λ (r : Option ℕ). summary_text make.count column (excl m) r curve) regime_is
-    ∙ ap (λ (c : List (ℕ × ℕ)). summary_text make.count column (excl m) (first c) c) curve_is
-    ∙ ap (λ (windows : List (Option Near)).
-    summary_text make.count windows (excl m) (first (curve_in m windows summary_factor))
-    (curve_in m windows summary_factor))
-    (column_is ∙ ap (λ (made : List Sample). (matrix_profile m (series_of made)).all) items_are)
+    ap (λ (z : ℕ). summary_text samples column z regime curve) zone_is
+    ∙ ap (λ (r : Option ℕ). summary_text samples column (excl m) r curve) regime_is
+    ∙ ap (λ (c : List (ℕ × ℕ)). summary_text samples column (excl m) (first c) c) curve_is
 
 -- a profile has no more windows than a series may have samples
 pub column_few : (m : ℕ) (items : List Sample) → min_window ≤ m → length items ≤ max_samples

@@ -2,24 +2,26 @@
 
 ghost use Rattle.std.specs.Prelude.{◌≡◌, ◌*◌, ◌<◌, ◌≤◌, length, map, slice_get, IfOk, IfSome};
 ghost use Rattle.std.specs.List.{range_with_len};
-ghost use Rattle.mp_arcs.specs.Arcs.{indices_of};
-ghost use Rattle.mp_arcs.specs.Board.{NameWithin};
-ghost use Rattle.mp_arcs.specs.Curve.{parts_of};
-ghost use Rattle.mp_arcs.specs.Regimes.{regimes_in};
+ghost use Rattle.mp_results.specs.Arcs.{indices_of, NameWithin};
+ghost use Rattle.mp_results.specs.Curve.{parts_of};
+ghost use Rattle.mp_results.specs.Regimes.{regimes_in};
 ghost use Rattle.mp_defs.specs.Limits.{max_samples, max_window, min_window};
-ghost use Rattle.mp_gen.specs.Generator.{sample_of};
+ghost use Rattle.mp_defs.specs.Profile.{matrix_profile};
+ghost use Rattle.mp_results.specs.Generator.{sample_of};
 ghost use Rattle.mp_replies.specs.Limits.{max_tile, max_workers};
 ghost use Rattle.mp_replies.specs.SegmentsCommand.{curve_in};
-ghost use Rattle.mp_replies.specs.Summary.{summary_factor, summary_of};
+ghost use Rattle.mp_replies.specs.Summary.{made_series, summary_factor, summary_of};
+ghost use Rattle.mp_made.specs.Summaries.{summary_by};
 
 use mp_arcs::{arcs, arcs_are_few, corrected, regimes};
 use mp_gen::sample_at;
 use mp_nums::{Memory, Ratio, Sample, Slot, Text};
 use mp_outside::Gate;
+use mp_partial::Profile;
 use mp_replies::Make;
 use mp_report::generated_text;
-use mp_series::{PushRefusal, Samples, excl};
-use mp_stream::Stream;
+use mp_series::excl;
+use mp_workers::self_join;
 use std::alloc::{AllocError, Global};
 use std::thread::Threads;
 
@@ -49,41 +51,52 @@ pub fn summary<R: Threads + Sync, G: Gate>(
     requires count { make.count ≤ max_samples }
     ensures { IfOk result (λ text. text.items ≡ summary_of m make) }
 {
-    let samples = samples(alloc, make)?;
-    let stream = Stream::from(rt, alloc, samples, m, tile, workers, gate)?;
-    let _within = stream.len();
-    let profile = stream.profile();
-    let curve = curve(alloc, profile.all(), m)?;
-    let regime = first_regime(alloc, curve.as_slice(), m)?;
-    generated_text(
-        alloc,
-        make.count,
-        profile,
-        excl(m),
-        regime,
-        curve.as_slice(),
-    )
+    let profile = made_profile(rt, alloc, m, tile, workers, make, gate)?;
+    text_of(alloc, m, make.count, &profile)
+}
+
+/// The profile of the samples that are made.
+fn made_profile<R: Threads + Sync, G: Gate>(
+    rt: &R,
+    alloc: Global,
+    m: u32,
+    tile: u32,
+    workers: u32,
+    make: Make,
+    gate: &G,
+) -> Result<Profile, Memory>
+    requires shortest { min_window ≤ m }
+    requires longest { m ≤ max_window }
+    requires least { 1 ≤ tile }
+    requires greatest { tile ≤ max_tile }
+    requires some { 1 ≤ workers }
+    requires workers { workers ≤ max_workers }
+    requires count { make.count ≤ max_samples }
+    ensures { IfOk result (λ profile. profile.all ≡ (matrix_profile m (made_series make)).all) }
+{
+    let samples = made_samples(alloc, make)?;
+    self_join(rt, alloc, samples.as_slice(), m, tile, workers, gate)
 }
 
 /// The samples that are made.
-fn samples(alloc: Global, make: Make) -> Result<Samples, Memory>
-    requires { make.count ≤ max_samples }
-    ensures { IfOk result (λ samples. samples.items ≡ map (sample_of make.number) (range_with_len 0 make.count)) }
-{
-    let list = listed(alloc, make)?;
-    match Samples::of(alloc, list.as_slice()) {
-        Ok(samples) => Ok(samples),
-        Err(PushRefusal::Memory) => Err(Memory),
-        Err(PushRefusal::Full) => unreachable!(),
-    }
-}
-
-fn listed(alloc: Global, make: Make) -> Result<Vec<Sample>, AllocError>
+fn made_samples(alloc: Global, make: Make) -> Result<Vec<Sample>, AllocError>
     ensures { IfOk result (λ list. list.items ≡ map (sample_of make.number) (range_with_len 0 make.count)) }
 {
     (0..make.count)
         .map(|i| sample_at(make.number, i))
         .collect(alloc)
+}
+
+/// The summary of so many samples, by their profile.
+fn text_of(alloc: Global, m: u32, samples: u64, profile: &Profile) -> Result<Text, Memory>
+    requires longest { m ≤ max_window }
+    requires few { length profile.now.all ≤ max_samples }
+    requires named { NameWithin (indices_of profile.now.all) }
+    ensures { IfOk result (λ text. text.items ≡ summary_by m samples profile.now.all) }
+{
+    let curve = curve(alloc, profile.all(), m)?;
+    let regime = first_regime(alloc, curve.as_slice(), m)?;
+    generated_text(alloc, samples, profile, excl(m), regime, curve.as_slice())
 }
 
 /// The corrected arc curve of a profile's entries.

@@ -17,10 +17,10 @@ use Rattle.mp_defs.specs.Distance.{distance}
 use Rattle.mp_defs.specs.Profile.{windows_of}
 use Rattle.mp_picks.specs.Picks.{first_of, picks}
 use Rattle.mp_picks.specs.PickLaws.{contains_first, kept_passes}
-use Rattle.mp_slide.specs.Slide.{square}
-use Rattle.mp_motifs.specs.Order.{near_cmp, index_of, outside_all}
-use Rattle.mp_motifs.specs.Matches.{within_radius}
-use Rattle.mp_motifs.specs.Motifs.{distances_from, matches_of}
+use Rattle.mp_results.specs.Slide.{square}
+use Rattle.mp_results.specs.Order.{near_cmp, index_of, outside_all}
+use Rattle.mp_results.specs.Matches.{within_radius}
+use Rattle.mp_results.specs.Motifs.{distances_from, matches_of}
 use Rattle.mp_motifs.proofs.MatchLemmas.{within_is}
 use Rattle.mp_motifs.proofs.Windows.{IsCandidate, free_within}
 

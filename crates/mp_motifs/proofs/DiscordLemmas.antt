@@ -15,7 +15,7 @@ use Rattle.mp_picks.specs.Candidates.{by_key, place_of, candidate_at, candidates
 use Rattle.mp_picks.specs.PickLaws.{picks_described}
 use Rattle.mp_picks.specs.Retelling.{picks_retold}
 use Rattle.mp_motifs.specs.declared.unusual.Peak.{Peak}
-use Rattle.mp_motifs.specs.Discords.{discord_cmp, start_of, discord_at, with_entry, discords}
+use Rattle.mp_results.specs.Discords.{discord_cmp, start_of, discord_at, with_entry, discords}
 use Rattle.mp_motifs.specs.Described.{AreDiscords}
 use Rattle.mp_motifs.specs.Retold.{peak_key, discord_of}
 use Rattle.mp_motifs.proofs.Listed.{ComesFrom, source, listed}

@@ -20,8 +20,8 @@ use Rattle.mp_picks.specs.Candidates.{by_key, place_of, candidate_at, candidates
 use Rattle.mp_picks.specs.CandidateLaws.{second_ties, same_number}
 use Rattle.mp_picks.specs.PickLaws.{picks_described}
 use Rattle.mp_picks.specs.Retelling.{picks_retold}
-use Rattle.mp_motifs.specs.Order.{near_cmp, index_of, outside_all}
-use Rattle.mp_motifs.specs.Matches.{near_within, within_radius, given, matches}
+use Rattle.mp_results.specs.Order.{near_cmp, index_of, outside_all}
+use Rattle.mp_results.specs.Matches.{near_within, within_radius, given, matches}
 use Rattle.mp_motifs.specs.Described.{AreMatches}
 use Rattle.mp_motifs.specs.Retold.{match_key, near_of}
 use Rattle.mp_motifs.proofs.Listed.{ComesFrom, source, listed}

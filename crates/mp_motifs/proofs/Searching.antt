@@ -21,8 +21,8 @@ use Rattle.mp_picks.specs.Picks.{first_of}
 use Rattle.mp_picks.specs.PickLaws.{contains_first, contains_later, contains_cases, contains_nothing, kept_passes}
 use Rattle.mp_picks.specs.PickLaws.{passes_kept, swapped, first_itself, first_is_first, first_is_found}
 use Rattle.mp_picks.specs.PickLaws.{none_first}
-use Rattle.mp_motifs.specs.Order.{near_cmp, outside_all}
-use Rattle.mp_motifs.specs.Motifs.{Repeated, repeated_of, motifs_among}
+use Rattle.mp_results.specs.Order.{near_cmp, outside_all}
+use Rattle.mp_results.specs.Motifs.{Repeated, repeated_of, motifs_among}
 use Rattle.mp_motifs.proofs.MatchLemmas.{near_total, near_told_apart}
 
 -- what stands in a list after all of it is written over

@@ -21,8 +21,8 @@ use Rattle.mp_defs.specs.Window.{is_free, is_allowed}
 use Rattle.mp_defs.specs.Laws.{DistanceIsOfFreeWindows, EntriesAreNearest, IsNearest, IsNearestWindow}
 use Rattle.mp_defs.specs.Distance.{square_gap, square_between, plus, distance}
 use Rattle.mp_defs.specs.Profile.{windows_of}
-use Rattle.mp_slide.specs.Slide.{square, distances_of}
-use Rattle.mp_motifs.specs.Motifs.{HasEntryDistance}
+use Rattle.mp_results.specs.Slide.{square, distances_of}
+use Rattle.mp_results.specs.Motifs.{HasEntryDistance}
 
 -- ---- samples of a window
 

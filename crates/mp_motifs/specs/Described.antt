@@ -6,8 +6,8 @@ use Rattle.mp_nums.specs.declared.finds.Discord.{Discord}
 use Rattle.mp_nums.specs.declared.nearest.Near.{Near}
 use Rattle.mp_nums.specs.declared.nearest.Sq.{Sq}
 use Rattle.mp_picks.specs.Laws.{IsAnswered}
-use Rattle.mp_motifs.specs.Order.{near_cmp, index_of}
-use Rattle.mp_motifs.specs.Discords.{discord_cmp, start_of}
+use Rattle.mp_results.specs.Order.{near_cmp, index_of}
+use Rattle.mp_results.specs.Discords.{discord_cmp, start_of}
 
 -- without a first place: the list has at most so many windows within the radius, each comes before those behind it,
 -- and no two are closer than the zone. Every window within the radius is in the list, or in the zone of one of the list

@@ -4,10 +4,10 @@ use Rattle.mp_nums.specs.declared.finds.Discord.{Discord}
 use Rattle.mp_nums.specs.declared.nearest.Near.{Near}
 use Rattle.mp_nums.specs.declared.nearest.Sq.{Sq}
 use Rattle.mp_defs.specs.Series.{Series}
-use Rattle.mp_slide.specs.Slide.{square}
-use Rattle.mp_motifs.specs.Discords.{discords}
-use Rattle.mp_motifs.specs.Matches.{matches}
-use Rattle.mp_motifs.specs.Motifs.{Repeated, MotifQuery, motifs}
+use Rattle.mp_results.specs.Slide.{square}
+use Rattle.mp_results.specs.Discords.{discords}
+use Rattle.mp_results.specs.Matches.{matches}
+use Rattle.mp_results.specs.Motifs.{Repeated, MotifQuery, motifs}
 
 abbrev found : ℕ → ℕ → Near
 found dist index = record { dist = square dist; index = index }

@@ -4,8 +4,6 @@
 mod examples;
 mod matching;
 mod repeated;
-#[cfg(test)]
-mod tests;
 mod unusual;
 
 pub use examples::{discords_by_hand, matches_by_hand, motifs_by_hand};

@@ -4,7 +4,7 @@ ghost use Rattle.std.specs.Prelude.{◌≡◌, ◌-◌, ◌≤◌, ◌++◌, len
 ghost use Rattle.std.specs.List.{enumerate_from};
 ghost use Rattle.std.specs.Option.{ForSome, option_to_list};
 ghost use Rattle.mp_motifs.specs.Described.{AreMatches};
-ghost use Rattle.mp_motifs.specs.Matches.{given, matches};
+ghost use Rattle.mp_results.specs.Matches.{given, matches};
 ghost use Rattle.mp_motifs.specs.Retold.{match_key, near_of};
 
 use mp_nums::{Items, Memory, Near, NearList, Sq};

@@ -7,8 +7,8 @@ ghost use Rattle.std.specs.List.Sorted.{IsPermutation, IsSorted};
 ghost use Rattle.mp_defs.specs.Series.{series_of};
 ghost use Rattle.mp_defs.specs.Window as window;
 ghost use Rattle.mp_defs.specs.Profile.{matrix_profile};
-ghost use Rattle.mp_motifs.specs.Order.{near_cmp};
-ghost use Rattle.mp_motifs.specs.Motifs.{
+ghost use Rattle.mp_results.specs.Order.{near_cmp};
+ghost use Rattle.mp_results.specs.Motifs.{
   HasEntryDistance,
   distances_from,
   entry_within,

@@ -2,7 +2,7 @@
 
 ghost use Rattle.std.specs.Prelude.{◌≡◌, ◌≤◌, map, IfOk};
 ghost use Rattle.mp_motifs.specs.Described.{AreDiscords};
-ghost use Rattle.mp_motifs.specs.Discords.{discords};
+ghost use Rattle.mp_results.specs.Discords.{discords};
 ghost use Rattle.mp_motifs.specs.Retold.{discord_of, peak_key, peak_of};
 
 use mp_nums::{Discord, Memory, Near, Slot, Sq};

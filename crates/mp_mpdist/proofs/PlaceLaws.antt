@@ -10,7 +10,8 @@ use Rattle.std.proofs.lemmas.Bool.Decides.{nat_tests}
 use Rattle.std.proofs.lemmas.List.Elements.{All-nil, All-cons}
 use Rattle.std.proofs.lemmas.List.Sums.{count_by-le-length}
 use Rattle.mp_nums.specs.declared.nearest.Sq.{Sq}
-use Rattle.mp_mpdist.specs.Distances.{distances_of, in_rising_order, place_of, at_or_greatest, square, mpdist_of}
+use Rattle.mp_results.specs.Mpdist.{distances_of, in_rising_order, place_of, at_or_greatest, mpdist_of}
+use Rattle.mp_results.specs.Slide.{square}
 use Rattle.mp_mpdist.specs.Laws.{IsAtPlace, IsGreatest, MpdistIsAtItsPlace, PlacesHaveOneItem}
 use Rattle.mp_mpdist.proofs.Counts.{tally, count_by-cons}
 use Rattle.mp_mpdist.proofs.Rising.{less_than, up_to, IsRising-in_rising_order, count_by-in_rising_order}

@@ -6,7 +6,7 @@ use Rattle.std.specs.Prelude.{nat_le, nat_lt, if◌then◌else◌}
 use Rattle.std.proofs.lemmas.List.Elements.{All-from_recursion, All-get_or, All-weaker}
 use Rattle.std.proofs.lemmas.Bool.{cases_lt}
 use Rattle.std.proofs.lemmas.Bool.Decides.{nat_tests}
-use Rattle.mp_mpdist.specs.Distances.{inserted, in_rising_order}
+use Rattle.mp_results.specs.Mpdist.{inserted, in_rising_order}
 use Rattle.mp_mpdist.proofs.Counts.{tally, count_by-cons, count_by-none}
 
 abbrev pub AllFrom : ℕ → List ℕ → Type 0

@@ -7,7 +7,7 @@ use Rattle.std.proofs.lemmas.Bool.Decides.{nat_tests}
 use Rattle.std.proofs.lemmas.List.Sums.{sum_by-append, count_by-le-length}
 use Rattle.std.proofs.lemmas.List.Sorted.{sum_by-IsPermutation}
 use Rattle.std.proofs.lemmas.Option.{slice_get-get_or}
-use Rattle.mp_mpdist.specs.Distances.{in_rising_order, at_or_greatest}
+use Rattle.mp_results.specs.Mpdist.{in_rising_order, at_or_greatest}
 use Rattle.mp_mpdist.proofs.Counts.{tally, count_by-cons, count_by-all, count_by-none}
 use Rattle.mp_mpdist.proofs.Rising.{less_than, up_to, IsRising-in_rising_order, count_by-in_rising_order}
 use Rattle.mp_mpdist.proofs.Rising.{length-in_rising_order, only_at_place}

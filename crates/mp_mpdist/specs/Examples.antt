@@ -2,7 +2,7 @@
 use Rattle.std.specs.Prelude.{◌≡◌, ℕ, [], ◌∷◌, Option, Some, None}
 use Rattle.mp_nums.specs.declared.nearest.Near.{Near}
 use Rattle.mp_nums.specs.declared.nearest.Sq.{Sq}
-use Rattle.mp_mpdist.specs.Distances.{mpdist_of}
+use Rattle.mp_results.specs.Mpdist.{mpdist_of}
 
 abbrev at : ℕ → ℕ → Option Near
 at d j = Some (record { dist = record { 0 = d }; index = j })

@@ -2,7 +2,7 @@
 use Rattle.std.specs.Prelude.{◌≡◌, ℕ, ◌<◌, ◌≤◌, nat_le, nat_lt, List, [], ◌++◌, length, All, Contains, count_by}
 use Rattle.std.specs.Prelude.{MatchOption, Option}
 use Rattle.mp_nums.specs.declared.nearest.Near.{Near}
-use Rattle.mp_mpdist.specs.Distances.{distances_of, place_of, mpdist_of}
+use Rattle.mp_results.specs.Mpdist.{distances_of, place_of, mpdist_of}
 
 -- one of the distances, so that more than `place` of them are at most it, and at most `place` are less
 pub record IsAtPlace (place : ℕ) (distances : List ℕ) (answer : ℕ) : Type 0 where

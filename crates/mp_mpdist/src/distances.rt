@@ -2,8 +2,8 @@ ghost use Rattle.std.specs.Prelude.{◌≡◌, ◌≤◌, ◌++◌, IfOk, OnOk};
 ghost use Rattle.std.specs.List.{filter_map};
 ghost use Rattle.std.specs.Option.{option_map};
 ghost use Rattle.mp_series.specs.declared.limits.TheConstants.{MAX_SAMPLES};
-ghost use Rattle.mp_mpdist.specs.Distances.{distance_in, distances_of, in_rising_order, at_or_greatest, square};
-ghost use Rattle.mp_mpdist.specs.Distances.{mpdist_of};
+ghost use Rattle.mp_results.specs.Mpdist.{distance_in, distances_of, in_rising_order, at_or_greatest, mpdist_of};
+ghost use Rattle.mp_results.specs.Slide.{square};
 
 use mp_nums::{Memory, Slot, Sq};
 use mp_series::MAX_SAMPLES;

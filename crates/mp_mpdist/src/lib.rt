@@ -8,6 +8,3 @@ mod laws;
 pub use distances::mpdist;
 pub use examples::worked_distances;
 pub use laws::{mpdist_is_at_its_place, places_have_one_item};
-
-#[cfg(test)]
-mod tests;

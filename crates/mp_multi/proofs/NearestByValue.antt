@@ -9,7 +9,7 @@ use Rattle.mp_defs.specs.Window.{is_allowed}
 use Rattle.mp_defs.specs.Least.{near_at, at_distance, candidate}
 use Rattle.mp_defs.specs.Laws.{IsLeast}
 use Rattle.mp_defs.specs.LeastLaws.{near_is_first}
-use Rattle.mp_multi.specs.Multi.{windows_in, pair_value, multi_entry}
+use Rattle.mp_results.specs.Multi.{windows_in, pair_value, multi_entry}
 use Rattle.mp_multi.specs.Laws.{IsNearestByValue, EntryIsNearest}
 
 none_some : (x : Near) → None ≡ Some x → ⊥

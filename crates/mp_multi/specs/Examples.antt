@@ -3,7 +3,7 @@ use Rattle.std.specs.Prelude.{◌≡◌, ℕ, ℤ, pos, [], ◌∷◌, Option, S
 use Rattle.mp_nums.specs.declared.nearest.Near.{Near}
 use Rattle.mp_defs.specs.Series.{Series}
 use Rattle.mp_defs.specs.Least.{near_at}
-use Rattle.mp_multi.specs.Multi.{multi_of}
+use Rattle.mp_results.specs.Multi.{multi_of}
 
 abbrev found : ℕ → ℕ → Option Near
 found d j = Some (near_at j d)

@@ -5,8 +5,8 @@ use Rattle.mp_nums.specs.declared.nearest.Near.{Near}
 use Rattle.mp_defs.specs.Series.{Series}
 use Rattle.mp_defs.specs.Window.{is_allowed}
 use Rattle.mp_defs.specs.Distance.{plus}
-use Rattle.mp_multi.specs.Rising.{rising, sum_of_first}
-use Rattle.mp_multi.specs.Multi.{windows_in, pair_value, multi_entry}
+use Rattle.mp_results.specs.Rising.{rising, sum_of_first}
+use Rattle.mp_results.specs.Multi.{windows_in, pair_value, multi_entry}
 
 -- ---- choices of places
 

@@ -1,5 +1,3 @@
-pub mod Rising
-pub mod Multi
 pub mod Conditions
 pub mod Laws
 pub mod Examples

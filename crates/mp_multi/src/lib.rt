@@ -9,6 +9,3 @@ mod values;
 pub use examples::worked_profiles;
 pub use laws::{entry_is_nearest, sum_is_least};
 pub use profiles::{MAX_CHANNELS, multi};
-
-#[cfg(test)]
-mod tests;

@@ -3,7 +3,7 @@
 ghost use Rattle.std.specs.Prelude.{◌≡◌, ◌+◌, ◌-◌, ◌≤◌, length, map, slice_index_or, [], IfOk};
 ghost use Rattle.std.specs.List.{range_with_len};
 ghost use Rattle.mp_defs.specs.Series.{series_of};
-ghost use Rattle.mp_multi.specs.Multi.{multi_entry, multi_of};
+ghost use Rattle.mp_results.specs.Multi.{multi_entry, multi_of};
 ghost use Rattle.mp_multi.specs.Conditions.{AreChannels, HaveOneLength};
 
 use crate::values::pair_value;

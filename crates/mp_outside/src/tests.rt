@@ -6,10 +6,10 @@ mod gates;
 mod real_streams;
 
 use crate::{
-    CalmShelf, CalmSink, CalmSource, Failed, LoopSource, MemShelf, MemSink, MemSource, Shelf,
-    ShelfAnswer, Sink, Source,
+    CalmShelf, CalmSink, CalmSource, Failed, MemShelf, MemSink, Shelf, ShelfAnswer, Sink, Source,
 };
 use std::alloc::{AllocError, Global};
+use std::process::Abort;
 use std::test::Fail;
 
 // All that was left, or `None` where a read failed or the source gives too much.
@@ -70,101 +70,53 @@ fn a_source_in_memory_gives_its_bytes(rt: HostRuntime) -> Result<(), Fail> {
     Ok(())
 }
 
-#[test]
-fn a_sink_in_memory_tells_its_bytes_up_to_its_room(rt: HostRuntime) -> Result<(), Fail> {
-    let mut sink = CalmSink::new(rt.alloc(), 10)?;
-    assert!(rt; sink.bytes().is_empty());
-    assert_eq!(rt; write_and_flush(&mut sink, b"0123456")?, 7);
-    assert_eq!(rt; write_and_flush(&mut sink, b"789")?, 3);
-    assert_eq!(rt; sink.bytes(), b"0123456789".as_slice());
-    assert_eq!(rt; write_and_flush(&mut sink, b"x")?, 1);
-    assert!(rt; sink.bytes().is_empty());
-    assert_eq!(rt; sink.count(), 11);
+// Writes twice, within a room of ten bytes.
+fn expect_room<K: Sink>(rt: &impl Abort, sink: &mut K) -> Result<(), Failed> {
+    assert_eq!(rt; write_and_flush(sink, b"012")?, 3);
+    assert_eq!(rt; write_and_flush(sink, b"345")?, 3);
     Ok(())
 }
 
 #[test]
-fn a_shelf_in_memory_gives_its_files(rt: HostRuntime) -> Result<(), Fail> {
+fn a_calm_sink_tells_its_bytes(rt: HostRuntime) -> Result<(), Fail> {
+    let mut sink = CalmSink::new(rt.alloc(), 10)?;
+    assert!(rt; sink.bytes().is_empty());
+    expect_room(&rt, &mut sink)?;
+    assert_eq!(rt; sink.bytes(), b"012345".as_slice());
+    Ok(())
+}
+
+#[test]
+fn a_sink_in_memory_tells_its_bytes(rt: HostRuntime) -> Result<(), Fail> {
+    let mut sink = MemSink::new(rt.alloc(), 10, 3, Vec::new(rt.alloc()))?;
+    assert!(rt; sink.bytes().is_empty());
+    expect_room(&rt, &mut sink)?;
+    assert_eq!(rt; sink.bytes(), b"012345".as_slice());
+    Ok(())
+}
+
+// Expects a file of three bytes under `a`, and none under `b`.
+fn expect_file<R: Abort + AllocGlobal, H: Shelf>(rt: &R, shelf: &mut H) -> Result<(), Fail> {
+    let found = fetch(rt.alloc(), shelf, b"a", 3)?;
+    assert_eq!(rt; found.as_slice(), b"123".as_slice());
+    for (name, answer) in [(b"a", ShelfAnswer::TooLarge), (b"b", ShelfAnswer::Absent)] {
+        assert_eq!(rt; fetch(rt.alloc(), shelf, name, 2).err(), Some(answer));
+    }
+    Ok(())
+}
+
+#[test]
+fn a_calm_shelf_gives_its_file(rt: HostRuntime) -> Result<(), Fail> {
     let alloc = rt.alloc();
     let mut shelf = CalmShelf::new(alloc);
     shelf.put(b"a".to_vec(alloc)?, b"123".to_vec(alloc)?)?;
-    shelf.put(b"b".to_vec(alloc)?, b"456".to_vec(alloc)?)?;
-    assert_eq!(rt;
-        fetch(alloc, &mut shelf, b"a", 2).err(),
-        Some(ShelfAnswer::TooLarge)
-    );
-    shelf.put(b"a".to_vec(alloc)?, b"1".to_vec(alloc)?)?;
-    assert_eq!(rt;
-        fetch(alloc, &mut shelf, b"a", 2)?.as_slice(),
-        b"1".as_slice()
-    );
-    assert_eq!(rt;
-        fetch(alloc, &mut shelf, b"b", 3)?.as_slice(),
-        b"456".as_slice()
-    );
-    assert_eq!(rt;
-        fetch(alloc, &mut shelf, b"c", 3).err(),
-        Some(ShelfAnswer::Absent)
-    );
-    Ok(())
+    expect_file(&rt, &mut shelf)
 }
 
 #[test]
-fn the_planned_reads_fail(rt: HostRuntime) -> Result<(), Fail> {
+fn a_shelf_in_memory_gives_its_file(rt: HostRuntime) -> Result<(), Fail> {
     let alloc = rt.alloc();
-    let bytes = b"abcdef".to_vec(alloc)?;
-    let mut source = MemSource::new(bytes, 2, [1].to_vec(alloc)?);
-    assert_eq!(rt; read_four(&mut source).ok(), Some(*b"ab.."));
-    assert!(rt; read_four(&mut source).is_err());
-    assert_eq!(rt; read_four(&mut source).ok(), Some(*b"cd.."));
-    Ok(())
-}
-
-#[test]
-fn the_planned_writes_and_flushes_fail(rt: HostRuntime) -> Result<(), Fail> {
-    let alloc = rt.alloc();
-    let mut sink = MemSink::new(alloc, 10, 3, [1, 2].to_vec(alloc)?)?;
-    assert!(rt; sink.bytes().is_empty());
-    assert!(rt; write_and_flush(&mut sink, b"0123").is_err());
-    assert_eq!(rt; sink.bytes(), b"012".as_slice());
-    assert!(rt; write_and_flush(&mut sink, b"3").is_err());
-    assert_eq!(rt; write_and_flush(&mut sink, b"3456")?, 3);
-    assert_eq!(rt; sink.bytes(), b"012345".as_slice());
-    assert_eq!(rt; write_and_flush(&mut sink, b"67")?, 2);
-    assert_eq!(rt; write_and_flush(&mut sink, b"890")?, 3);
-    assert!(rt; sink.bytes().is_empty());
-    assert_eq!(rt; sink.count(), 11);
-    Ok(())
-}
-
-#[test]
-fn the_planned_fetches_fail(rt: HostRuntime) -> Result<(), Fail> {
-    let alloc = rt.alloc();
-    let mut shelf = MemShelf::new(alloc, [1].to_vec(alloc)?);
-    shelf.put(b"a".to_vec(alloc)?, b"1".to_vec(alloc)?)?;
-    assert_eq!(rt;
-        fetch(alloc, &mut shelf, b"a", 1)?.as_slice(),
-        b"1".as_slice()
-    );
-    assert_eq!(rt;
-        fetch(alloc, &mut shelf, b"a", 1).err(),
-        Some(ShelfAnswer::Failed)
-    );
-    assert_eq!(rt;
-        fetch(alloc, &mut shelf, b"a", 0).err(),
-        Some(ShelfAnswer::TooLarge)
-    );
-    assert_eq!(rt;
-        fetch(alloc, &mut shelf, b"b", 1).err(),
-        Some(ShelfAnswer::Absent)
-    );
-    Ok(())
-}
-
-#[test]
-fn a_byte_is_given_again_and_again(rt: HostRuntime) {
-    let mut source = LoopSource::new(b'#');
-    for _ in 0..3 {
-        assert_eq!(rt; read_four(&mut source).ok(), Some(*b"####"));
-    }
+    let mut shelf = MemShelf::new(alloc, Vec::new(alloc));
+    shelf.put(b"a".to_vec(alloc)?, b"123".to_vec(alloc)?)?;
+    expect_file(&rt, &mut shelf)
 }

@@ -6,8 +6,6 @@ mod candidates;
 mod examples;
 mod laws;
 mod picking;
-#[cfg(test)]
-mod tests;
 mod zones;
 
 pub use candidates::Candidate;

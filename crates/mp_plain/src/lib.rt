@@ -5,8 +5,6 @@
 mod distances;
 mod joins;
 mod profiles;
-#[cfg(test)]
-mod tests;
 
 pub use distances::distance;
 pub use joins::join;

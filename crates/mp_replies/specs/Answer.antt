@@ -5,8 +5,8 @@ use Rattle.mp_nums.specs.declared.nearest.Near.{Near}
 use Rattle.mp_nums.specs.declared.nearest.Sq.{Sq}
 use Rattle.mp_defs.specs.Profile.{Columns}
 use Rattle.mp_defs.specs.Series.{Series}
-use Rattle.mp_motifs.specs.Motifs.{Repeated}
-use Rattle.mp_consensus.specs.Consensus.{Central}
+use Rattle.mp_results.specs.Motifs.{Repeated}
+use Rattle.mp_results.specs.Consensus.{Central}
 use Rattle.mp_replies.specs.declared.causes.Cause.{Cause}
 
 -- what an accepted command reports

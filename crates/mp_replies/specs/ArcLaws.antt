@@ -9,10 +9,8 @@ use Rattle.std.proofs.lemmas.List.FromFn.{length-map-range_with_len}
 use Rattle.std.proofs.lemmas.Option.{get_or_from_slice_get, slice_get_within}
 use Rattle.mp_nums.specs.declared.nearest.Near.{Near}
 use Rattle.mp_nums.specs.declared.ratios.Ratio.{Ratio}
-use Rattle.mp_arcs.specs.Arcs.{arc_count, arcs_of, index_of, indices_of}
-use Rattle.mp_arcs.specs.Board.{NameWithin}
-use Rattle.mp_arcs.specs.Laws.{ArcsAreFew}
-use Rattle.mp_arcs.specs.Regimes.{AreRegimes, below_one, low_places}
+use Rattle.mp_results.specs.Arcs.{arc_count, arcs_of, index_of, indices_of, NameWithin, ArcsAreFew}
+use Rattle.mp_results.specs.Regimes.{AreRegimes, below_one, low_places}
 use Rattle.mp_defs.specs.ColumnLaws.{columns_have_places}
 use Rattle.mp_defs.specs.Laws.{IsNearest}
 use Rattle.mp_defs.specs.Limits.{max_samples, min_window}

@@ -1,6 +1,6 @@
 -- `chain R J`: the chain from one window of a channel.
 use Rattle.std.specs.Prelude.{ℕ, List, [], ◌∷◌, ◌++◌, length, codes, decimal, flat_map, Option, None, option_map}
-use Rattle.mp_chains.specs.Chains.{chain_from}
+use Rattle.mp_results.specs.Chains.{chain_from}
 use Rattle.mp_defs.specs.Profile.{Columns, matrix_profile}
 use Rattle.mp_replies.specs.Answer.{Report, ChainReport}
 use Rattle.mp_replies.specs.Command.{Command, Chain}

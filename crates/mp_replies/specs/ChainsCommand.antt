@@ -1,6 +1,6 @@
 -- `chains R`: all chains of a channel.
 use Rattle.std.specs.Prelude.{ℕ, List, [], ◌∷◌, ◌++◌, length, codes, decimal, flat_map, Option, Some, None, option_map}
-use Rattle.mp_chains.specs.Chains.{chains_of as all_chains_of, longest_of}
+use Rattle.mp_results.specs.Chains.{chains_of as all_chains_of, longest_of}
 use Rattle.mp_defs.specs.Profile.{Columns, matrix_profile}
 use Rattle.mp_replies.specs.Answer.{Report, ChainsReport}
 use Rattle.mp_replies.specs.Command.{Command, Chains}

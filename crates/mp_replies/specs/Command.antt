@@ -1,6 +1,6 @@
 -- The commands.
 use Rattle.std.specs.Prelude.{ℕ, Bool, List}
-use Rattle.mp_motifs.specs.Motifs.{MotifQuery}
+use Rattle.mp_results.specs.Motifs.{MotifQuery}
 use Rattle.mp_replies.specs.declared.refs.Ref.{Ref}
 
 pub data Command : Type 0 where

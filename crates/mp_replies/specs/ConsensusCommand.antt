@@ -3,7 +3,7 @@ use Rattle.std.specs.Prelude.{ℕ, Bool, ◌&&◌, nat_le, List, [], ◌∷◌, 
 use Rattle.std.specs.Prelude.{Option, Some, None, option_map}
 use Rattle.std.specs.List.{enumerate_from}
 use Rattle.mp_nums.specs.declared.nearest.Near.{Near}
-use Rattle.mp_consensus.specs.Consensus.{Central, centre_of}
+use Rattle.mp_results.specs.Consensus.{Central, centre_of}
 use Rattle.mp_replies.specs.Answer.{Report, ConsensusReport}
 use Rattle.mp_replies.specs.Command.{Command, Consensus}
 use Rattle.mp_replies.specs.Conditions.{Condition, no_slots, no_channels}

@@ -3,7 +3,7 @@ use Rattle.std.specs.Prelude.{ℕ, List, [], ◌∷◌, ◌++◌, length, codes,
 use Rattle.mp_nums.specs.declared.finds.Discord.{Discord}
 use Rattle.mp_defs.specs.Profile.{matrix_profile}
 use Rattle.mp_defs.specs.Window.{excl}
-use Rattle.mp_motifs.specs.Discords.{discords}
+use Rattle.mp_results.specs.Discords.{discords}
 use Rattle.mp_replies.specs.Answer.{Report, DiscordsReport}
 use Rattle.mp_replies.specs.Command.{Command, Discords}
 use Rattle.mp_replies.specs.Conditions.{Condition, no_slot, no_channel}

@@ -34,3 +34,4 @@ pub mod CutLaws
 pub mod LimitLaws
 pub mod ArcLaws
 pub mod Examples
+pub mod Profiles

@@ -3,8 +3,8 @@ use Rattle.std.specs.Prelude.{ℕ, not, List, [], ◌∷◌, ◌++◌, length, c
 use Rattle.mp_nums.specs.declared.nearest.Near.{Near}
 use Rattle.mp_defs.specs.Series.{Series}
 use Rattle.mp_defs.specs.Window.{excl, is_free}
-use Rattle.mp_slide.specs.Slide.{distances_of}
-use Rattle.mp_motifs.specs.Matches.{matches}
+use Rattle.mp_results.specs.Slide.{distances_of}
+use Rattle.mp_results.specs.Matches.{matches}
 use Rattle.mp_replies.specs.declared.causes.Cause.TheVariants.{Missing}
 use Rattle.mp_replies.specs.Answer.{Report, MatchReport}
 use Rattle.mp_replies.specs.Command.{Command, Match}

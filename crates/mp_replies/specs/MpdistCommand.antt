@@ -3,7 +3,7 @@ use Rattle.std.specs.Prelude.{ℕ, List, [], ◌∷◌, ◌++◌, length, codes,
 use Rattle.mp_nums.specs.declared.nearest.Sq.{Sq}
 use Rattle.mp_defs.specs.Profile.{ab_join}
 use Rattle.mp_defs.specs.Series.{Series}
-use Rattle.mp_mpdist.specs.Distances.{mpdist_of}
+use Rattle.mp_results.specs.Mpdist.{mpdist_of}
 use Rattle.mp_replies.specs.Answer.{Report, MpdistReport}
 use Rattle.mp_replies.specs.Command.{Command, Mpdist}
 use Rattle.mp_replies.specs.Conditions.{Condition, no_slots, no_channels}

@@ -1,7 +1,7 @@
 -- `multi S K`: the multidimensional profile of a slot's channels, K of them together.
 use Rattle.std.specs.Prelude.{ℕ, ◌||◌, not, nat_le, List, [], ◌∷◌, ◌++◌, length, codes, Option, None, option_map}
 use Rattle.mp_nums.specs.declared.nearest.Near.{Near}
-use Rattle.mp_multi.specs.Multi.{multi_of as multi_profile}
+use Rattle.mp_results.specs.Multi.{multi_of as multi_profile}
 use Rattle.mp_replies.specs.declared.causes.Cause.TheVariants.{Channel}
 use Rattle.mp_replies.specs.Answer.{Report, MultiReport}
 use Rattle.mp_replies.specs.Command.{Command, Multi}

@@ -2,9 +2,9 @@
 use Rattle.std.specs.Prelude.{ℕ, ◌*◌, List, [], ◌∷◌, ◌++◌, length, slice_index_or, codes, decimal, flat_map}
 use Rattle.std.specs.Prelude.{Option, None, option_map}
 use Rattle.mp_nums.specs.declared.nearest.Near.{Near}
-use Rattle.mp_arcs.specs.Arcs.{arcs_of, indices_of}
-use Rattle.mp_arcs.specs.Curve.{curve_of, whole}
-use Rattle.mp_arcs.specs.Regimes.{regimes_in}
+use Rattle.mp_results.specs.Arcs.{arcs_of, indices_of}
+use Rattle.mp_results.specs.Curve.{curve_of, whole}
+use Rattle.mp_results.specs.Regimes.{regimes_in}
 use Rattle.mp_defs.specs.Profile.{matrix_profile}
 use Rattle.mp_replies.specs.Answer.{Report, SegmentsReport}
 use Rattle.mp_replies.specs.Command.{Command, Segments}

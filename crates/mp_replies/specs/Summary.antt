@@ -6,12 +6,12 @@ use Rattle.std.specs.Ordering.{nat_cmp, on, then_cmp}
 use Rattle.std.specs.declared.cmp.Ordering.{Ordering}
 use Rattle.mp_nums.specs.declared.finds.Discord.{Discord}
 use Rattle.mp_nums.specs.declared.nearest.Near.{Near}
-use Rattle.mp_arcs.specs.Regimes.{regimes_in}
+use Rattle.mp_results.specs.Regimes.{regimes_in}
 use Rattle.mp_defs.specs.Profile.{matrix_profile}
 use Rattle.mp_defs.specs.Series.{Series, series_of}
 use Rattle.mp_defs.specs.Window.{excl}
-use Rattle.mp_gen.specs.Generator.{sample_of}
-use Rattle.mp_motifs.specs.Discords.{discords, with_entry}
+use Rattle.mp_results.specs.Generator.{sample_of}
+use Rattle.mp_results.specs.Discords.{discords, with_entry}
 use Rattle.mp_picks.specs.Picks.{first_of}
 use Rattle.mp_replies.specs.SegmentsCommand.{curve_in, segment_text}
 use Rattle.mp_replies.specs.declared.makes.Make.{Make}

@@ -4,7 +4,7 @@ use Rattle.std.proofs.Common.{drop-cons}
 use Rattle.std.proofs.Math.Seq.{drop-length}
 use Rattle.std.specs.Prelude.{Option, Some, None, filter_map}
 use Rattle.std.specs.List.{cons_option, enumerate_from}
-use Rattle.mp_motifs.specs.Discords.{discord_at}
+use Rattle.mp_results.specs.Discords.{discord_at}
 use Rattle.mp_nums.specs.declared.finds.Discord.{Discord}
 use Rattle.mp_nums.specs.declared.nearest.Near.{Near}
 use Rattle.mp_picks.specs.Picks.{first_of}

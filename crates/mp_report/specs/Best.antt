@@ -1,6 +1,6 @@
 -- The best window, by the first of the windows.
 use Rattle.std.specs.Prelude.{ℕ, Option, Some, None}
-use Rattle.mp_motifs.specs.Discords.{discord_at}
+use Rattle.mp_results.specs.Discords.{discord_at}
 use Rattle.mp_nums.specs.declared.finds.Discord.{Discord}
 use Rattle.mp_nums.specs.declared.nearest.Near.{Near}
 use Rattle.mp_picks.specs.Picks.{earlier_of}

@@ -2,7 +2,7 @@
 
 ghost use Rattle.std.specs.Prelude.{◌≡◌, ◌++◌, flat_map, option_map, OnOk, IfOk};
 ghost use Rattle.std.specs.List.{enumerate_from};
-ghost use Rattle.mp_consensus.specs.Consensus.{central};
+ghost use Rattle.mp_results.specs.Consensus.{central};
 ghost use Rattle.mp_replies.specs.ConsensusCommand.{centre_text, consensus_text as consensus_text_of, place_near_text};
 ghost use Rattle.mp_replies.specs.MpdistCommand.{mpdist_text as mpdist_text_of, square_text};
 

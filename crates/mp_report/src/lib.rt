@@ -10,8 +10,6 @@ mod profiles;
 mod segments;
 mod slots;
 mod summaries;
-#[cfg(test)]
-mod tests;
 
 pub use answers::{ok_text, refused_text};
 pub use chains::{chain_text, chains_text};

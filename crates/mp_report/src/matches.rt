@@ -1,7 +1,7 @@
 //! Reports of windows that match others, and of those that none comes near.
 
 ghost use Rattle.std.specs.Prelude.{◌≡◌, ◌++◌, flat_map, map, OnOk, IfOk};
-ghost use Rattle.mp_motifs.specs.Motifs.{repeated_of};
+ghost use Rattle.mp_results.specs.Motifs.{repeated_of};
 ghost use Rattle.mp_replies.specs.DiscordsCommand.{discord_text, discords_text as discords_text_of};
 ghost use Rattle.mp_replies.specs.MatchCommand.{match_text as match_text_of};
 ghost use Rattle.mp_replies.specs.MotifsCommand.{motif_text, motifs_text as motifs_text_of};

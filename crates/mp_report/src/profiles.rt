@@ -6,7 +6,7 @@ ghost use Rattle.mp_replies.specs.EntryCommand.{entry_in};
 ghost use Rattle.mp_replies.specs.ProfileCommand.{profile_text as profile_text_of, rows_text};
 ghost use Rattle.mp_replies.specs.Report.{report_text};
 ghost use Rattle.mp_replies.specs.WindowCommand.{samples_text, window_text as window_text_of};
-ghost use Rattle.mp_report.specs.Profiles.{columns_in};
+ghost use Rattle.mp_replies.specs.Profiles.{columns_in};
 
 use crate::numbers::{push_number, push_row, reserve_lines};
 use mp_nums::{Memory, Sample, Text};

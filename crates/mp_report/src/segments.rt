@@ -1,7 +1,7 @@
 //! Reports of changes of regime.
 
 ghost use Rattle.std.specs.Prelude.{◌≡◌, ◌<◌, ◌++◌, All, flat_map, length, map, OnOk, IfOk};
-ghost use Rattle.mp_arcs.specs.Curve.{parts_of};
+ghost use Rattle.mp_results.specs.Curve.{parts_of};
 ghost use Rattle.mp_replies.specs.SegmentsCommand.{fraction_text, segment_text, segments_text as segments_text_of};
 
 use crate::numbers::{push_head, push_number};

@@ -2,7 +2,7 @@
 
 ghost use Rattle.std.specs.Ordering.{is_lt};
 ghost use Rattle.std.specs.Prelude.{◌≡◌, ◌<◌, ◌++◌, length, map, IfOk, IfSome, OnOk};
-ghost use Rattle.mp_arcs.specs.Curve.{parts_of};
+ghost use Rattle.mp_results.specs.Curve.{parts_of};
 ghost use Rattle.mp_picks.specs.Picks.{earlier_of};
 ghost use Rattle.mp_report.specs.Best.{best_with};
 ghost use Rattle.mp_replies.specs.Summary.{best_cmp, best_in, discord_in, named_text, regime_text, summary_text};

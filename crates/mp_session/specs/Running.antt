@@ -1,5 +1,7 @@
 -- What runs of lines do to a session and to a sink.
-use Rattle.std.specs.Prelude.{◌≡◌, ℕ, ◌+◌, Bool, List, [], ◌∷◌, length, Option}
+use Rattle.std.specs.Prelude.{◌≡◌, ℕ, ◌+◌, Bool, List, [], ◌∷◌, length, Option, Some, None}
+use Rattle.mp_feed.specs.declared.readers.Next.{Next}
+use Rattle.mp_feed.specs.declared.readers.Next.TheVariants.{Line, End}
 use Rattle.mp_outside.specs.declared.sinks.Sink.{Ghosts}
 use Rattle.mp_feed.specs.Writing.{Wrote, WroteFront}
 use Rattle.mp_replies.specs.State.{Files, State}
@@ -39,3 +41,8 @@ pub record WasBegun {Out : Type 0} (sink : Ghosts Out) (told : Option Files) (li
   pub text_is : (state : State) (files : Files) → StandsFor old.session state → ToldForAll told state files (line ∷ [])
       → text ∷ [] ≡ replies state files (line ∷ [])
   pub front : WroteFront sink text old.out new.out
+
+-- what comes next: a line, which is the last one or isn't, or nothing
+abbrev pub next_by : Option Bool → Next
+next_by None = End
+next_by (Some last) = Line last

@@ -1,12 +1,13 @@
 //! Lines run one after another, each with its report.
 
 ghost use Rattle.std.specs.Prelude.{◌≡◌, ◌⊎◌, ℕ, ◌+◌, ◌-◌, ◌^◌, ◌<◌, ◌≤◌, List, [], ◌∷◌, length, IfOk, OnErr, IsErrOf};
-ghost use Rattle.std.specs.Prelude.{true, false};
+ghost use Rattle.std.specs.Prelude.{IsTrue, Some, true, false};
+ghost use Rattle.mp_feed.specs.Reading.{IsFailed, IsNext, bit};
 ghost use Rattle.mp_outside.specs.Counts.{Rose};
 ghost use Rattle.mp_replies.specs.Line.{ends};
 ghost use Rattle.mp_replies.specs.State.{State};
 ghost use Rattle.mp_replies.specs.Step.{fetches};
-ghost use Rattle.mp_session.specs.Running.{WasBegun, WereRun, course_at};
+ghost use Rattle.mp_session.specs.Running.{WasBegun, WereRun, course_at, next_by};
 ghost use Rattle.mp_session.specs.Serving.{RanAll, RanEnded, RanInto, RanSome, RanToFile};
 ghost use Rattle.mp_session.specs.Sessions.{StandsFor};
 
@@ -71,6 +72,32 @@ fn run_line<R: Threads + Sync, H: Shelf, K: Sink, G: Gate>(
     })
 }
 
+/// Goes on to the next line of the input: whether it is the last one, which no LF ends, or none where there is none.
+fn next_line<S: Source>(reader: &mut LineReader, input: &mut S) -> Result<Option<bool>, Halt>
+    requires part { ¬ IsTrue reader.old.holding.whole }
+    requires given { S.given input.old + reader.old.left < 2 ^ 128 - 1 }
+    ensures next { IfOk result (λ last. IsNext reader.old reader.new (S.left input.old) (S.left input.new)
+        (next_by last)) }
+    ensures fewer { IfOk result (λ last. last ≡ Some false
+        → length reader.new.unread + reader.new.left < length reader.old.unread + reader.old.left) }
+    ensures past { IsErrOf result Halt.InputLimit
+        → IsNext reader.old reader.new (S.left input.old) (S.left input.new) Next.PastLimit }
+    ensures failed { IsErrOf result Halt.ReadFault
+        → IsFailed reader.old reader.new (S.left input.old) (S.left input.new) }
+    ensures given { S.given input.new + reader.new.left + bit reader.old.past
+        ≡ S.given input.old + reader.old.left + bit reader.new.past }
+    ensures faults { S.faults input.old ≤ S.faults input.new }
+    ensures cause { IsErrOf result Halt.ReadFault → Rose (S.faults input.old) (S.faults input.new) }
+    ensures only { OnErr result ((result ≡ Err Halt.ReadFault) ⊎ (result ≡ Err Halt.InputLimit)) }
+{
+    match reader.advance(input) {
+        Err(Failed) => Err(Halt::ReadFault),
+        Ok(Next::PastLimit) => Err(Halt::InputLimit),
+        Ok(Next::End) => Ok(None),
+        Ok(Next::Line { last }) => Ok(Some(last)),
+    }
+}
+
 /// Reads the input, and runs its lines up to and with the first that ends the run. The report of each line is written
 /// whole, and the sink flushed, before the next line is run. It answers whether some line was refused.
 pub(crate) fn run_lines<R: Threads + Sync, H: Shelf, S: Source, K: Sink, G: Gate>(
@@ -119,11 +146,8 @@ pub(crate) fn run_lines<R: Threads + Sync, H: Shelf, S: Source, K: Sink, G: Gate
     let mut reader = LineReader::new(alloc, limit)?;
     let mut refused = false;
     loop {
-        let last = match reader.advance(input) {
-            Err(Failed) => return Err(Halt::ReadFault),
-            Ok(Next::PastLimit) => return Err(Halt::InputLimit),
-            Ok(Next::End) => return Ok(refused),
-            Ok(Next::Line { last }) => last,
+        let Some(last) = next_line(&mut reader, input)? else {
+            return Ok(refused);
         };
         let ran = run_line(session, rt, alloc, reader.line(), shelf, out, gate)?;
         refused |= ran.refused;

@@ -16,7 +16,7 @@ use Rattle.mp_defs.specs.Series.{Series, reading_of, series_of, number_at}
 use Rattle.mp_defs.specs.Window.{windows}
 use Rattle.mp_defs.specs.Distance.{square_gap, square_between, plus, distance}
 use Rattle.mp_defs.specs.Profile.{windows_of}
-use Rattle.mp_slide.specs.Slide.{square, distances_of}
+use Rattle.mp_results.specs.Slide.{square, distances_of}
 use Rattle.mp_slide.specs.Plain.{filled, plain_numbers, gap, gaps_before, AreGaps, square_at, sum_from, plain_distance}
 use Rattle.mp_slide.proofs.PlainNumbers.{number_at_place, gaps_more}
 use Rattle.mp_slide.proofs.Sums.{sum_none}

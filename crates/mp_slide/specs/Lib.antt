@@ -1,2 +1,1 @@
-pub mod Slide
 pub mod Plain

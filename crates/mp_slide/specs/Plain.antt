@@ -7,7 +7,7 @@ use Rattle.mp_nums.specs.declared.samples.Sample.{Sample}
 use Rattle.mp_defs.specs.Series.{Series, reading_of, number_at}
 use Rattle.mp_defs.specs.Distance.{square_gap}
 use Rattle.mp_series.specs.declared.limits.TheConstants.{MAX_WINDOW}
-use Rattle.mp_slide.specs.Slide.{square}
+use Rattle.mp_results.specs.Slide.{square}
 use Rattle.mp_slide.specs.declared.kernels.TheConstants.{PART}
 use Rattle.mp_slide.specs.declared.plain.Extent.{Extent}
 

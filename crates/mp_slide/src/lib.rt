@@ -5,8 +5,6 @@ mod kernels;
 mod plain;
 mod refusal;
 mod slides;
-#[cfg(test)]
-mod tests;
 
 pub use refusal::SlideRefusal;
 pub use slides::distances;

@@ -4,7 +4,7 @@ ghost use Rattle.std.specs.Prelude.{◌≡◌, ◌+◌, ◌-◌, ◌<◌, ◌≤
 ghost use Rattle.std.specs.List.{range_with_len};
 ghost use Rattle.mp_nums.specs.declared.samples.Sample.TheVariants.{Missing};
 ghost use Rattle.mp_defs.specs.Series.{series_of};
-ghost use Rattle.mp_slide.specs.Slide.{distances_of};
+ghost use Rattle.mp_results.specs.Slide.{distances_of};
 ghost use Rattle.mp_slide.specs.Plain.{AreGaps, IsShort, LieClose, plain_distance, plain_numbers};
 
 use crate::kernels::{parted_sum, wide_sum};

@@ -6,16 +6,15 @@ use Rattle.std.specs.Prelude.{slice_get, Bool, ◌++◌, min}
 use Rattle.std.proofs.Math.ListN.{get_or-eq_default}
 use Rattle.std.proofs.lemmas.Bool.{cases_eq, cases_lt}
 use Rattle.std.proofs.lemmas.List.{ext_get_or, get_or-map, length-append, length-map, set-get_or}
-use Rattle.std.proofs.lemmas.Option.{get_or_from_slice_get, slice_get-get_or, slice_get_within}
+use Rattle.std.proofs.lemmas.Option.{get_or_from_slice_get, slice_get-get_or}
 use Rattle.mp_nums.specs.declared.nearest.Near.{Near}
 use Rattle.mp_nums.specs.declared.samples.Sample.{Sample}
 use Rattle.mp_defs.specs.Limits.{max_samples}
-use Rattle.mp_defs.specs.Series.{Series, reading_of, series_of}
+use Rattle.mp_defs.specs.Series.{reading_of, series_of}
 use Rattle.mp_defs.specs.Window.{is_allowed, windows}
 use Rattle.mp_defs.specs.Profile.{entry, matrix_profile, windows_of}
 use Rattle.mp_defs.specs.ColumnLaws.{columns_have_places}
-use Rattle.mp_arcs.specs.Arcs.{index_of, indices_of}
-use Rattle.mp_arcs.specs.Board.{NameWithin}
+use Rattle.mp_results.specs.Arcs.{index_of, indices_of, NameWithin}
 use Rattle.mp_replies.specs.ArcLaws.{name_windows}
 use Rattle.mp_stream.specs.Blocks.{AreKnown, block_count}
 use Rattle.mp_slots.specs.Channels.{IsNamed, NameNearest, NameUnmarked}

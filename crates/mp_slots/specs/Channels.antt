@@ -7,7 +7,7 @@ use Rattle.mp_defs.specs.Limits.{max_samples, min_window}
 use Rattle.mp_defs.specs.Series.{series_of}
 use Rattle.mp_defs.specs.Window.{windows}
 use Rattle.mp_defs.specs.Profile.{matrix_profile}
-use Rattle.mp_arcs.specs.Arcs.{index_of, indices_of}
+use Rattle.mp_results.specs.Arcs.{index_of, indices_of}
 use Rattle.mp_slots.specs.Slots.{Held, nothing}
 use Rattle.mp_stream.specs.Blocks.{block_len}
 use Rattle.mp_stream.specs.Streams.{IsKnown, Streamed}

@@ -2,8 +2,7 @@
 
 ghost use Rattle.std.specs.Prelude.{◌≡◌, ℕ, ◌+◌, ◌*◌, ◌<◌, ◌≤◌, false, true, length, min, slice_index_or, slice_set};
 ghost use Rattle.std.specs.Prelude.{IfSome, None};
-ghost use Rattle.mp_arcs.specs.Arcs.{index_of, indices_of};
-ghost use Rattle.mp_arcs.specs.Board.{NameWithin};
+ghost use Rattle.mp_results.specs.Arcs.{index_of, indices_of, NameWithin};
 ghost use Rattle.mp_defs.specs.Limits.{max_samples};
 ghost use Rattle.mp_slots.specs.Channels.{IsNamed, NameUnmarked};
 ghost use Rattle.mp_stream.specs.Blocks.{block_count};

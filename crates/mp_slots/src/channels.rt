@@ -1,13 +1,13 @@
 //! One channel of a slot.
 
 ghost use Rattle.std.specs.Prelude.{◌≡◌, ◌+◌, ◌*◌, ◌<◌, ◌≤◌, ◌++◌, ◌∷◌, [], length, take, drop, OnOk, IfOk};
-ghost use Rattle.mp_arcs.specs.Arcs.{arcs_of, indices_of};
+ghost use Rattle.mp_results.specs.Arcs.{arcs_of, indices_of};
 ghost use Rattle.mp_defs.specs.Limits.{max_samples, max_window, min_window};
 ghost use Rattle.mp_defs.specs.Profile.{matrix_profile};
 ghost use Rattle.mp_defs.specs.Series.{series_of};
 ghost use Rattle.mp_defs.specs.Window.{is_free, windows};
 ghost use Rattle.mp_replies.specs.Limits.{max_tile, max_workers};
-ghost use Rattle.mp_report.specs.Profiles.{columns_in};
+ghost use Rattle.mp_replies.specs.Profiles.{columns_in};
 ghost use Rattle.mp_slots.specs.Channels.{HasGrown, StaysKnown};
 
 use crate::arcs::{follow, follow_changes};
@@ -74,11 +74,9 @@ impl Channel {
         ensures reads { IfOk result (λ channel. channel.reads
             ≤ length series.now * (length series.now + 2 * (plan.m + 1))) }
     {
-        let Ok(samples) = Samples::of(alloc, series) else {
-            return Err(Memory);
-        };
-        let stream = Stream::from(rt, alloc, samples, plan.m, plan.tile, plan.workers, gate)?;
-        Channel::over(alloc, stream)
+        let board = room_for_arcs(alloc, windows(series.len() as u64, plan.m))?;
+        let stream = stream_of(rt, alloc, series, plan, gate)?;
+        Ok(Channel::over(stream, board))
     }
 
     /// No samples, at window length `m`.
@@ -91,21 +89,24 @@ impl Channel {
     {
         let samples = Samples::new(alloc);
         let stream = Stream::from(rt, alloc, samples, m, 1, 1, &OpenGate)?;
-        Channel::over(alloc, stream)
+        Ok(Channel::over(stream, ArcBoard::new(alloc)))
     }
 
-    /// The stream, with the arcs of its profile.
-    fn over(alloc: Global, stream: Stream) -> Result<Channel, Memory>
-        ensures items { IfOk result (λ channel. channel.items ≡ stream.items) }
-        ensures m { IfOk result (λ channel. channel.m ≡ stream.m) }
-        ensures reads { IfOk result (λ channel. channel.reads ≡ stream.reads) }
+    /// The stream, with the arcs of its profile, for which there is room.
+    fn over(stream: Stream, board: ArcBoard) -> Channel
+        requires shortest { min_window ≤ stream.m }
+        requires few { length stream.items ≤ max_samples }
+        requires empty { board.items ≡ [] }
+        requires room { windows (length stream.items) stream.m ≤ board.spare }
+        ensures items { result.items ≡ stream.items }
+        ensures m { result.m ≡ stream.m }
+        ensures reads { result.reads ≡ stream.reads }
     {
         let mut stream = stream;
-        let mut board = ArcBoard::new(alloc);
-        board.reserve(windows(stream.len(), stream.window()))?;
+        let mut board = board;
         follow(&mut board, stream.profile().all());
         stream.clear_changed();
-        Ok(Channel { stream, board })
+        Channel { stream, board }
     }
 
     /// Makes room for so many more samples.
@@ -199,6 +200,36 @@ impl Channel {
     {
         self.stream.reads()
     }
+}
+
+/// Room for the arcs of so many windows.
+fn room_for_arcs(alloc: Global, count: u64) -> Result<ArcBoard, Memory>
+    ensures empty { IfOk result (λ board. board.items ≡ []) }
+    ensures room { IfOk result (λ board. count ≤ board.spare) }
+{
+    let mut board = ArcBoard::new(alloc);
+    board.reserve(count)?;
+    Ok(board)
+}
+
+/// A copy of the series, whose profile workers compute as the plan says.
+fn stream_of<R: Threads + Sync, G: Gate>(
+    rt: &R,
+    alloc: Global,
+    series: &[Sample],
+    plan: Plan,
+    gate: &G,
+) -> Result<Stream, Memory>
+    requires { length series.now ≤ max_samples }
+    ensures items { IfOk result (λ stream. stream.items ≡ series.now) }
+    ensures m { IfOk result (λ stream. stream.m ≡ plan.m) }
+    ensures reads { IfOk result (λ stream. stream.reads
+        ≤ length series.now * (length series.now + 2 * (plan.m + 1))) }
+{
+    let Ok(samples) = Samples::of(alloc, series) else {
+        return Err(Memory);
+    };
+    Stream::from(rt, alloc, samples, plan.m, plan.tile, plan.workers, gate)
 }
 
 /// Appends the samples, for which there is room.

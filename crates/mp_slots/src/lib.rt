@@ -6,8 +6,6 @@ mod arcs;
 mod channels;
 mod groups;
 mod slots;
-#[cfg(test)]
-mod tests;
 
 pub use channels::{Channel, Plan};
 pub use slots::{MAX_CHANNELS, SLOTS, Slots};

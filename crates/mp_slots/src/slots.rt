@@ -40,7 +40,7 @@ impl Model for Slots {
 }
 
 impl Slots {
-    ghost use Rattle.mp_arcs.specs.Arcs.{arcs_of, indices_of};
+    ghost use Rattle.mp_results.specs.Arcs.{arcs_of, indices_of};
     ghost use Rattle.mp_defs.specs.Limits.{max_samples, max_window, min_window};
     ghost use Rattle.mp_defs.specs.Profile.{matrix_profile};
     ghost use Rattle.mp_defs.specs.Series.{series_of};
@@ -48,7 +48,7 @@ impl Slots {
     ghost use Rattle.mp_nums.specs.declared.samples.Sample.{Sample};
     ghost use Rattle.mp_replies.specs.Change.{AddSamples, PutChannels, changed};
     ghost use Rattle.mp_replies.specs.State.{Closed, Open, channels_at, is_closed, samples_in, series_at, store_at};
-    ghost use Rattle.mp_report.specs.Profiles.{columns_in};
+    ghost use Rattle.mp_replies.specs.Profiles.{columns_in};
     ghost use Rattle.mp_slots.specs.Slots.{AreChannels, AreEven, HaveRoom, HaveWindow, IsChannel, WasRead, channel_at};
     ghost use Rattle.mp_slots.specs.Slots.{lent_once, lists_in, reads_in, reads_to_add, series_in, slot_at, stores_of};
 

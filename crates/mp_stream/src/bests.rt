@@ -6,7 +6,7 @@ ghost use Rattle.mp_stream.specs.Limits as specs;
 use mp_nums::Slot;
 
 /// The nearest of some windows, and below which distance another is nearer.
-#[derive(Clone, Copy, Debug)]
+#[derive(Clone, Copy)]
 pub(crate) struct Best {
     pub(crate) found: Slot,
     pub(crate) limit: u64,

@@ -1,7 +1,7 @@
 //! What a stream keeps of its windows.
 
 ghost use Rattle.std.specs.Prelude.{◌≡◌, ℕ, ◌+◌, ◌-◌, ◌*◌, ◌^◌, ◌<◌, ◌≤◌, ◌++◌, ◌∷◌, [], length, true, false};
-ghost use Rattle.std.specs.Prelude.{slice_index, slice_index_or, None, IfOk, IsOk, OnOk};
+ghost use Rattle.std.specs.Prelude.{slice_index, slice_index_or, min, None, IfOk, IsOk, OnOk};
 ghost use Rattle.mp_defs.specs.Series.{series_of};
 ghost use Rattle.mp_defs.specs.Window.{is_free, windows};
 ghost use Rattle.mp_defs.specs.Least.{near};
@@ -11,7 +11,7 @@ ghost use Rattle.mp_tiles.specs.declared.cuts.TheConstants.{MAX_TILE};
 ghost use Rattle.mp_claims.specs.declared.boards.TheConstants.{MAX_WORKERS};
 ghost use Rattle.mp_series.specs.Samples.{number_in, numbers_in};
 ghost use Rattle.mp_stream.specs.Blocks.{AreKnown, StayKnown};
-ghost use Rattle.mp_stream.specs.Limits.{AllStartAtMost, AreLimits, limit_of, coarse_limit};
+ghost use Rattle.mp_stream.specs.Limits.{AllStartAtMost, AreLimits, limit_by, limit_of, coarse_limit};
 ghost use Rattle.mp_stream.specs.Ranges.{AreWithin, Reaches, SumsFit};
 ghost use Rattle.mp_stream.specs.Rows.{sum_at, IsRow, IsTaken, row_candidate, offered_before, with_best};
 
@@ -48,7 +48,7 @@ pub(crate) struct Kept {
 fn whole_profile<R: Threads + Sync, G: Gate>(
     rt: &R,
     alloc: Global,
-    samples: &[Sample],
+    samples: &mut Samples,
     m: u32,
     tile: u32,
     workers: u32,
@@ -56,16 +56,49 @@ fn whole_profile<R: Threads + Sync, G: Gate>(
 ) -> Result<MarkedProfile, Memory>
     requires shortest { MIN_WINDOW ≤ m }
     requires longest { m ≤ MAX_WINDOW }
-    requires samples { length samples.now ≤ MAX_SAMPLES }
     requires least { 1 ≤ tile }
     requires greatest { tile ≤ MAX_TILE }
     requires some { 1 ≤ workers }
     requires workers { workers ≤ MAX_WORKERS }
-    ensures left { IfOk result (λ p. p.left ≡ (matrix_profile m (series_of samples.now)).left) }
-    ensures right { IfOk result (λ p. p.right ≡ (matrix_profile m (series_of samples.now)).right) }
+    ensures left { IfOk result (λ p. p.left ≡ (matrix_profile m (series_of samples.old.items)).left) }
+    ensures right { IfOk result (λ p. p.right ≡ (matrix_profile m (series_of samples.old.items)).right) }
+    ensures items { samples.new.items ≡ samples.old.items }
+    ensures reads_rise { samples.old.reads ≤ samples.new.reads }
+    ensures reads { samples.new.reads
+        ≤ samples.old.reads + length samples.old.items * length samples.old.items }
 {
-    let profile = self_join(rt, alloc, samples, m, tile, workers, gate)?;
+    let profile = self_join(rt, alloc, samples.lend(), m, tile, workers, gate)?;
     MarkedProfile::of(alloc, profile)
+}
+
+/// That profile, and its limits, for sums of 64 or of 128 bits.
+fn limited_profile<R: Threads + Sync, G: Gate>(
+    rt: &R,
+    alloc: Global,
+    samples: &mut Samples,
+    m: u32,
+    tile: u32,
+    workers: u32,
+    gate: &G,
+    is_narrow: bool,
+) -> Result<(MarkedProfile, Items<u64>), Memory>
+    requires shortest { MIN_WINDOW ≤ m }
+    requires longest { m ≤ MAX_WINDOW }
+    requires least { 1 ≤ tile }
+    requires greatest { tile ≤ MAX_TILE }
+    requires some { 1 ≤ workers }
+    requires workers { workers ≤ MAX_WORKERS }
+    ensures left { IfOk result (λ p. p.0.left ≡ (matrix_profile m (series_of samples.old.items)).left) }
+    ensures right { IfOk result (λ p. p.0.right ≡ (matrix_profile m (series_of samples.old.items)).right) }
+    ensures limits { IfOk result (λ p. AreLimits (limit_by is_narrow) p.0.right p.1.items) }
+    ensures items { samples.new.items ≡ samples.old.items }
+    ensures reads_rise { samples.old.reads ≤ samples.new.reads }
+    ensures reads { samples.new.reads
+        ≤ samples.old.reads + length samples.old.items * length samples.old.items }
+{
+    let profile = whole_profile(rt, alloc, samples, m, tile, workers, gate)?;
+    let limits = limits_of(alloc, profile.right(), is_narrow)?;
+    Ok((profile, limits))
 }
 
 /// Whether each of so many windows is free.
@@ -89,6 +122,49 @@ fn empty_row(alloc: Global, count: u64) -> Result<Items<u128>, Memory>
     ensures { IfOk result (λ row. length row.items ≡ count) }
 {
     Ok(Items::from(vec![in alloc; 0; count as usize]?))
+}
+
+/// The row of the last of so many windows, in 128 bits.
+fn wide_row(alloc: Global, samples: &mut Samples, m: u32, count: u64) -> Result<Wide, Memory>
+    requires least { 1 ≤ m }
+    requires width { m ≤ MAX_WINDOW }
+    requires count { count ≡ windows (length samples.old.items) m }
+    ensures sums { IfOk result (λ wide. length wide.sums.items ≡ count) }
+    ensures next { IfOk result (λ wide. length wide.next.items ≡ count) }
+    ensures row { IfOk result (λ wide. IsRow (numbers_in samples.old.items) m (count - 1) wide.sums.items) }
+    ensures items { samples.new.items ≡ samples.old.items }
+    ensures reads_rise { samples.old.reads ≤ samples.new.reads }
+    ensures reads { samples.new.reads ≤ samples.old.reads + length samples.old.items * (2 * m) }
+{
+    let sums = last_row(alloc, samples, m, count)?;
+    let next = empty_row(alloc, count)?;
+    Ok(Wide { sums, next })
+}
+
+/// The row of the last of so many windows, in 64 bits and in 128.
+fn both_rows(
+    alloc: Global,
+    samples: &mut Samples,
+    m: u32,
+    count: u64,
+) -> Result<(Narrow, Wide), Memory>
+    requires least { 1 ≤ m }
+    requires width { m ≤ MAX_WINDOW }
+    requires count { count ≡ windows (length samples.old.items) m }
+    ensures sums { IfOk result (λ rows. length rows.1.sums.items ≡ count) }
+    ensures next { IfOk result (λ rows. length rows.1.next.items ≡ count) }
+    ensures row { IfOk result (λ rows. IsRow (numbers_in samples.old.items) m (count - 1) rows.1.sums.items) }
+    ensures narrow_sums { IfOk result (λ rows. length rows.0.sums.items ≡ length rows.1.sums.items) }
+    ensures narrow_next { IfOk result (λ rows. length rows.0.next.items ≡ length rows.1.sums.items) }
+    ensures narrow_row { IfOk result (λ rows. (i : ℕ) → i < length rows.1.sums.items
+        → slice_index rows.0.sums.items i ≡ min (slice_index rows.1.sums.items i) (2 ^ 64 - 1)) }
+    ensures items { samples.new.items ≡ samples.old.items }
+    ensures reads_rise { samples.old.reads ≤ samples.new.reads }
+    ensures reads { samples.new.reads ≤ samples.old.reads + length samples.old.items * (2 * m) }
+{
+    let wide = wide_row(alloc, samples, m, count)?;
+    let narrow = Narrow::of(alloc, wide.sums.as_slice())?;
+    Ok((narrow, wide))
 }
 
 /// From which number up to which the samples reach.
@@ -170,19 +246,17 @@ impl Kept {
         ensures reads { samples.new.reads
             ≤ samples.old.reads + length samples.old.items * (length samples.old.items + 2 * (m + 1)) }
     {
-        let profile = whole_profile(rt, alloc, samples.lend(), m, tile, workers, gate)?;
-        let count = windows(samples.len(), m);
         let range = whole_range(samples);
-        let wide = Wide {
-            sums: last_row(alloc, samples, m, count)?,
-            next: empty_row(alloc, count)?,
-        };
         let is_narrow = range.is_narrow(m);
-        let limits = limits_of(alloc, profile.right(), is_narrow)?;
-        let narrow = Narrow::of(alloc, wide.sums.as_slice())?;
+        let (profile, limits) = limited_profile(
+            rt, alloc, samples, m, tile, workers, gate, is_narrow,
+        )?;
+        let count = windows(samples.len(), m);
+        let free = free_windows(alloc, samples, m, count)?;
+        let (narrow, wide) = both_rows(alloc, samples, m, count)?;
         Ok(Kept {
             profile,
-            free: free_windows(alloc, samples, m, count)?,
+            free,
             range,
             limits,
             is_narrow,

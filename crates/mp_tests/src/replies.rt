@@ -1,15 +1,12 @@
 //! The replies of a session, a line at a time.
 
-ghost use Rattle.std.specs.Prelude.{◌≡◌, ◌+◌, ◌-◌, ◌^◌, ◌<◌, ◌≤◌, IfOk, OnOk};
+ghost use Rattle.std.specs.Prelude.{◌+◌, ◌-◌, ◌^◌, ◌<◌, ◌≤◌};
 
-use mp_nums::Text;
+use crate::run::{CALM, Run, shelf_of};
 use mp_outside::{MemShelf, OpenGate};
 use mp_session::ReplyKind::{Accepted, Ended, Quiet, Refused};
-use mp_session::{ReplyKind, Session, Settings, Stop};
-use std::alloc::Global;
+use mp_session::{Reply, ReplyKind, Session, Settings, Stop};
 use std::process::Abort;
-use std::str;
-use std::test::Fail;
 use std::thread::Threads;
 
 /// By how much a line raises the reads of slots at most, or `None` for slots that are closed behind it.
@@ -18,7 +15,7 @@ type Rises<'a> = &'a [(u64, Option<u128>)];
 /// A line, what became of it, its report, and what it reads.
 type Turn<'a> = (&'a str, Result<ReplyKind, Stop>, &'a str, Rises<'a>);
 
-/// The lines of a session with a file `three.csv` of three records.
+/// The lines of a session with a file `table.csv` of three records.
 #[derive(Clone, Copy)]
 struct Talk<'a> {
     shows: &'a str,
@@ -27,35 +24,25 @@ struct Talk<'a> {
     turns: &'a [Turn<'a>],
 }
 
-/// A new session for windows of three samples.
-fn new_session<R: AllocGlobal + Threads + Sync>(
-    rt: &R,
-    tile: u32,
-    workers: u32,
-) -> Result<Session, Fail>
-    ensures { IfOk result (λ session. session.lines ≡ 0) }
-{
-    let settings = Settings::new(3, 0, tile, workers).ok_or("outside the limits")?;
-    Ok(Session::new(rt, rt.alloc(), settings)?)
-}
-
-fn new_shelf(alloc: Global, failing: Option<u64>) -> Result<MemShelf, Fail> {
-    let mut plan = Vec::new(alloc);
-    if let Some(number) = failing {
-        plan.push(number)?;
-    }
-    let mut shelf = MemShelf::new(alloc, plan);
-    shelf.put(b"three.csv".to_vec(alloc)?, b"1\n2\n3\n".to_vec(alloc)?)?;
-    Ok(shelf)
+fn new_shelf<R: Abort + AllocGlobal>(rt: &R, failing: Option<u64>) -> MemShelf {
+    let failing = Run {
+        failing_fetch: failing,
+        ..CALM
+    };
+    shelf_of(rt, &failing)
 }
 
 /// How often the samples of the slots were read.
-fn reads_of(alloc: Global, session: &Session, rises: Rises<'_>) -> Result<Vec<Option<u128>>, Fail> {
-    let mut reads = Vec::new(alloc);
+fn reads_of<R: Abort + AllocGlobal>(
+    rt: &R,
+    session: &Session,
+    rises: Rises<'_>,
+) -> Vec<Option<u128>> {
+    let mut reads = Vec::new(rt.alloc());
     for (slot, _) in rises {
-        reads.push(session.reads(*slot))?;
+        assert!(rt; reads.push(session.reads(*slot)).is_ok());
     }
-    Ok(reads)
+    reads
 }
 
 /// Compares the reads with those before the line.
@@ -75,35 +62,42 @@ fn check_reads(
     }
 }
 
+fn check_answer(rt: &impl Abort, answer: &Result<Reply, Stop>, turn: &Turn<'_>) {
+    let (line, kind, report, _) = *turn;
+    match answer {
+        Ok(reply) => {
+            assert_eq!(rt; reply.text.as_slice(), report.as_bytes(), "{line}");
+            assert_eq!(rt; Ok(reply.kind), kind, "{line}");
+        }
+        Err(stop) => assert_eq!(rt; Err(*stop), kind, "{line}"),
+    }
+}
+
 fn check_turn<R: Abort + AllocGlobal + Threads + Sync>(
     rt: &R,
     session: &mut Session,
     shelf: &mut MemShelf,
     turn: &Turn<'_>,
-) -> Result<(), Fail>
+)
     requires { session.old.lines < 2 ^ 64 - 1 }
-    ensures { OnOk result (session.new.lines ≤ session.old.lines + 1) }
+    ensures { session.new.lines ≤ session.old.lines + 1 }
 {
-    let (line, kind, report, rises) = *turn;
-    let before = reads_of(rt.alloc(), session, rises)?;
-    match session.run(rt, rt.alloc(), line.as_bytes(), shelf, &OpenGate) {
-        Ok(reply) => {
-            assert_eq!(rt; str::from_utf8(reply.text.as_slice())?, report, "{line}");
-            assert_eq!(rt; Ok(reply.kind), kind, "{line}");
-        }
-        Err(stop) => assert_eq!(rt; Err(stop), kind, "{line}"),
-    }
+    let (line, _, _, rises) = *turn;
+    let before = reads_of(rt, session, rises);
+    let answer = session.run(rt, rt.alloc(), line.as_bytes(), shelf, &OpenGate);
+    check_answer(rt, &answer, turn);
     check_reads(rt, session, before.as_slice(), rises, line);
-    Ok(())
 }
 
-fn check<R: Abort + AllocGlobal + Threads + Sync>(rt: &R, talk: &Talk<'_>) -> Result<(), Fail> {
-    let mut session = new_session(rt, 256, 4)?;
-    let mut shelf = new_shelf(rt.alloc(), talk.failing_fetch)?;
+fn check<R: Abort + AllocGlobal + Threads + Sync>(rt: &R, talk: &Talk<'_>) {
+    let settings = Settings::new(3, 0, 256, 4).expect(rt, "within the limits");
+    let mut session = Session::new(rt, rt.alloc(), settings).expect(rt, "memory is short");
+    assert_eq!(rt; session.reads(0), Some(0));
+    assert_eq!(rt; session.reads(1), None);
+    let mut shelf = new_shelf(rt, talk.failing_fetch);
     for turn in talk.turns {
-        check_turn(rt, &mut session, &mut shelf, turn)?;
+        check_turn(rt, &mut session, &mut shelf, turn);
     }
-    Ok(())
 }
 
 static TALKS: [Talk; 8] = [
@@ -242,17 +236,17 @@ static TALKS: [Talk; 8] = [
         shows: "a failed fetch leaves the session",
         failing_fetch: Some(1),
         turns: &[
-            ("load 0 three.csv 0", Ok(Accepted), "ok 1 3\n", &[]),
+            ("load 0 table.csv 0", Ok(Accepted), "ok 1 3\n", &[]),
             ("window 0 0", Ok(Accepted), "window 2 0 1 2 3\n", &[]),
             (
-                "load 0 three.csv 0 header",
+                "load 0 table.csv 0 header",
                 Err(Stop::ShelfFault),
                 "",
                 &[(0, Some(0))],
             ),
             ("window 0 0", Ok(Accepted), "window 3 0 1 2 3\n", &[]),
             (
-                "load 0 three.csv 0 header",
+                "load 0 table.csv 0 header",
                 Ok(Accepted),
                 "ok 4 2\n",
                 &[(0, Some(20))],
@@ -263,100 +257,17 @@ static TALKS: [Talk; 8] = [
         shows: "a load that was stopped is not accepted, and a version may be stated behind it",
         failing_fetch: Some(0),
         turns: &[
-            ("load 0 three.csv 0", Err(Stop::ShelfFault), "", &[]),
+            ("load 0 table.csv 0", Err(Stop::ShelfFault), "", &[]),
             ("session 1", Ok(Accepted), "ok 1\n", &[]),
-            ("load 0 three.csv 0", Ok(Accepted), "ok 2 3\n", &[]),
+            ("load 0 table.csv 0", Ok(Accepted), "ok 2 3\n", &[]),
             ("session 1", Ok(Refused), "refused 3 version\n", &[]),
         ],
     },
 ];
 
 #[test]
-fn a_session_answers_line_by_line(rt: HostRuntime) -> Result<(), Fail> {
+fn a_session_answers_line_by_line(rt: HostRuntime) {
     for talk in TALKS {
-        check(&rt, &talk)?;
+        check(&rt, &talk);
     }
-    Ok(())
-}
-
-/// Lines whose reports are computed by tiles that workers share.
-static SHARED: [&str; 11] = [
-    "load 0 noise.csv 0",
-    "open 1 2",
-    "load 1 noise.csv 1,2",
-    "profile 0",
-    "join 0 1.0",
-    "join 1.1 0",
-    "mpdist 0 1.1",
-    "multi 1 2",
-    "consensus 0 1.0 1.1 0",
-    "append 0 3 1 2 ? 1 2",
-    "profile 0",
-];
-
-/// Three columns of small numbers in which some are missing.
-fn noise(alloc: Global) -> Result<Vec<u8>, Fail> {
-    let mut bytes = Vec::new(alloc);
-    let mut state: u64 = 1;
-    for _ in 0..120 {
-        state = state
-            .wrapping_mul(6_364_136_223_846_793_005)
-            .wrapping_add(1_442_695_040_888_963_407);
-        let record = match state >> 60 {
-            0 => String::from_str(alloc, ",1,NaN\n")?,
-            _ => format!(in alloc; "{},{},{}\n", state >> 62, state >> 57 & 3, state >> 52 & 3)?,
-        };
-        bytes.extend_from_slice(record.as_bytes())?;
-    }
-    Ok(bytes)
-}
-
-fn run_line<R: AllocGlobal + Threads + Sync>(
-    rt: &R,
-    session: &mut Session,
-    shelf: &mut MemShelf,
-    line: &str,
-) -> Result<Text, Fail>
-    requires { session.old.lines < 2 ^ 64 - 1 }
-    ensures { OnOk result (session.new.lines ≤ session.old.lines + 1) }
-{
-    match session.run(rt, rt.alloc(), line.as_bytes(), shelf, &OpenGate) {
-        Ok(reply) => Ok(reply.text),
-        Err(_) => Err(Fail::new("the session stopped")),
-    }
-}
-
-/// The reports of the lines.
-fn reports_of<R: AllocGlobal + Threads + Sync>(
-    rt: &R,
-    tile: u32,
-    workers: u32,
-) -> Result<Vec<u8>, Fail> {
-    let mut session = new_session(rt, tile, workers)?;
-    let mut shelf = MemShelf::new(rt.alloc(), Vec::new(rt.alloc()));
-    shelf.put(b"noise.csv".to_vec(rt.alloc())?, noise(rt.alloc())?)?;
-    let mut reports = Vec::new(rt.alloc());
-    for line in SHARED {
-        let report = run_line(rt, &mut session, &mut shelf, line)?;
-        reports.extend_from_slice(report.as_slice())?;
-    }
-    Ok(reports)
-}
-
-#[test]
-fn tiles_and_workers_change_no_report(rt: HostRuntime) -> Result<(), Fail> {
-    let reports = reports_of(&rt, 256, 4)?;
-    let text = str::from_utf8(reports.as_slice())?;
-    assert!(rt; text.starts_with("ok 1 120\nok 2 0\nok 3 120\nprofile 4 118\n"));
-    for tile in [1, 7, 256, 65_536] {
-        for workers in [1, 3, 32] {
-            let others = reports_of(&rt, tile, workers)?;
-            assert_eq!(rt;
-                str::from_utf8(others.as_slice())?,
-                text,
-                "{tile}, {workers}"
-            );
-        }
-    }
-    Ok(())
 }

@@ -13,6 +13,3 @@ pub use refusal::{SampleFault, TableFault};
 pub use spelling::{GREATEST_SAMPLE, LEAST_SAMPLE, read_sample};
 pub use tables::read_table;
 pub use writing::write_sample;
-
-#[cfg(test)]
-mod tests;

@@ -4,8 +4,6 @@
 mod joins;
 mod shares;
 mod teams;
-#[cfg(test)]
-mod tests;
 
 pub use joins::{ab_join, self_join};
 pub use teams::run_all;

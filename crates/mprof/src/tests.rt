@@ -1,15 +1,13 @@
 use crate::run;
-use mp_session::top::Status;
 use std::alloc::Allocator;
 use std::cell::RefCell;
 use std::env::{Env, FillError};
 use std::fmt::Display;
+use std::io;
 use std::io::{BufRead, ErrorKind, Input, Lines, Print};
 use std::process::Abort;
 use std::rt::Files;
-use std::test::Fail;
 use std::thread::Threads;
-use std::{io, str};
 
 /// A shell whose words and standard input are known, and which keeps what is printed.
 #[derive(Drop)]
@@ -78,96 +76,68 @@ impl Print for Shell {
     }
 }
 
-const USAGE: &str =
-    "mprof: words: --window M [--scale D] [--tile T] [--workers W] [--generate NUMBER --count N]\n";
+/// The words of a shell, what is typed, what is printed, and the number of the status.
+type Row = (&'static [&'static [u8]], &'static [u8], &'static [u8], u8);
 
 const WINDOW_OF_3: &[&[u8]] = &[b"mprof", b"--window", b"3"];
 
-const NOTHING: &[&[u8]] = &[];
+const USAGE: &[u8] =
+    b"mprof: words: --window M [--scale D] [--tile T] [--workers W] [--generate NUMBER --count N]\n";
 
-const NAME_ALONE: &[&[u8]] = &[b"mprof"];
-
-const WITHOUT_A_NUMBER: &[&[u8]] = &[b"mprof", b"--window"];
-
-const THREE_WORDS: &[&[u8]] = &[b"mprof", b"--window", b"3", b"4"];
-
-const WINDOW_AND_SCALE: &[&[u8]] = &[b"mprof", b"--window", b"3", b"--scale", b"1"];
-
-const MADE: &[&[u8]] = &[b"mprof", b"--count=3", b"--generate=0", b"--window=3"];
-
-const NO_TEXT: &[&[u8]] = &[b"mprof", b"--window", b"\xff"];
-
-#[test]
-fn an_input_gives_its_reports_and_status(rt: HostRuntime) -> Result<(), Fail> {
-    check(
-        &rt,
-        WINDOW_OF_3,
-        b"append 0 1 2 3\n",
-        "ok 1 3\n",
-        Status::Done,
-    )?;
-    check(
-        &rt,
-        WINDOW_OF_3,
-        b"append 0 1 x\n",
-        "refused 1 sample 2\n",
-        Status::Refused,
-    )?;
-    check(
-        &rt,
-        WINDOW_AND_SCALE,
+static ROWS: [Row; 9] = [
+    (
+        &[b"mprof", b"--window", b"3", b"--scale", b"1"],
         b"append 0 1 2.5 3\nwindow 0 0\nend\n",
-        "ok 1 3\nwindow 2 0 1.0 2.5 3.0\nok 3\n",
-        Status::Done,
-    )?;
-    Ok(())
-}
-
-#[test]
-fn a_name_of_no_file_is_refused(rt: HostRuntime) -> Result<(), Fail> {
-    check(
-        &rt,
+        b"ok 1 3\nwindow 2 0 1.0 2.5 3.0\nok 3\n",
+        0,
+    ),
+    (WINDOW_OF_3, b"append 0 1 x\n", b"refused 1 sample 2\n", 1),
+    (
         WINDOW_OF_3,
         b"load 0 there/is/no/such.csv 0\n",
-        "refused 1 file\n",
-        Status::Refused,
-    )
-}
-
-#[test]
-fn a_made_series_gives_its_summary(rt: HostRuntime) -> Result<(), Fail> {
-    check(
-        &rt,
-        MADE,
+        b"refused 1 file\n",
+        1,
+    ),
+    (
+        &[b"mprof", b"--count=3", b"--generate=0", b"--window=3"],
         b"append 0 1 2 3\n",
-        "generated 3 1\nbest -\ndiscord -\nsegment -\n",
-        Status::Done,
-    )
-}
+        b"generated 3 1\nbest -\ndiscord -\nsegment -\n",
+        0,
+    ),
+    (&[], b"append 0 1 2 3\n", USAGE, 2),
+    (&[b"mprof"], b"append 0 1 2 3\n", USAGE, 2),
+    (&[b"mprof", b"--window"], b"append 0 1 2 3\n", USAGE, 2),
+    (
+        &[b"mprof", b"--window", b"3", b"4"],
+        b"append 0 1 2 3\n",
+        USAGE,
+        2,
+    ),
+    (
+        &[b"mprof", b"--window", b"\xff"],
+        b"append 0 1 2 3\n",
+        USAGE,
+        2,
+    ),
+];
 
 #[test]
-fn words_outside_the_grammar_give_the_usage(rt: HostRuntime) -> Result<(), Fail> {
-    for words in [NOTHING, NAME_ALONE, WITHOUT_A_NUMBER, THREE_WORDS, NO_TEXT] {
-        check(&rt, words, b"append 0 1 2 3\n", USAGE, Status::Words)?;
+fn words_and_input_are_those_of_the_shell(rt: HostRuntime) {
+    for row in ROWS {
+        check(&rt, &row);
     }
-    Ok(())
 }
 
 /// Runs the program in a shell.
-fn check<R: Abort + AllocGlobal + Clone + Files + Threads + Sync>(
-    rt: &R,
-    words: &'static [&'static [u8]],
-    typed: &'static [u8],
-    printed: &str,
-    status: Status,
-) -> Result<(), Fail> {
+fn check<R: Abort + AllocGlobal + Clone + Files + Threads + Sync>(rt: &R, row: &Row) {
+    let (words, typed, printed, status) = *row;
     let shell = Shell {
         words,
         typed,
         printed: RefCell::new(Vec::new(rt.alloc())),
     };
-    assert_eq!(rt; run(rt, &shell)?, status);
+    let ended = run(rt, &shell).expect(rt, "memory is short");
+    assert_eq!(rt; ended as u8, status);
     let text = shell.printed.into_inner();
-    assert_eq!(rt; str::from_utf8(text.as_slice())?, printed);
-    Ok(())
+    assert_eq!(rt; text.as_slice(), printed);
 }

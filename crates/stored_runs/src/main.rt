@@ -103,9 +103,10 @@ fn make<R: AllocGlobal + Clone + Files + Threads + Sync>(
 {
     let alloc = rt.alloc();
     let words = split_words(alloc, words)?;
-    let mut shelf = DiskShelf::new(rt)?;
-    let mut input = CalmSource::new(run.input().to_vec(alloc)?, step);
+    let input = run.input().to_vec(alloc)?;
     let mut out = CalmSink::new(alloc, ROOM)?;
+    let mut shelf = DiskShelf::new(rt)?;
+    let mut input = CalmSource::new(input, step);
     let status = serve(
         rt,
         alloc,

@@ -2,6 +2,7 @@
 //! proved twice.
 #![tactic(auto)]
 
-pub mod series;
+#[cfg(test)]
+mod series;
 #[cfg(test)]
 mod stream;

@@ -2,6 +2,7 @@
 //! crate with tests is proved twice.
 #![tactic(auto)]
 
-pub mod series;
+#[cfg(test)]
+mod series;
 #[cfg(test)]
 mod tiles;

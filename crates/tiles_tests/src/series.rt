@@ -6,7 +6,7 @@ use mp_nums::{Memory, Sample};
 use std::alloc::Global;
 
 /// A series of few numbers, so that many distances are equal, in which about one sample in eight is missing.
-pub fn ties(alloc: Global, count: u64, seed: u64) -> Result<Vec<Sample>, Memory>
+pub(crate) fn ties(alloc: Global, count: u64, seed: u64) -> Result<Vec<Sample>, Memory>
     ensures { IfOk result (λ samples. vec_len samples ≡ count) }
 {
     let mut samples = Vec::new(alloc);
@@ -27,7 +27,7 @@ pub fn ties(alloc: Global, count: u64, seed: u64) -> Result<Vec<Sample>, Memory>
 
 /// A series of the least number, the greatest, and one in the middle, in which some samples are missing: the first and
 /// the last of sixteen, of 1,024, and others.
-pub fn spread(alloc: Global, count: u64, low: i32, high: i32) -> Result<Vec<Sample>, Memory>
+pub(crate) fn spread(alloc: Global, count: u64, low: i32, high: i32) -> Result<Vec<Sample>, Memory>
     ensures { IfOk result (λ samples. vec_len samples ≡ count) }
 {
     let mut samples = Vec::new(alloc);

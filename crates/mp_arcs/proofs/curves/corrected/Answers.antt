@@ -2,7 +2,7 @@ use Rattle.std.proofs.Common.{◌≡◌, ◌∙◌, ◌*◌, ◌++◌, [], ◌�
 use Rattle.std.specs.List.{range_with_len}
 use Rattle.std.proofs.lemmas.List.{map_push}
 use Rattle.std.proofs.lemmas.List.FromFn.{map-range_with_len_more}
-use Rattle.mp_arcs.specs.Curve.{parts_of, value_at}
+use Rattle.mp_results.specs.Curve.{parts_of, value_at}
 use Rattle.mp_arcs.proofs.curves.corrected.Goals as goal
 
 pub loop-place-preserved : goal.loop-place-preserved

@@ -1,7 +1,7 @@
 use Rattle.std.proofs.Common.{◌≡◌, ◌*◌, length, map}
 use Rattle.std.specs.Prelude.{slice_index}
 use Rattle.std.specs.List.{range_with_len}
-use Rattle.mp_arcs.specs.Curve.{parts_of, value_at}
+use Rattle.mp_results.specs.Curve.{parts_of, value_at}
 use Rattle.mp_arcs.proofs.curves.corrected.Given as goal
 
 abbrev pub invariant-loop-place : goal.invariant-loop-place

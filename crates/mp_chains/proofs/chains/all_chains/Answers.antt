@@ -1,7 +1,7 @@
 use Rattle.std.proofs.Common.{◌≡◌, ℕ, Bool, true, false, ◌∙◌}
 use Rattle.std.proofs.lemmas.List.{map_push}
 use Rattle.mp_nums.specs.Listed.{Listed}
-use Rattle.mp_chains.specs.Chains.{is_first, chain_from}
+use Rattle.mp_results.specs.Chains.{is_first, chain_from}
 use Rattle.mp_chains.proofs.Names.{is_none-is}
 use Rattle.mp_chains.proofs.Columns.{made_more_yes, made_more_no}
 use Rattle.mp_chains.proofs.chains.all_chains.Goals as goal

@@ -1,6 +1,6 @@
 use Rattle.std.proofs.Common.{◌≡◌, map}
 use Rattle.std.specs.List.{filter, range_with_len}
-use Rattle.mp_chains.specs.Chains.{is_first, chain_from}
+use Rattle.mp_results.specs.Chains.{is_first, chain_from}
 use Rattle.mp_chains.proofs.chains.all_chains.Given as goal
 
 abbrev pub invariant-loop-j : goal.invariant-loop-j

@@ -1,6 +1,6 @@
 use Rattle.std.proofs.Common.{◌≡◌, ◌-◌, ◌<◌, [], ◌++◌, length}
 use Rattle.std.specs.Option.{option_map_or}
-use Rattle.mp_chains.specs.Chains.{successor, chain_from}
+use Rattle.mp_results.specs.Chains.{successor, chain_from}
 use Rattle.mp_chains.proofs.chains.anchored.Given as goal
 
 -- what is there, and then the chain from the successor of the last one

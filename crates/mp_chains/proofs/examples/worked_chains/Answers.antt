@@ -1,5 +1,5 @@
 use Rattle.std.proofs.Common.{refl}
-use Rattle.mp_chains.specs.Chains.{links}
+use Rattle.mp_results.specs.Chains.{links}
 use Rattle.mp_chains.proofs.examples.worked_chains.Goals as goal
 
 pub returns : goal.returns

@@ -1,7 +1,7 @@
 use Rattle.std.proofs.Common.{◌≡◌, ◌+◌, ◌∙◌, ℕ, List, length, refl, ap, sym, arith}
 use Rattle.std.specs.Prelude.{Option}
 use Rattle.mp_nums.specs.declared.nearest.Near.{Near}
-use Rattle.mp_chains.specs.Chains.{chain_from}
+use Rattle.mp_results.specs.Chains.{chain_from}
 use Rattle.mp_defs.specs.Profile.{Columns, matrix_profile}
 use Rattle.mp_replies.specs.ChainCommand.{chain_in, chain_text}
 use Rattle.mp_replies.specs.Command as asked

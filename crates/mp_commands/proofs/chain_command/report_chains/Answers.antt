@@ -2,7 +2,7 @@ use Rattle.std.proofs.Common.{◌≡◌, ◌+◌, ◌∙◌, ℕ, List, map, ref
 use Rattle.std.specs.Prelude.{Option}
 use Rattle.mp_nums.specs.Listed.{Listed}
 use Rattle.mp_nums.specs.declared.nearest.Near.{Near}
-use Rattle.mp_chains.specs.Chains.{chains_of, longest_of}
+use Rattle.mp_results.specs.Chains.{chains_of, longest_of}
 use Rattle.mp_defs.specs.Profile.{Columns, matrix_profile}
 use Rattle.mp_replies.specs.ChainsCommand.{chains_in, chains_text}
 use Rattle.mp_replies.specs.Command as asked

@@ -1,7 +1,7 @@
 use Rattle.std.proofs.Common.{◌≡◌, ◌+◌, ◌∙◌, ℕ, List, map, refl, ap, sym, arith}
 use Rattle.mp_defs.specs.Profile.{Columns, matrix_profile}
 use Rattle.mp_defs.specs.Series.{Series, series_of}
-use Rattle.mp_motifs.specs.Motifs.{motifs, repeated_of}
+use Rattle.mp_results.specs.Motifs.{motifs, repeated_of}
 use Rattle.mp_replies.specs.Command as asked
 use Rattle.mp_replies.specs.MotifsCommand.{motif_query, motifs_text}
 use Rattle.mp_replies.specs.State.{Store, series_at}

@@ -1,8 +1,8 @@
-use Rattle.std.proofs.Common.{◌≡◌, ◌+◌, ◌∙◌, ℕ, map, refl, ap, sym, arith}
+use Rattle.std.proofs.Common.{◌≡◌, ◌+◌, ◌∙◌, ℕ, List, map, refl, ap, sym, arith}
 use Rattle.std.proofs.lemmas.List.{length-map}
 use Rattle.std.proofs.lemmas.List.Elements.{All-same}
-use Rattle.mp_defs.specs.Series.{series_of}
-use Rattle.mp_multi.specs.Multi.{multi_of}
+use Rattle.mp_defs.specs.Series.{Series, series_of}
+use Rattle.mp_results.specs.Multi.{multi_of}
 use Rattle.mp_replies.specs.Command as asked
 use Rattle.mp_replies.specs.MultiCommand.{multi_text}
 use Rattle.mp_replies.specs.State.{channels_at}
@@ -21,16 +21,16 @@ copies-requires g c =
     All-same (IsChannel held) c.as_slice.result.now (refs_of held c.args.slot)
     (c.as_slice.ensures.value ∙ c.in_ok-refs.ensures) (each_channel held c.args.slot c.in_default.ensures.slot)
 
-pub profile_of-requires-clause-one : goal.profile_of-requires-clause-one
-profile_of-requires-clause-one g c κs within =
+pub text_of-requires-clause-one : goal.text_of-requires-clause-one
+text_of-requires-clause-one g c κs within =
     let held = c.args.slots.now in
     let copied =
     copied_channels held c.args.slot _ _ c.in_ok-channels.channels c.as_slice.ensures.value c.in_ok-refs.ensures
     c.in_ok-channels.ensures.series in
     omega (arith, copies_long c.in_ok-channels.channels _ copied, count_at held c.args.slot, c.in_default.ensures.open)
 
-pub profile_of-requires-clause-few : goal.profile_of-requires-clause-few
-profile_of-requires-clause-few g c κs within =
+pub text_of-requires-clause-few : goal.text_of-requires-clause-few
+text_of-requires-clause-few g c κs within =
     let held = c.args.slots.now in
     let copied =
     copied_channels held c.args.slot _ _ c.in_ok-channels.channels c.as_slice.ensures.value c.in_ok-refs.ensures
@@ -43,15 +43,15 @@ profile_of-requires-clause-few g c κs within =
       length-map (slot_at held c.args.slot) (λ (channel : Streamed). channel.items),
     )
 
-pub profile_of-requires-clause-one_length : goal.profile_of-requires-clause-one_length
-profile_of-requires-clause-one_length g c κs within =
+pub text_of-requires-clause-one_length : goal.text_of-requires-clause-one_length
+text_of-requires-clause-one_length g c κs within =
     let held = c.args.slots.now in
     have_one_length held c.args.slot c.in_ok-channels.channels c.in_default.ensures.alike
     (copied_channels held c.args.slot _ _ c.in_ok-channels.channels c.as_slice.ensures.value c.in_ok-refs.ensures
     c.in_ok-channels.ensures.series)
 
-pub profile_of-requires-clause-present : goal.profile_of-requires-clause-present
-profile_of-requires-clause-present g c κs within =
+pub text_of-requires-clause-present : goal.text_of-requires-clause-present
+text_of-requires-clause-present g c κs within =
     let held = c.args.slots.now in
     let copied =
     copied_channels held c.args.slot _ _ c.in_ok-channels.channels c.as_slice.ensures.value c.in_ok-refs.ensures
@@ -73,15 +73,14 @@ returns-clause-report g c = record {
       let copied : map series_of c.in_ok-channels.channels ≡ channels_at (stores_of held) slot =
       copied_channels held slot _ _ c.in_ok-channels.channels c.as_slice.ensures.value c.in_ok-refs.ensures
       c.in_ok-channels.ensures.series in
-      let window : c.plan.result.m ≡ held.m = c.plan.ensures ∙ (c.window_len.ensures.m ∙ c.copies.ensures.m) in
-      let found : c.as_slice-2.result.now ≡ multi_of held.m k (channels_at (stores_of held) slot) =
-      c.as_slice-2.ensures
-      ∙ (c.in_ok-profile.ensures
-      ∙ (ap (λ (n : ℕ). multi_of n k (map series_of c.in_ok-channels.channels)) window
-      ∙ ap (multi_of held.m k) copied)) in
+      let window : c.plan-plan.result.m ≡ held.m =
+      c.plan-plan.ensures ∙ (c.window_len.ensures.m ∙ c.copies.ensures.m) in
       answer_accepted (state_over c.args.context held) files (asked.Multi slot k) c.in_ok-text.text
       (sym c.in_default.ensures.cause) refl
       (c.in_ok-text.ensures
-      ∙ (ap (λ (n : ℕ). multi_text n c.as_slice-2.result.now) c.line.ensures ∙ ap (multi_text line) found));
+      ∙ (ap (λ (n : ℕ). multi_text n (multi_of c.plan-plan.result.m k (map series_of c.in_ok-channels.channels)))
+      c.line.ensures
+      ∙ (ap (λ (n : ℕ). multi_text line (multi_of n k (map series_of c.in_ok-channels.channels))) window
+      ∙ ap (λ (list : List Series). multi_text line (multi_of held.m k list)) copied)));
   memory = tt;
 }

@@ -2,7 +2,7 @@ use Rattle.std.proofs.Common.{map, arith, ap, ◌∙◌, sym}
 use Rattle.std.specs.Prelude.{Some}
 use Rattle.std.specs.Option.{option_map}
 use Rattle.mp_defs.specs.Series.{series_of}
-use Rattle.mp_consensus.specs.Consensus.{central_at}
+use Rattle.mp_results.specs.Consensus.{central_at}
 use Rattle.mp_consensus.specs.Columns.{items_of}
 use Rattle.mp_consensus.proofs.Counterparts.{wide, least_found, windows_found, windows_are_there}
 use Rattle.mp_consensus.proofs.LeastCentres.{least_is_window}

@@ -1,7 +1,7 @@
 use Rattle.std.proofs.Common.{sym, ap, ◌∙◌, map}
 use Rattle.mp_defs.specs.Series.{series_of}
 use Rattle.std.specs.Option.{option_map}
-use Rattle.mp_consensus.specs.Consensus.{central, lesser}
+use Rattle.mp_results.specs.Consensus.{central, lesser}
 use Rattle.mp_consensus.proofs.Steps.{centre_zero, centre_more}
 use Rattle.mp_consensus.proofs.centres.consensus.Goals as goal
 

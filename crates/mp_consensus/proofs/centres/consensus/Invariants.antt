@@ -1,7 +1,7 @@
 use Rattle.std.proofs.Common.{◌≡◌, map}
 use Rattle.std.specs.Option.{option_map}
 use Rattle.mp_defs.specs.Series.{series_of}
-use Rattle.mp_consensus.specs.Consensus.{central, centre_among}
+use Rattle.mp_results.specs.Consensus.{central, centre_among}
 use Rattle.mp_consensus.proofs.centres.consensus.Given as goal
 
 abbrev pub invariant-loop-place : goal.invariant-loop-place

@@ -1,7 +1,7 @@
 use Rattle.std.proofs.Common.{refl}
 use Rattle.mp_defs.specs.Distance.{distance}
 use Rattle.mp_defs.specs.Least.{near}
-use Rattle.mp_consensus.specs.Consensus.{farthest, those_there, centre_among}
+use Rattle.mp_results.specs.Consensus.{farthest, those_there, centre_among}
 use Rattle.mp_consensus.proofs.examples.worked_centres.Goals as goal
 
 pub returns : goal.returns

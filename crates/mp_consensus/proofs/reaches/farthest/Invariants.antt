@@ -1,6 +1,6 @@
 use Rattle.std.proofs.Common.{◌≡◌}
 use Rattle.std.specs.Prelude.{Some}
-use Rattle.mp_consensus.specs.Consensus.{farthest}
+use Rattle.mp_results.specs.Consensus.{farthest}
 use Rattle.mp_consensus.specs.Columns.{slot_at, items_of}
 use Rattle.mp_consensus.proofs.reaches.farthest.Given as goal
 

@@ -1,7 +1,7 @@
 use Rattle.std.proofs.Common.{ℕ, length, sym, ap, ◌∙◌}
 use Rattle.std.specs.Option.{option_map}
 use Rattle.mp_defs.specs.LeastLaws.{grows_by_one_candidate}
-use Rattle.mp_consensus.specs.Consensus.{farthest}
+use Rattle.mp_results.specs.Consensus.{farthest}
 use Rattle.mp_consensus.specs.Columns.{slot_at, items_of, as_square}
 use Rattle.mp_consensus.proofs.Steps.{reach_found, reach_missing}
 use Rattle.mp_consensus.proofs.Counterparts.{as_many_columns}

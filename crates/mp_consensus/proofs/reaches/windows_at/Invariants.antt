@@ -1,5 +1,5 @@
 use Rattle.std.proofs.Common.{◌≡◌}
-use Rattle.mp_consensus.specs.Consensus.{those_there}
+use Rattle.mp_results.specs.Consensus.{those_there}
 use Rattle.mp_consensus.specs.Columns.{slot_at, items_of}
 use Rattle.mp_consensus.proofs.reaches.windows_at.Given as goal
 

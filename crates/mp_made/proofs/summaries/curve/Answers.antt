@@ -1,7 +1,7 @@
 use Rattle.std.proofs.Common.{◌∙◌, ap, arith, length}
 use Rattle.std.proofs.lemmas.List.{length-map}
 use Rattle.std.proofs.lemmas.List.FromFn.{length-map-range_with_len}
-use Rattle.mp_arcs.specs.Arcs.{arc_count, index_of, indices_of}
+use Rattle.mp_results.specs.Arcs.{arc_count, index_of, indices_of}
 use Rattle.mp_made.proofs.summaries.curve.Goals as goal
 
 pub corrected-requires-clause-places : goal.corrected-requires-clause-places

@@ -2,7 +2,7 @@ use Rattle.std.proofs.Common.{◌-◌, ◌++◌, refl, sym, ap, ◌∙◌, subst
 use Rattle.std.specs.List.{enumerate_from}
 use Rattle.std.specs.Option.{option_to_list}
 use Rattle.mp_motifs.specs.Described.{AreMatches}
-use Rattle.mp_motifs.specs.Matches.{given, matches}
+use Rattle.mp_results.specs.Matches.{given, matches}
 use Rattle.mp_motifs.specs.Retold.{match_key, near_of}
 use Rattle.mp_motifs.proofs.MatchLemmas.{chosen_are_matches, matches_are_described}
 use Rattle.mp_motifs.proofs.matching.matches.Goals as goal

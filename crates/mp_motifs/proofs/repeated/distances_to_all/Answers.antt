@@ -4,8 +4,8 @@ use Rattle.mp_nums.specs.declared.samples.Sample.TheVariants.{Missing as missing
 use Rattle.mp_slide.specs.declared.refusal.SlideRefusal.{SlideRefusal}
 use Rattle.mp_slide.specs.declared.refusal.SlideRefusal.TheVariants.{Length, Missing, Memory}
 use Rattle.mp_defs.specs.Series.{series_of}
-use Rattle.mp_slide.specs.Slide.{distances_of}
-use Rattle.mp_motifs.specs.Motifs.{distances_from}
+use Rattle.mp_results.specs.Slide.{distances_of}
+use Rattle.mp_results.specs.Motifs.{distances_from}
 use Rattle.mp_motifs.proofs.Windows.{distances_of_window, window_length, none_missing, ok_mapped}
 use Rattle.mp_motifs.proofs.repeated.distances_to_all.Goals as goal
 

@@ -1,14 +1,14 @@
 use Rattle.std.proofs.Common.{IsPermutation, IsSorted, ◌≡◌, true, replicate, length, arith, rules, ap, sym, ◌∙◌}
 use Rattle.std.proofs.Common.{subst, inl, inr, refl, get_or, map, [], ◌∷◌, ◌++◌, false, ◌+◌, ◌<◌, ◌≤◌}
 use Rattle.std.proofs.lemmas.Bool.Decides.{nat_tests}
-use Rattle.mp_motifs.specs.Order.{near_cmp}
+use Rattle.mp_results.specs.Order.{near_cmp}
 use Rattle.std.specs.Prelude.{◌&&◌, nat_lt}
 use Rattle.std.specs.Int.{abs_diff}
 use Rattle.std.specs.List.{list_all}
 use Rattle.std.proofs.lemmas.List.{get_or_read, get_or_default}
 use Rattle.mp_nums.specs.declared.nearest.Near.{Near}
 use Rattle.mp_defs.specs.Series.{series_of}
-use Rattle.mp_motifs.specs.Motifs.{MotifQuery, matches_of, within_cutoff, repeated_of}
+use Rattle.mp_results.specs.Motifs.{MotifQuery, matches_of, within_cutoff, repeated_of}
 use Rattle.mp_motifs.proofs.Entries.{candidate_is, motifs_among_candidates, tried_is}
 use Rattle.mp_motifs.proofs.Searching.{BeginsAt, ShutsOut, IsSearching, search_starts, search_ends, passed_over}
 use Rattle.mp_motifs.proofs.Searching.{tried_and_kept, tried_and_left, written_over}

@@ -1,6 +1,6 @@
 use Rattle.std.proofs.Common.{length}
 use Rattle.mp_defs.specs.Series.{series_of}
-use Rattle.mp_motifs.specs.Motifs.{matches_of, within_cutoff}
+use Rattle.mp_results.specs.Motifs.{matches_of, within_cutoff}
 use Rattle.mp_motifs.proofs.Searching.{IsSearching}
 use Rattle.mp_motifs.proofs.repeated.motifs.Given as goal
 

@@ -2,7 +2,7 @@ use Rattle.std.proofs.Common.{◌<◌, length, sym, ap, ◌∙◌, arith}
 use Rattle.std.specs.Option.{option_map}
 use Rattle.std.proofs.lemmas.List.{nil_from_length}
 use Rattle.std.proofs.lemmas.Bool.Decides.{nat_tests}
-use Rattle.mp_mpdist.specs.Distances.{square}
+use Rattle.mp_results.specs.Slide.{square}
 use Rattle.mp_mpdist.proofs.Selected.{at_or_greatest-none, at_or_greatest-selected}
 use Rattle.mp_mpdist.proofs.distances.at_or_greatest.Goals as goal
 

@@ -1,6 +1,6 @@
 use Rattle.std.proofs.Common.{◌≡◌, ◌++◌, take}
 use Rattle.std.specs.List.{filter_map}
-use Rattle.mp_mpdist.specs.Distances.{distance_in}
+use Rattle.mp_results.specs.Mpdist.{distance_in}
 use Rattle.mp_mpdist.proofs.distances.push_distances.Given as goal
 
 abbrev pub invariant-loop-slot : goal.invariant-loop-slot

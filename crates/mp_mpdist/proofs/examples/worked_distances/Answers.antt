@@ -1,5 +1,5 @@
 use Rattle.std.proofs.Common.{refl}
-use Rattle.mp_mpdist.specs.Distances.{in_rising_order, mpdist_of}
+use Rattle.mp_results.specs.Mpdist.{in_rising_order, mpdist_of}
 use Rattle.mp_mpdist.proofs.examples.worked_distances.Goals as goal
 
 pub returns : goal.returns

@@ -5,7 +5,7 @@ use Rattle.rayon.specs.Numbers.{nat_range}
 use Rattle.rayon.proofs.ListFacts.{IfOk-then}
 use Rattle.rayon.proofs.ToStd.{nat_range-All}
 use Rattle.mp_defs.specs.Series.{series_of}
-use Rattle.mp_multi.specs.Multi.{multi_entry}
+use Rattle.mp_results.specs.Multi.{multi_entry}
 use Rattle.mp_multi.specs.Conditions.{AreChannels}
 use Rattle.mp_multi.proofs.profiles.entries.Goals as goal
 

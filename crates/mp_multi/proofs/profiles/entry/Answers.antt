@@ -2,7 +2,7 @@ use Rattle.std.proofs.Common.{map, sym, ap, ◌∙◌, arith}
 use Rattle.mp_defs.specs.Series.{series_of}
 use Rattle.mp_defs.specs.Window.{is_allowed}
 use Rattle.mp_defs.specs.Least.{near, candidate}
-use Rattle.mp_multi.specs.Multi.{pair_value}
+use Rattle.mp_results.specs.Multi.{pair_value}
 use Rattle.mp_multi.proofs.Pairs.{near_begins, window_barred, window_without, window_found, windows_there}
 use Rattle.mp_multi.proofs.profiles.entry.Goals as goal
 use Rattle.mp_multi.proofs.profiles.entry.Goals.{then-allowed+in-Some, then-allowed+in_default, else-allowed}

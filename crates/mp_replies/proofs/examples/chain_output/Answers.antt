@@ -3,9 +3,9 @@ use Rattle.std.specs.Fmt.{digits}
 use Rattle.mp_defs.specs.Distance.{distance}
 use Rattle.mp_defs.specs.Least.{near}
 use Rattle.mp_defs.specs.Window.{is_free}
-use Rattle.mp_chains.specs.Chains.{links}
-use Rattle.mp_motifs.specs.Motifs.{motifs_among}
-use Rattle.mp_mpdist.specs.Distances.{in_rising_order, mpdist_of}
+use Rattle.mp_results.specs.Chains.{links}
+use Rattle.mp_results.specs.Motifs.{motifs_among}
+use Rattle.mp_results.specs.Mpdist.{in_rising_order, mpdist_of}
 use Rattle.mp_picks.specs.Picks.{first_of, picks}
 use Rattle.mp_replies.specs.Line.{asked_of, ends}
 use Rattle.mp_replies.specs.Step.{verdict, cause, after, answer}

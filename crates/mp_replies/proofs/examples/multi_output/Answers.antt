@@ -2,7 +2,7 @@ use Rattle.std.proofs.Common.{refl}
 use Rattle.std.specs.Fmt.{digits}
 use Rattle.mp_defs.specs.Distance.{distance}
 use Rattle.mp_defs.specs.Least.{near}
-use Rattle.mp_multi.specs.Rising.{inserted, rising}
+use Rattle.mp_results.specs.Rising.{inserted, rising}
 use Rattle.mp_replies.specs.Line.{asked_of, ends}
 use Rattle.mp_replies.specs.Step.{verdict, cause, after, answer}
 use Rattle.mp_replies.specs.Output.{reply, output}

@@ -1,6 +1,6 @@
 use Rattle.std.proofs.Common.{◌≡◌, ◌++◌, take, map}
 use Rattle.std.specs.Prelude.{flat_map}
-use Rattle.mp_motifs.specs.Motifs.{repeated_of}
+use Rattle.mp_results.specs.Motifs.{repeated_of}
 use Rattle.mp_replies.specs.MotifsCommand.{motif_text}
 use Rattle.mp_report.proofs.matches.push_motifs.Given as goal
 

@@ -2,7 +2,7 @@ use Rattle.std.proofs.Common.{◌≡◌, ◌++◌}
 use Rattle.std.specs.Prelude.{flat_map}
 use Rattle.std.specs.List.{range_with_len}
 use Rattle.mp_replies.specs.ProfileCommand.{row_at}
-use Rattle.mp_report.specs.Profiles.{columns_in}
+use Rattle.mp_replies.specs.Profiles.{columns_in}
 use Rattle.mp_report.proofs.profiles.push_rows.Given as goal
 
 abbrev pub invariant-loop-start : goal.invariant-loop-start

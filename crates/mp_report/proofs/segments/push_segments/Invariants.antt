@@ -1,6 +1,6 @@
 use Rattle.std.proofs.Common.{◌≡◌, ◌++◌, take, map}
 use Rattle.std.specs.Prelude.{flat_map}
-use Rattle.mp_arcs.specs.Curve.{parts_of}
+use Rattle.mp_results.specs.Curve.{parts_of}
 use Rattle.mp_replies.specs.SegmentsCommand.{segment_text}
 use Rattle.mp_report.proofs.segments.push_segments.Given as goal
 

@@ -1,8 +1,9 @@
-use Rattle.std.proofs.Common.{rules, refl, ap, ◌∙◌, arith, subst}
+use Rattle.std.proofs.Common.{◌≡◌, rules, refl, ap, ◌∙◌, arith, subst}
+use Rattle.std.specs.Prelude.{Bool, Option, None, Some}
 use Rattle.mp_feed.specs.Reading.{IsNext}
-use Rattle.mp_feed.specs.declared.readers.Next.TheVariants.{Line}
+use Rattle.mp_feed.specs.declared.readers.Next.TheVariants.{Line, End}
 use Rattle.mp_feed.specs.WritingLaws.{wrote_faults}
-use Rattle.mp_session.specs.Running.{course_at}
+use Rattle.mp_session.specs.Running.{course_at, next_by}
 use Rattle.mp_session.proofs.RunLemmas.{were_run_none}
 use Rattle.mp_session.proofs.UnderWay.{under_way_start, under_way_on, all_to_end, all_to_last, all_at_end, into_line}
 use Rattle.mp_session.proofs.UnderWay.{some_lines, lines_before_fault, lines_within, to_file}
@@ -27,70 +28,77 @@ loop-reader-init g c = rw c.in_ok-reader.ensures (record {
   files = refl;
 })
 
-pub returns-in-Err-clause-read_fault : goal.returns-in-Err-clause-read_fault
-returns-in-Err-clause-read_fault g c = λ _.
-    lines_before_fault c.advance.new.self (g.S.Source.left c.advance.new.input) c.loop-reader.invariant.run
-    c.in-Err.ensures.failed
+pub returns-in_err-last-clause-read_fault : goal.returns-in_err-last-clause-read_fault
+returns-in_err-last-clause-read_fault g c = λ e.
+    lines_before_fault c.next_line.new.reader (g.S.Source.left c.next_line.new.input) c.loop-reader.invariant.run
+    (c.in_err-last.ensures.failed (search rules))
 
-pub returns-in-Ok-PastLimit-clause-input_limit : goal.returns-in-Ok-PastLimit-clause-input_limit
-returns-in-Ok-PastLimit-clause-input_limit g c = λ _.
-    lines_within c.advance.new.self (g.S.Source.left c.advance.new.input) c.loop-reader.invariant.run
-    (rw c.in-Ok-PastLimit.field-0-is at c.in-Ok-PastLimit.ensures.next)
+pub returns-in_err-last-clause-input_limit : goal.returns-in_err-last-clause-input_limit
+returns-in_err-last-clause-input_limit g c = λ e.
+    lines_within c.next_line.new.reader (g.S.Source.left c.next_line.new.input) c.loop-reader.invariant.run
+    (c.in_err-last.ensures.past (search rules))
 
-pub returns-in-Ok-End-clause-all : goal.returns-in-Ok-End-clause-all
-returns-in-Ok-End-clause-all g c =
-    all_at_end c.advance.new.self (g.S.Source.left c.advance.new.input) c.loop-reader.invariant.run
-    (rw c.in-Ok-End.field-0-is at c.in-Ok-End.ensures.next)
+-- where no line comes, the end does
+no_line : (next : Option Bool) → ((last : Bool) → next ≡ Some last → ⊥) → next_by next ≡ End
+no_line None none = refl
+no_line (Some last) none = absurd (none last refl)
+
+pub returns-in_default-clause-all : goal.returns-in_default-clause-all
+returns-in_default-clause-all g c =
+    all_at_end c.next_line.new.reader (g.S.Source.left c.next_line.new.input) c.loop-reader.invariant.run
+    (subst (IsNext c.loop-reader.reader c.next_line.new.reader (g.S.Source.left c.loop-reader.input)
+    (g.S.Source.left c.next_line.new.input))
+    (no_line c.in_ok-last.field-0 c.in_default.not-Some) c.in_ok-last.ensures.next)
 
 pub returns-in_err-ran-clause-memory : goal.returns-in_err-ran-clause-memory
 returns-in_err-ran-clause-memory g c = λ e.
     some_lines c.loop-reader.invariant.run
     (rw c.loop-reader.invariant.files at c.in_err-ran.ensures.memory
-    (g.S.Source.left c.advance.new.input) (search rules))
+    (g.S.Source.left c.next_line.new.input) (search rules))
 
 pub returns-in_err-ran-clause-shelf_fault : goal.returns-in_err-ran-clause-shelf_fault
 returns-in_err-ran-clause-shelf_fault g c = λ e.
-    to_file c.advance.new.self (g.S.Source.left c.advance.new.input) c.loop-reader.invariant.run c.in-Ok-Line.last
-    (rw c.in-Ok-Line.field-0-is at c.in-Ok-Line.ensures.next) c.line.ensures
+    to_file c.next_line.new.reader (g.S.Source.left c.next_line.new.input) c.loop-reader.invariant.run c.in-Some.last
+    (rw c.in-Some.is at c.in_ok-last.ensures.next) c.line.ensures
     (rw c.loop-reader.invariant.files at c.in_err-ran.ensures.shelf_fault
-    (g.S.Source.left c.advance.new.input) (search rules))
+    (g.S.Source.left c.next_line.new.input) (search rules))
     (λ state h. c.in_err-ran.ensures.shelf_asked state h (search rules))
 
 pub returns-in_err-ran-clause-write_fault : goal.returns-in_err-ran-clause-write_fault
 returns-in_err-ran-clause-write_fault g c = λ e.
-    into_line c.advance.new.self (g.S.Source.left c.advance.new.input) c.loop-reader.invariant.run c.in-Ok-Line.last
-    (rw c.in-Ok-Line.field-0-is at c.in-Ok-Line.ensures.next) c.line.ensures
+    into_line c.next_line.new.reader (g.S.Source.left c.next_line.new.input) c.loop-reader.invariant.run c.in-Some.last
+    (rw c.in-Some.is at c.in_ok-last.ensures.next) c.line.ensures
     (rw c.loop-reader.invariant.files at c.in_err-ran.ensures.begun
-    (g.S.Source.left c.advance.new.input) (search rules))
+    (g.S.Source.left c.next_line.new.input) (search rules))
 
 pub returns-then-ran-clause-all : goal.returns-then-ran-clause-all
 returns-then-ran-clause-all g c =
-    let left = g.S.Source.left c.advance.new.input in
-    let next = rw c.in-Ok-Line.field-0-is at c.in-Ok-Line.ensures.next in
+    let left = g.S.Source.left c.next_line.new.input in
+    let next = rw c.in-Some.is at c.in_ok-last.ensures.next in
     let run = rw c.loop-reader.invariant.files at c.in_ok-ran.ensures.run left in
     elim c.then-ran.branch [
       | then-ran-via-then-ran w ↦
-          all_to_end c.advance.new.self left c.loop-reader.invariant.run c.in-Ok-Line.last next c.line.ensures
+          all_to_end c.next_line.new.reader left c.loop-reader.invariant.run c.in-Some.last next c.line.ensures
           run c.in_ok-ran.ensures.ends w.if-ran.true
       | then-ran-via-else-ran+then-last w ↦
-          all_to_last c.advance.new.self left c.loop-reader.invariant.run c.in-Ok-Line.last
+          all_to_last c.next_line.new.reader left c.loop-reader.invariant.run c.in-Some.last
           w.if-last.true next c.line.ensures run
     ]
 
 pub loop-reader-preserved : goal.loop-reader-preserved
 loop-reader-preserved g c =
     let i = c.loop-reader.invariant in
-    let left = g.S.Source.left c.advance.new.input in
-    let read = c.in-Ok-Line.ensures in
+    let left = g.S.Source.left c.next_line.new.input in
+    let read = c.next_line.ensures in
     let line_held =
     subst (λ last.
-    IsNext c.loop-reader.reader c.advance.new.self (g.S.Source.left c.loop-reader.input) left (Line last))
-    c.if-last.false (rw c.in-Ok-Line.field-0-is at read.next) in
-    let fewer = read.fewer (c.in-Ok-Line.field-0-is ∙ ap Line c.if-last.false) in
+    IsNext c.loop-reader.reader c.next_line.new.reader (g.S.Source.left c.loop-reader.input) left (Line last))
+    c.if-last.false (rw c.in-Some.is at c.in_ok-last.ensures.next) in
+    let fewer = c.in_ok-last.ensures.fewer (c.in-Some.is ∙ ap Some c.if-last.false) in
     let ran = c.in_ok-ran.ensures in
     rw c.drop_line.ensures (record {
       run =
-          under_way_on c.advance.new.self left i.run line_held c.line.ensures (rw i.files at ran.run left)
+          under_way_on c.next_line.new.reader left i.run line_held c.line.ensures (rw i.files at ran.run left)
           ran.ends c.if-ran.false;
       part = λ whole. absurd (cc whole);
       count = omega (arith, i.count, fewer, (ran.run left).run.count);

@@ -1,4 +1,4 @@
-use Rattle.std.proofs.Common.{◌∙◌, arith, rules}
+use Rattle.std.proofs.Common.{arith, rules}
 use Rattle.mp_slots.proofs.ArcLemmas.{all_named, block_named}
 use Rattle.mp_slots.proofs.arcs.name_marked.Goals as goal
 

@@ -1,5 +1,5 @@
 use Rattle.std.proofs.Common.{◌<◌, ◌∙◌, ℕ, IfSome, Option, None, get_or, ap, arith, length, set, subst, sym}
-use Rattle.mp_arcs.specs.Arcs.{index_of}
+use Rattle.mp_results.specs.Arcs.{index_of}
 use Rattle.mp_slots.proofs.ArcLemmas.{named_next, named_none, names_window}
 use Rattle.mp_slots.proofs.arcs.name_part.Goals as goal
 

@@ -1,0 +1,15 @@
+pub mod Slide
+pub mod Order
+pub mod Matches
+pub mod Discords
+pub mod Motifs
+pub mod Columns
+pub mod Chains
+pub mod Arcs
+pub mod Curve
+pub mod Regimes
+pub mod Mpdist
+pub mod Rising
+pub mod Multi
+pub mod Consensus
+pub mod Generator

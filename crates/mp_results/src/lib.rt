@@ -1,0 +1,6 @@
+//! What is found in profiles and series: matches, motifs, discords, chains, arcs and regimes, MPdist, the profile of
+//! several channels, the centre of several series, and made series.
+//!
+//! The definitions stand in `specs/`. The crates that compute each of these have contracts that cite them, and so have
+//! the crates that report it.
+#![tactic(auto)]

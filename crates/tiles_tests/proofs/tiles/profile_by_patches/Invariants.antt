@@ -1,5 +1,0 @@
-use Rattle.std.proofs.Common.{◌≡◌, length}
-use Rattle.tiles_tests.proofs.tiles.profile_by_patches.Given as goal
-
-abbrev pub invariant-loop-k : goal.invariant-loop-k
-invariant-loop-k l = length l.bench.profile.all ≡ length l.initial.bench.profile.all
