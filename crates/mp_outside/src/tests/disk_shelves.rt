@@ -1,69 +1,75 @@
 use super::fetch;
 use crate::disk_shelves::first_bytes;
-use crate::{DiskShelf, ShelfAnswer};
-use std::alloc::AllocError;
+use crate::{DiskShelf, Shelf, ShelfAnswer};
 use std::fs::{File, Permissions};
 use std::io::Read;
 use std::os::unix::fs::PermissionsExt;
-use std::test::Fail;
-use std::{env, fs, io, process};
+use std::process::Abort;
+use std::{env, fs, io};
 
-// A name of this test alone, in the working folder.
-fn name_for(rt: &HostRuntime, purpose: &str) -> Result<String, AllocError> {
-    format!(in rt.alloc(); "mp_outside_{purpose}_{}.csv", process::id(rt.process()))
+// Each test has files of its own, in the working folder.
+fn expect_bytes<R: Abort + AllocGlobal, H: Shelf>(
+    rt: &R,
+    shelf: &mut H,
+    name: &[u8],
+    limit: u64,
+    bytes: &[u8],
+) {
+    let found = fetch(rt.alloc(), shelf, name, limit).expect(rt, "there is a file");
+    assert_eq!(rt; found.as_slice(), bytes);
+}
+
+fn expect_answer<R: Abort + AllocGlobal, H: Shelf>(
+    rt: &R,
+    shelf: &mut H,
+    name: &[u8],
+    limit: u64,
+    answer: ShelfAnswer,
+) {
+    assert_eq!(rt; fetch(rt.alloc(), shelf, name, limit).err(), Some(answer));
 }
 
 #[test]
-fn a_shelf_on_disk_gives_its_files(rt: HostRuntime) -> Result<(), Fail> {
-    let alloc = rt.alloc();
-    let name = name_for(&rt, "small")?;
-    let path = env::current_dir(&rt)?.join(alloc, name.as_str())?;
-    let mut shelf = DiskShelf::new(&rt)?;
-    fs::write(&rt, name.as_str(), "1,2\n")?;
-    let found = fetch(alloc, &mut shelf, name.as_bytes(), 4);
-    let from_the_root = fetch(alloc, &mut shelf, path.as_str().as_bytes(), 4);
-    let too_large = fetch(alloc, &mut shelf, name.as_bytes(), 3);
-    fs::write(&rt, name.as_str(), "")?;
-    let empty = fetch(alloc, &mut shelf, name.as_bytes(), 0);
-    fs::remove_file(&rt, name.as_str())?;
-    let absent = fetch(alloc, &mut shelf, name.as_bytes(), 4);
+fn a_shelf_on_disk_gives_its_files(rt: HostRuntime) {
+    let mut shelf = DiskShelf::new(&rt).expect(&rt, "memory is short");
+    let folder = env::current_dir(&rt).expect(&rt, "there is a folder");
+    let path = folder
+        .join(rt.alloc(), "small.csv")
+        .expect(&rt, "memory is short");
+    assert!(rt; fs::write(&rt, "small.csv", "1,2\n").is_ok());
+    expect_bytes(&rt, &mut shelf, b"small.csv", 4, b"1,2\n");
+    expect_bytes(&rt, &mut shelf, path.as_str().as_bytes(), 4, b"1,2\n");
+    expect_answer(&rt, &mut shelf, b"small.csv", 3, ShelfAnswer::TooLarge);
+    assert!(rt; fs::write(&rt, "small.csv", "").is_ok());
+    expect_bytes(&rt, &mut shelf, b"small.csv", 0, b"");
+    assert!(rt; fs::remove_file(&rt, "small.csv").is_ok());
+    expect_answer(&rt, &mut shelf, b"small.csv", 4, ShelfAnswer::Absent);
+}
 
-    assert_eq!(rt; found?.as_slice(), b"1,2\n".as_slice());
-    assert_eq!(rt; from_the_root?.as_slice(), b"1,2\n".as_slice());
-    assert_eq!(rt; too_large.err(), Some(ShelfAnswer::TooLarge));
-    assert!(rt; empty?.is_empty());
-    assert_eq!(rt; absent.err(), Some(ShelfAnswer::Absent));
-    Ok(())
+// Whether a file can be made that may not be read. The system's own user may read every file.
+fn is_locked(rt: &HostRuntime, name: &str) -> bool {
+    fs::write(rt, name, "1").is_ok()
+        && fs::set_permissions(rt, name, Permissions::from_mode(0)).is_ok()
+        && File::open(rt, name).is_err()
 }
 
 #[test]
-fn a_shelf_on_disk_tells_what_is_absent_from_what_failed(rt: HostRuntime) -> Result<(), Fail> {
-    let alloc = rt.alloc();
-    let name = name_for(&rt, "locked")?;
-    let below = format!(in alloc; "{name}/below")?;
-    let long = vec![in alloc; b'a'; 5000]?;
-    let mut shelf = DiskShelf::new(&rt)?;
-    fs::write(&rt, name.as_str(), "1")?;
-    let under_a_file = fetch(alloc, &mut shelf, below.as_bytes(), 4);
-    fs::set_permissions(&rt, name.as_str(), Permissions::from_mode(0))?;
-    let may_read = File::open(&rt, name.as_str()).is_ok();
-    let locked = fetch(alloc, &mut shelf, name.as_bytes(), 4);
-    fs::remove_file(&rt, name.as_str())?;
-
-    assert_eq!(rt; under_a_file.err(), Some(ShelfAnswer::Failed));
-    // The system's own user may read every file.
-    if !may_read {
-        assert_eq!(rt; locked.err(), Some(ShelfAnswer::Failed));
+fn a_shelf_on_disk_tells_what_is_absent_from_what_failed(rt: HostRuntime) {
+    let mut shelf = DiskShelf::new(&rt).expect(&rt, "memory is short");
+    let long = vec![in rt.alloc(); b'a'; 5000].expect(&rt, "memory is short");
+    if is_locked(&rt, "locked.csv") {
+        expect_answer(&rt, &mut shelf, b"locked.csv", 4, ShelfAnswer::Failed);
     }
     for (name, answer) in [
+        (b"locked.csv/below".as_slice(), ShelfAnswer::Failed),
         (b"\xff".as_slice(), ShelfAnswer::Absent),
         (b".".as_slice(), ShelfAnswer::Failed),
         (b"a\0b".as_slice(), ShelfAnswer::Failed),
         (long.as_slice(), ShelfAnswer::Failed),
     ] {
-        assert_eq!(rt; fetch(alloc, &mut shelf, name, 4).err(), Some(answer));
+        expect_answer(&rt, &mut shelf, name, 4, answer);
     }
-    Ok(())
+    assert!(rt; fs::remove_file(&rt, "locked.csv").is_ok());
 }
 
 // A reader that counts the bytes that it gives.
@@ -81,26 +87,25 @@ impl<F: Read> Read for Counted<F> {
     }
 }
 
+// Expects 11 bytes of a file of 200,000, and then the rest of it in two pieces.
+fn expect_pieces<R: Abort + AllocGlobal, F: Read>(rt: &R, counted: &mut Counted<F>) {
+    let few = first_bytes(rt.alloc(), counted, 11).expect(rt, "the file is there");
+    assert_eq!(rt; (few.len(), counted.given), (11, 11));
+    let many = first_bytes(rt.alloc(), counted, 150_000).expect(rt, "the file is there");
+    let rest = first_bytes(rt.alloc(), counted, 150_000).expect(rt, "the file is there");
+    assert_eq!(rt; (many.len(), rest.len()), (150_000, 49_989));
+}
+
 #[test]
-fn no_more_of_a_file_is_read_than_asked(rt: HostRuntime) -> Result<(), Fail> {
-    let alloc = rt.alloc();
-    let name = name_for(&rt, "large")?;
-    let bytes = vec![in alloc; b'1'; 200_000]?;
-    let mut shelf = DiskShelf::new(&rt)?;
-    fs::write(&rt, name.as_str(), bytes.as_slice())?;
-    let too_large = fetch(alloc, &mut shelf, name.as_bytes(), 10);
+fn no_more_of_a_file_is_read_than_asked(rt: HostRuntime) {
+    let bytes = vec![in rt.alloc(); b'1'; 200_000].expect(&rt, "memory is short");
+    assert!(rt; fs::write(&rt, "large.csv", bytes.as_slice()).is_ok());
+    let mut shelf = DiskShelf::new(&rt).expect(&rt, "memory is short");
+    expect_answer(&rt, &mut shelf, b"large.csv", 10, ShelfAnswer::TooLarge);
     let mut counted = Counted {
-        file: File::open(&rt, name.as_str())?,
+        file: File::open(&rt, "large.csv").expect(&rt, "the file is there"),
         given: 0,
     };
-    let few = first_bytes(alloc, &mut counted, 11)?.len();
-    let given_for_few = counted.given;
-    let many = first_bytes(alloc, &mut counted, 150_000)?.len();
-    let rest = first_bytes(alloc, &mut counted, 150_000)?.len();
-    fs::remove_file(&rt, name.as_str())?;
-
-    assert_eq!(rt; too_large.err(), Some(ShelfAnswer::TooLarge));
-    assert_eq!(rt; (few, given_for_few), (11, 11));
-    assert_eq!(rt; (many, rest), (150_000, 49_989));
-    Ok(())
+    expect_pieces(&rt, &mut counted);
+    assert!(rt; fs::remove_file(&rt, "large.csv").is_ok());
 }

@@ -4,6 +4,7 @@ use std::alloc::Allocator;
 use std::cell::RefCell;
 use std::fmt::Display;
 use std::io::{self, BufRead, ErrorKind, Lines, Print, Read, Write};
+use std::process::Abort;
 use std::test::Fail;
 
 // What a reader of these tests does at one read.
@@ -99,25 +100,33 @@ impl Write for Notebook {
     }
 }
 
+// Writes until the writer is full, is interrupted, and takes nothing, and flushes in vain.
+fn expect_faults<K: Sink>(rt: &impl Abort, sink: &mut K) {
+    assert_eq!(rt; sink.write(b"012345"), Ok(3));
+    assert_eq!(rt; sink.write(b"345"), Err(Failed));
+    assert_eq!(rt; sink.write(b"345"), Ok(3));
+    assert_eq!(rt; sink.write(b"67"), Err(Failed));
+    assert_eq!(rt; sink.flush(), Err(Failed));
+}
+
+fn expect_rest<K: Sink>(rt: &impl Abort, sink: &mut K) {
+    assert_eq!(rt; write_and_flush(sink, b"6789"), Ok(3));
+    assert_eq!(rt; sink.write(b""), Ok(0));
+    assert_eq!(rt; write_and_flush(sink, b"9"), Ok(1));
+}
+
 #[test]
-fn what_a_sink_takes_reaches_its_writer(rt: HostRuntime) -> Result<(), Fail> {
+fn what_a_sink_takes_reaches_its_writer(rt: HostRuntime) {
     let mut notebook = Notebook {
         noted: Vec::new(rt.alloc()),
         writes: 0,
         flushes: 0,
     };
     let mut sink = StdSink::over(&mut notebook);
-    assert_eq!(rt; sink.write(b"012345"), Ok(3));
-    assert_eq!(rt; sink.write(b"345"), Err(Failed));
-    assert_eq!(rt; sink.write(b"345"), Ok(3));
-    assert_eq!(rt; sink.write(b"67"), Err(Failed));
-    assert_eq!(rt; sink.flush(), Err(Failed));
-    assert_eq!(rt; write_and_flush(&mut sink, b"6789"), Ok(3));
-    assert_eq!(rt; sink.write(b""), Ok(0));
-    assert_eq!(rt; write_and_flush(&mut sink, b"9"), Ok(1));
+    expect_faults(&rt, &mut sink);
+    expect_rest(&rt, &mut sink);
     assert_eq!(rt; notebook.noted.as_slice(), b"0123456789".as_slice());
     assert_eq!(rt; (notebook.writes, notebook.flushes), (7, 3));
-    Ok(())
 }
 
 // A runtime whose standard input holds bytes.
@@ -142,18 +151,21 @@ impl Input for Keyboard {
     }
 }
 
+fn expect_all<R: Abort + AllocGlobal, S: Source>(rt: &R, source: &mut S, bytes: &[u8]) {
+    let all = read_to_end(rt.alloc(), source).expect(rt, "memory is short");
+    assert_eq!(rt; all.expect(rt, "no read fails").as_slice(), bytes);
+}
+
 // Tests run with nothing on the system's standard input.
 #[test]
-fn standard_input_is_read_to_its_end(rt: HostRuntime) -> Result<(), Fail> {
-    let alloc = rt.alloc();
+fn standard_input_is_read_to_its_end(rt: HostRuntime) {
     let keyboard = Keyboard {
         typed: b"matrix profile",
     };
-    let typed = read_to_end(alloc, &mut StdSource::new(&keyboard)?)?.ok_or("a read failed")?;
-    assert_eq!(rt; typed.as_slice(), b"matrix profile".as_slice());
-    let none = read_to_end(alloc, &mut StdSource::new(&rt)?)?.ok_or("a read failed")?;
-    assert!(rt; none.is_empty());
-    Ok(())
+    let mut typed = StdSource::new(&keyboard).expect(&rt, "memory is short");
+    expect_all(&rt, &mut typed, b"matrix profile");
+    let mut none = StdSource::new(&rt).expect(&rt, "memory is short");
+    expect_all(&rt, &mut none, b"");
 }
 
 // A runtime that prints on paper, four bytes at a time, until it is full.
@@ -189,21 +201,29 @@ impl Print for Paper {
     }
 }
 
-#[test]
-fn standard_output_takes_bytes(rt: HostRuntime) -> Result<(), Fail> {
-    let line = b"a line on standard output\n";
-    assert_eq!(rt; write_and_flush(&mut StdSink::new(&rt)?, line)?, line.len());
+// Writes to paper for eight bytes.
+fn expect_eight<K: Sink>(rt: &impl Abort, sink: &mut K) {
+    assert_eq!(rt; write_and_flush(sink, b"012345"), Ok(4));
+    assert_eq!(rt; write_and_flush(sink, b"45"), Ok(2));
+    assert_eq!(rt; write_and_flush(sink, b"6789"), Err(Failed));
+    assert_eq!(rt; write_and_flush(sink, b"67"), Ok(2));
+}
 
+#[test]
+fn standard_output_takes_bytes(rt: HostRuntime) {
+    let line = b"a line on standard output\n";
+    let mut out = StdSink::new(&rt).expect(&rt, "memory is short");
+    assert_eq!(rt; write_and_flush(&mut out, line), Ok(line.len()));
+}
+
+#[test]
+fn what_is_printed_stands_on_paper(rt: HostRuntime) {
     let paper = Paper {
         printed: RefCell::new(Vec::new(rt.alloc())),
         room: 8,
     };
-    let mut sink = StdSink::new(&paper)?;
-    assert_eq!(rt; write_and_flush(&mut sink, b"012345")?, 4);
-    assert_eq!(rt; write_and_flush(&mut sink, b"45")?, 2);
-    assert!(rt; write_and_flush(&mut sink, b"6789").is_err());
-    assert_eq!(rt; write_and_flush(&mut sink, b"67")?, 2);
+    let mut sink = StdSink::new(&paper).expect(&rt, "memory is short");
+    expect_eight(&rt, &mut sink);
     let printed = paper.printed.into_inner();
     assert_eq!(rt; printed.as_slice(), b"01234567".as_slice());
-    Ok(())
 }
