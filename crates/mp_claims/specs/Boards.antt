@@ -1,6 +1,6 @@
 -- What always holds of a board.
 use Rattle.std.specs.Prelude.{ℕ, ◌+◌, ◌≤◌, List, length, Bool, true, false, count_by}
-use Rattle.mp_claims.specs.declared.boards.TheConstants.{MAX_PIECES, MAX_WORKERS}
+use Rattle.mp_partial.specs.declared.limits.TheConstants.{MAX_PIECES, MAX_WORKERS}
 use Rattle.mp_claims.specs.declared.states.WorkerState.{WorkerState}
 use Rattle.mp_claims.specs.declared.states.WorkerState.TheVariants.{Free, Holds, Spent}
 use Rattle.mp_claims.specs.declared.states.PieceState.{PieceState}

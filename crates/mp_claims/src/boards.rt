@@ -6,14 +6,9 @@ ghost use Rattle.mp_claims.specs.Cores.{EachOnce, IsComplete, claimed_by, delive
 use crate::events::{CoreRefusal, Event};
 use crate::states::{PieceState, WorkerState};
 use mp_nums::Memory;
+use mp_partial::{MAX_PIECES, MAX_WORKERS};
 use std::alloc::Global;
 use std::marker::Model;
-
-/// The most pieces of a core.
-pub const MAX_PIECES: u64 = 2_097_152;
-
-/// The most workers of a core.
-pub const MAX_WORKERS: u32 = 32;
 
 /// Which worker has which piece, and which number comes next.
 #[derive(Debug, Drop)]

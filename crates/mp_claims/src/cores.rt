@@ -5,10 +5,10 @@ ghost use Rattle.mp_partial.specs.Values.{Value, merged_below, merged_over};
 ghost use Rattle.mp_claims.specs.Cores.{EachOnce, IsComplete, accepted, after, claimed_by, delivered_by, delivered_pieces, held_by, refusal, start};
 ghost use Rattle.mp_claims.specs.Standing.{StandsFor, TakesIn};
 
-use crate::boards::{Board, MAX_PIECES, MAX_WORKERS};
+use crate::boards::Board;
 use crate::events::{CoreRefusal, Event};
 use mp_nums::Memory;
-use mp_partial::{Kernel, Part, units};
+use mp_partial::{Kernel, MAX_PIECES, MAX_WORKERS, Part, units};
 use std::alloc::Global;
 use std::marker::Model;
 

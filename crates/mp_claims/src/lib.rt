@@ -8,10 +8,10 @@ mod events;
 mod laws;
 mod states;
 
-pub use boards::{MAX_PIECES, MAX_WORKERS};
 pub use cores::Core;
 pub use events::{CoreRefusal, Event};
 pub use laws::{
     any_shares_make_the_whole, pieces_are_once, refusals_have_causes, refused_events_change_nothing,
 };
+pub use mp_partial::{MAX_PIECES, MAX_WORKERS};
 pub use states::{PieceState, WorkerState};

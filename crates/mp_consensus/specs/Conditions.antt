@@ -2,7 +2,7 @@
 use Rattle.std.specs.Prelude.{ℕ, ◌≤◌, List, length, All}
 use Rattle.mp_nums.specs.declared.samples.Sample.{Sample}
 use Rattle.mp_series.specs.declared.limits.TheConstants.{MAX_SAMPLES, MAX_WINDOW, MIN_WINDOW}
-use Rattle.mp_claims.specs.declared.boards.TheConstants.{MAX_WORKERS}
+use Rattle.mp_partial.specs.declared.limits.TheConstants.{MAX_WORKERS}
 
 -- they are compared at window length m by so many workers
 pub record MayBeCompared (list : List (List Sample)) (m workers : ℕ) : Type 0 where

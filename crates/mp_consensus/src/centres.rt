@@ -3,7 +3,7 @@
 ghost use Rattle.std.specs.Prelude.{◌≡◌, ◌<◌, ◌≤◌, length, map, All, IfOk};
 ghost use Rattle.std.specs.Option.{option_map};
 ghost use Rattle.mp_series.specs.declared.limits.TheConstants.{MAX_SAMPLES, MAX_WINDOW, MIN_WINDOW};
-ghost use Rattle.mp_claims.specs.declared.boards.TheConstants.{MAX_WORKERS};
+ghost use Rattle.mp_partial.specs.declared.limits.TheConstants.{MAX_WORKERS};
 ghost use Rattle.mp_defs.specs.Series.{series_of};
 ghost use Rattle.mp_consensus.specs.Conditions.{MayBeCompared};
 ghost use Rattle.mp_results.specs.Consensus.{central, central_at, least_at, lesser, centre_of};

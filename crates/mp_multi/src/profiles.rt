@@ -7,11 +7,11 @@ ghost use Rattle.mp_results.specs.Multi.{multi_entry, multi_of};
 ghost use Rattle.mp_multi.specs.Conditions.{AreChannels, HaveOneLength};
 
 use crate::values::pair_value;
-use mp_claims::MAX_WORKERS;
+use mp_cuts::MAX_TILE;
 use mp_nums::{Items, Memory, Near, Slot, Slots, nearer};
 use mp_outside::Gate;
+use mp_partial::MAX_WORKERS;
 use mp_series::{Bundle, MAX_SAMPLES, MAX_WINDOW, MIN_WINDOW, allowed, windows};
-use mp_tiles::MAX_TILE;
 use rayon::prelude::*;
 use std::alloc::{AllocError, Global};
 use std::thread::Threads;

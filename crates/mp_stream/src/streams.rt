@@ -6,8 +6,8 @@ ghost use Rattle.mp_defs.specs.Series.{series_of};
 ghost use Rattle.mp_defs.specs.Window.{is_free, windows};
 ghost use Rattle.mp_defs.specs.Profile.{matrix_profile};
 ghost use Rattle.mp_series.specs.declared.limits.TheConstants.{MIN_WINDOW, MAX_WINDOW};
-ghost use Rattle.mp_tiles.specs.declared.cuts.TheConstants.{MAX_TILE};
-ghost use Rattle.mp_claims.specs.declared.boards.TheConstants.{MAX_WORKERS};
+ghost use Rattle.mp_cuts.specs.declared.cuts.TheConstants.{MAX_TILE};
+ghost use Rattle.mp_partial.specs.declared.limits.TheConstants.{MAX_WORKERS};
 
 use crate::kept::Kept;
 use mp_nums::{Memory, Sample};

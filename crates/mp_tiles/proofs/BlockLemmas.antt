@@ -6,8 +6,9 @@ use Rattle.mp_nums.specs.declared.samples.Sample.{Sample}
 use Rattle.mp_defs.specs.Series.{Series, series_of}
 use Rattle.mp_defs.specs.Profile.{windows_of}
 use Rattle.mp_defs.specs.SeriesLaws.{series_are_of_samples}
-use Rattle.mp_tiles.specs.declared.cuts.Tile.{Tile}
-use Rattle.mp_tiles.specs.Pairs.{has_pair, only}
+use Rattle.mp_cuts.specs.declared.cuts.Tile.{Tile}
+use Rattle.mp_cuts.specs.Pairs.{has_pair}
+use Rattle.mp_tiles.specs.Pairs.{only}
 use Rattle.mp_tiles.specs.Scanning.{in_block, in_columns}
 use Rattle.mp_tiles.specs.Offering.{IsOffering}
 

@@ -6,11 +6,12 @@ use Rattle.mp_defs.specs.Series.{Series}
 use Rattle.mp_defs.specs.Profile.{nearest_column, ab_join, windows_of}
 use Rattle.mp_defs.specs.ColumnLaws.{columns_by_choice}
 use Rattle.mp_partial.specs.Values.{Column, Value, merged_columns, empty_columns, merged_over}
-use Rattle.mp_tiles.specs.declared.cuts.Tile.{Tile}
-use Rattle.mp_tiles.specs.Pairs.{has_pair}
-use Rattle.mp_tiles.specs.Cutting.{both_tiles}
-use Rattle.mp_tiles.specs.Laws.{HoldEveryPairOnce, no_tile, join_tiles_value, TilesMakeTheJoin}
-use Rattle.mp_tiles.proofs.TileLemmas.{both_pairs_once}
+use Rattle.mp_cuts.specs.declared.cuts.Tile.{Tile}
+use Rattle.mp_cuts.specs.Pairs.{has_pair, no_tile}
+use Rattle.mp_cuts.specs.Cutting.{both_tiles}
+use Rattle.mp_cuts.specs.Laws.{HoldEveryPairOnce}
+use Rattle.mp_cuts.specs.CutLaws.{cuts_hold_each_pair_once}
+use Rattle.mp_tiles.specs.Laws.{join_tiles_value, TilesMakeTheJoin}
 use Rattle.mp_tiles.proofs.PairLemmas.{some_has, some_more, once_or_not, tiles_by_number}
 
 abbrev one_column : Column → Value
@@ -44,5 +45,5 @@ pub make_the_join : TilesMakeTheJoin
 make_the_join = record {
   any = any_tiles;
   both = λ m width a b pos. any_tiles m a b (both_tiles (windows_of m a) (windows_of m b) width)
-      (λ i j lt lt'. both_pairs_once (windows_of m a) (windows_of m b) width pos i j lt lt');
+      (cuts_hold_each_pair_once.both (windows_of m a) (windows_of m b) width pos);
 }

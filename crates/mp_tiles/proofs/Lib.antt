@@ -1,5 +1,3 @@
-pub mod TileLemmas
-pub mod CutLemmas
 pub mod PairLemmas
 pub mod SumLemmas
 pub mod SideLemmas

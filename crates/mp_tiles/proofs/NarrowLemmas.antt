@@ -9,10 +9,10 @@ use Rattle.mp_partial.specs.Values.{Column, Value, merged_column, merged_columns
 use Rattle.mp_partial.specs.Values.{merged_over, merged_below}
 use Rattle.mp_partial.specs.Patching.{slots_from}
 use Rattle.mp_partial.specs.PatchingLaws.{are_slots_from}
-use Rattle.mp_tiles.specs.declared.cuts.Tile.{Tile}
-use Rattle.mp_tiles.specs.Pairs.{has_pair}
+use Rattle.mp_cuts.specs.declared.cuts.Tile.{Tile}
+use Rattle.mp_cuts.specs.Pairs.{has_pair, no_tile}
 use Rattle.mp_tiles.specs.Among.{profile_among, columns_value}
-use Rattle.mp_tiles.specs.Laws.{no_tile, tiles_value}
+use Rattle.mp_tiles.specs.Laws.{tiles_value}
 use Rattle.mp_tiles.specs.Sides.{Sided, column}
 use Rattle.mp_tiles.specs.PatchScanning.{HasTakenFrom}
 use Rattle.mp_tiles.specs.NarrowPieces.{sides_value}

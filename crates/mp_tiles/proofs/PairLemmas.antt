@@ -5,9 +5,8 @@ use Rattle.std.specs.List.{range_with_len}
 use Rattle.std.proofs.lemmas.Bool.Decides.{nat_tests}
 use Rattle.std.proofs.lemmas.List.Sums.{sum_by-append}
 use Rattle.std.proofs.lemmas.List.FromFn.{fill_by_all}
-use Rattle.mp_tiles.specs.declared.cuts.Tile.{Tile}
-use Rattle.mp_tiles.specs.Pairs.{has_pair}
-use Rattle.mp_tiles.specs.Laws.{no_tile}
+use Rattle.mp_cuts.specs.declared.cuts.Tile.{Tile}
+use Rattle.mp_cuts.specs.Pairs.{has_pair, no_tile}
 
 -- some tile has the pair
 abbrev pub some_has : ℕ → List Tile → ℕ → ℕ → Bool

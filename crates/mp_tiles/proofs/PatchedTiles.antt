@@ -15,8 +15,8 @@ use Rattle.mp_partial.specs.Values.{Column, HasColumns, merged_column}
 use Rattle.mp_partial.specs.Profiled.{Profiled}
 use Rattle.mp_partial.specs.Patching.{slots_from, placed}
 use Rattle.mp_partial.specs.PatchingLaws.{crossed, length_slots_from, part_taken}
-use Rattle.mp_tiles.specs.declared.cuts.Tile.{Tile}
-use Rattle.mp_tiles.specs.Pairs.{has_pair}
+use Rattle.mp_cuts.specs.declared.cuts.Tile.{Tile}
+use Rattle.mp_cuts.specs.Pairs.{has_pair}
 use Rattle.mp_tiles.specs.Among.{either_way, profile_among}
 use Rattle.mp_tiles.specs.Scanning.{HasPlaces}
 use Rattle.mp_tiles.specs.SideLaws.{profiles_are_of_both_sides}

@@ -13,12 +13,13 @@ use Rattle.mp_defs.specs.Laws.{IsIrreflexive, IsSymmetric}
 use Rattle.mp_defs.specs.ColumnLaws.{columns_by_choice}
 use Rattle.mp_defs.specs.NearestLaws.{zone_is_mutual}
 use Rattle.mp_partial.specs.Values.{Value, merged_columns, empty_columns, merged_over}
-use Rattle.mp_tiles.specs.declared.cuts.Tile.{Tile}
-use Rattle.mp_tiles.specs.Pairs.{has_pair}
-use Rattle.mp_tiles.specs.Cutting.{own_tiles}
+use Rattle.mp_cuts.specs.declared.cuts.Tile.{Tile}
+use Rattle.mp_cuts.specs.Pairs.{has_pair, no_tile}
+use Rattle.mp_cuts.specs.Cutting.{own_tiles}
+use Rattle.mp_cuts.specs.Laws.{HoldEachOnce}
+use Rattle.mp_cuts.specs.CutLaws.{cuts_hold_each_pair_once}
 use Rattle.mp_tiles.specs.Among.{either_way, profile_among, columns_value}
-use Rattle.mp_tiles.specs.Laws.{HoldEachOnce, no_tile, tiles_value, TilesMakeTheProfile}
-use Rattle.mp_tiles.proofs.TileLemmas.{own_pairs_once}
+use Rattle.mp_tiles.specs.Laws.{tiles_value, TilesMakeTheProfile}
 use Rattle.mp_tiles.proofs.PairLemmas.{some_has, some_more, once_or_not, tiles_by_number}
 use Rattle.mp_tiles.specs.OfferingLaws.{or_pairs, and_either}
 
@@ -104,12 +105,12 @@ any_tiles may irreflexive symmetric m a tiles once =
 
 -- ---- the cut outside the exclusion zone
 
-outside_zone : (e i j : ℕ) → nat_lt (i + e) j ≡ (nat_lt i j && nat_lt e (abs_diff i j))
+outside_zone : (e i j : ℕ) → (nat_lt i j && nat_lt (i + e) j) ≡ (nat_lt i j && nat_lt e (abs_diff i j))
 outside_zone e i j = grind (arith, nat_tests)
 
 own_tiles_hold_each_once : (m w width : ℕ) → 0 < width → HoldEachOnce (is_allowed m) w (own_tiles w (excl m) width)
 own_tiles_hold_each_once m w width pos i j lt =
-    own_pairs_once w (excl m) width pos i j lt ∙ ap (λ t. if t then 1 else 0) (outside_zone (excl m) i j)
+    cuts_hold_each_pair_once.own w (excl m) width pos i j lt ∙ ap (λ t. if t then 1 else 0) (outside_zone (excl m) i j)
 
 pub make_the_profile : TilesMakeTheProfile
 make_the_profile = record {

@@ -1,24 +1,15 @@
 -- What tiles give together.
-use Rattle.std.specs.Prelude.{◌≡◌, ℕ, ◌+◌, ◌-◌, ◌<◌, List, [], ◌∷◌, length, slice_index_or, Bool, ◌&&◌, nat_lt}
-use Rattle.std.specs.Prelude.{count_by, if◌then◌else◌}
+use Rattle.std.specs.Prelude.{◌≡◌, ℕ, ◌-◌, ◌<◌, List, [], ◌∷◌, length, slice_index_or, Bool}
 use Rattle.mp_defs.specs.Series.{Series}
 use Rattle.mp_defs.specs.Window.{excl}
 use Rattle.mp_defs.specs.Profile.{windows_of, nearest_column, profile, matrix_profile, ab_join}
 use Rattle.mp_defs.specs.Laws.{IsIrreflexive, IsSymmetric}
 use Rattle.mp_partial.specs.Values.{Value, merged_column, merged_columns, empty_columns, merged_below}
-use Rattle.mp_tiles.specs.declared.cuts.Tile.{Tile}
-use Rattle.mp_tiles.specs.Pairs.{has_pair}
-use Rattle.mp_tiles.specs.Cutting.{own_tiles, both_tiles}
+use Rattle.mp_cuts.specs.declared.cuts.Tile.{Tile}
+use Rattle.mp_cuts.specs.Pairs.{has_pair, no_tile}
+use Rattle.mp_cuts.specs.Cutting.{own_tiles, both_tiles}
+use Rattle.mp_cuts.specs.Laws.{HoldEachOnce, HoldEveryPairOnce}
 use Rattle.mp_tiles.specs.Among.{profile_among, columns_value}
-
--- of w windows each two that may be compared are a pair of exactly one of the tiles, and no others are a pair of any
-abbrev pub HoldEachOnce : (ℕ → ℕ → Bool) → ℕ → List Tile → Type 0
-HoldEachOnce may w tiles = (i j : ℕ) → j < w
-    → count_by (λ t. has_pair 0 t i j) tiles ≡ (if nat_lt i j && may i j then 1 else 0)
-
--- what stands for a tile past the last one
-abbrev pub no_tile : Tile
-no_tile = record { first = 0; last = 0; first_row = 0; last_row = 0 }
 
 -- the value of a tile: the profile of its pairs
 abbrev pub tile_value : ℕ → Series → List Tile → ℕ → Value
@@ -51,11 +42,6 @@ pub record ProfilesAreOfBothSides : Type 0 where
 
 -- ---- from one series to another
 
--- of wa windows of one series and wb of another each two are a pair of exactly one of the tiles
-abbrev pub HoldEveryPairOnce : ℕ → ℕ → List Tile → Type 0
-HoldEveryPairOnce wa wb tiles = (i j : ℕ) → i < wa → j < wb
-    → count_by (λ t. has_pair (wa - 1) t i j) tiles ≡ 1
-
 -- the value of a tile: for each window of a the nearest of those of b that make a pair with it
 abbrev pub join_tile_value : ℕ → Series → Series → List Tile → ℕ → Value
 join_tile_value m a b tiles k =
@@ -74,12 +60,3 @@ pub record TilesMakeTheJoin : Type 0 where
   -- and so of the cut of all pairs, however wide its tiles are
   pub both : (m width : ℕ) (a b : Series) → 0 < width
       → join_tiles_value m a b (both_tiles (windows_of m a) (windows_of m b) width) ≡ ab_join m a b ∷ []
-
--- ---- the cuts
-
--- each pair that is cut is a pair of exactly one of the tiles, and no other pair of any
-pub record CutsHoldEachPairOnce : Type 0 where
-  -- of w windows, those that lie further apart than the exclusion zone
-  pub own : (w excl width : ℕ) → 0 < width → HoldEachOnce (λ i j. nat_lt (i + excl) j) w (own_tiles w excl width)
-  -- of two series, all
-  pub both : (wa wb width : ℕ) → 0 < width → HoldEveryPairOnce wa wb (both_tiles wa wb width)

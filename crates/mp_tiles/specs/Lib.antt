@@ -1,6 +1,4 @@
 pub mod Pairs
-pub mod Cutting
-pub mod Tight
 pub mod Sums
 pub mod Plain
 pub mod Grids
@@ -20,7 +18,6 @@ pub mod OfferingLaws
 pub mod LimitLaws
 pub mod Laws
 pub mod Pieces
-pub mod Examples
 pub mod PatchScanning
 pub mod Tracks
 pub mod Sweeping

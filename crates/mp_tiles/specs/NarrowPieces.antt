@@ -9,13 +9,12 @@ use Rattle.mp_defs.specs.Profile.{Columns, windows_of, left_entry, right_entry}
 use Rattle.mp_defs.specs.SeriesLaws.{series_are_of_samples}
 use Rattle.mp_defs.specs.ColumnLaws.{columns_have_places}
 use Rattle.mp_partial.specs.Values.{Column, Value, HasColumns, merged_columns, empty_columns, merged_below}
-use Rattle.mp_tiles.specs.declared.cuts.Tile.{Tile}
+use Rattle.mp_cuts.specs.declared.cuts.Tile.{Tile}
+use Rattle.mp_cuts.specs.Pairs.{has_pair, IsTileBetween, no_tile}
 use Rattle.mp_tiles.specs.declared.scales.Scale.{Scale}
 use Rattle.mp_tiles.specs.Levels.{level, AreNarrow, AreSteps}
 use Rattle.mp_tiles.specs.Limits.{AreMarks}
-use Rattle.mp_tiles.specs.Pairs.{has_pair, IsTileBetween}
 use Rattle.mp_tiles.specs.Among.{either_way, profile_among}
-use Rattle.mp_tiles.specs.Laws.{no_tile}
 use Rattle.mp_tiles.specs.Pieces.{OwnTiling, own_size}
 
 -- what the fields of the kernel keep to

@@ -10,13 +10,13 @@ use Rattle.mp_defs.specs.SeriesLaws.{series_are_of_samples}
 use Rattle.mp_defs.specs.ColumnLaws.{columns_have_places}
 use Rattle.mp_partial.specs.Values.{Column, Value, HasColumns, merged_columns, empty_columns, merged_below}
 use Rattle.mp_partial.specs.Profiled.{Profiled}
-use Rattle.mp_tiles.specs.declared.cuts.Tile.{Tile}
+use Rattle.mp_cuts.specs.declared.cuts.Tile.{Tile}
+use Rattle.mp_cuts.specs.Pairs.{has_pair, IsTileBetween, no_tile}
+use Rattle.mp_cuts.specs.Cutting.{diagonals_between}
 use Rattle.mp_tiles.specs.declared.scales.Scale.{Scale}
 use Rattle.mp_tiles.specs.Scales.{AreScaled}
-use Rattle.mp_tiles.specs.Pairs.{has_pair, IsTileBetween}
-use Rattle.mp_tiles.specs.Cutting.{diagonals_between}
 use Rattle.mp_tiles.specs.Among.{either_way, columns_value}
-use Rattle.mp_tiles.specs.Laws.{no_tile, tile_value}
+use Rattle.mp_tiles.specs.Laws.{tile_value}
 use Rattle.mp_tiles.specs.Scanning.{HasPlaces}
 
 -- ---- of one series

@@ -5,9 +5,9 @@ ghost use Rattle.mp_series.specs.declared.limits.TheConstants.{MAX_SAMPLES, MAX_
 ghost use Rattle.mp_defs.specs.Series.{series_of};
 ghost use Rattle.mp_defs.specs.Profile.{ab_join};
 
-use crate::cuts::{Cut, MAX_TILE, MAX_TILES, cut_both};
 use crate::scales::{Scale, find_scale};
 use crate::scans::scan_both_by;
+use mp_cuts::{Cut, MAX_TILE, MAX_TILES, cut_both};
 use mp_nums::{Memory, Sample, Slots};
 use mp_partial::{Kernel, run_in_order};
 use mp_series::{MAX_SAMPLES, MAX_WINDOW, MIN_WINDOW, windows};
@@ -37,7 +37,7 @@ impl<'a> Model for JoinTiles<'a> {
 impl<'a> JoinTiles<'a> {
     ghost use Rattle.std.specs.Prelude.{[], ◌∷◌};
     ghost use Rattle.mp_defs.specs.Window.{windows as windows_in};
-    ghost use Rattle.mp_tiles.specs.Cutting.{both_tiles};
+    ghost use Rattle.mp_cuts.specs.Cutting.{both_tiles};
     ghost use Rattle.mp_tiles.specs.Pieces.{join_together};
 
     /// The tiles of at most `tile` diagonals of both series' windows of length `m`. They may be the same series. It
@@ -69,8 +69,7 @@ impl<'a> JoinTiles<'a> {
 
 impl<'a> Kernel for JoinTiles<'a> {
     ghost use Rattle.std.specs.Prelude.{◌-◌, length, slice_index_or};
-    ghost use Rattle.mp_tiles.specs.Laws.{no_tile};
-    ghost use Rattle.mp_tiles.specs.Pairs.{has_pair};
+    ghost use Rattle.mp_cuts.specs.Pairs.{has_pair, no_tile};
     ghost use Rattle.mp_tiles.specs.Pieces.{join_size, join_value, column_has_places};
 
     type Out = Slots;

@@ -5,10 +5,10 @@ ghost use Rattle.mp_series.specs.declared.limits.TheConstants.{MAX_SAMPLES, MAX_
 ghost use Rattle.mp_defs.specs.Series.{series_of};
 ghost use Rattle.mp_defs.specs.Profile.{matrix_profile};
 
-use crate::cuts::{Cut, MAX_TILE, MAX_TILES, cut_own};
 use crate::narrow::NarrowTiles;
 use crate::scales::{Scale, find_scale};
 use crate::scans::scan_own_by;
+use mp_cuts::{Cut, MAX_TILE, MAX_TILES, cut_own};
 use mp_nums::{Memory, Sample};
 use mp_partial::{Kernel, Profile, run_in_order};
 use mp_series::{MAX_SAMPLES, MAX_WINDOW, MIN_WINDOW, excl, windows};
@@ -36,8 +36,8 @@ impl<'a> Model for OwnTiles<'a> {
 
 impl<'a> OwnTiles<'a> {
     ghost use Rattle.mp_defs.specs.Window.{windows as windows_in, excl as zone};
+    ghost use Rattle.mp_cuts.specs.Cutting.{own_tiles};
     ghost use Rattle.mp_tiles.specs.Among.{columns_value};
-    ghost use Rattle.mp_tiles.specs.Cutting.{own_tiles};
     ghost use Rattle.mp_tiles.specs.Pieces.{own_together};
 
     /// The tiles of at most `tile` diagonals of the samples' windows of length `m`. It looks at each sample once, and
@@ -66,8 +66,7 @@ impl<'a> OwnTiles<'a> {
 
 impl<'a> Kernel for OwnTiles<'a> {
     ghost use Rattle.std.specs.Prelude.{length, slice_index_or};
-    ghost use Rattle.mp_tiles.specs.Laws.{no_tile};
-    ghost use Rattle.mp_tiles.specs.Pairs.{has_pair};
+    ghost use Rattle.mp_cuts.specs.Pairs.{has_pair, no_tile};
     ghost use Rattle.mp_tiles.specs.Pieces.{own_size, own_value, value_has_columns};
 
     type Out = Profile;

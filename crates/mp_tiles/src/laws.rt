@@ -1,13 +1,6 @@
 //! What tiles give together, as the contracts of functions that do nothing.
 
-ghost use Rattle.mp_tiles.specs.Laws.{CutsHoldEachPairOnce, TilesMakeTheProfile, TilesMakeTheJoin};
-ghost use Rattle.mp_tiles.specs.Laws.{ProfilesAreOfBothSides};
-
-/// Each pair that is cut lies in exactly one tile and no other pair in any, however long the series are and however
-/// wide the tiles.
-pub fn cuts_hold_each_pair_once()
-    ensures { CutsHoldEachPairOnce }
-{}
+ghost use Rattle.mp_tiles.specs.Laws.{TilesMakeTheProfile, TilesMakeTheJoin, ProfilesAreOfBothSides};
 
 /// By any test of pairs that compares no window with itself and of two windows each with the other, the values of tiles
 /// that hold each pair exactly once, merged from a unit, are the profile. So the values of the tiles outside the

@@ -1,12 +1,9 @@
-//! Profiles along diagonals: the pairs of windows of a series are cut into tiles of successive diagonals, and a tile is
-//! scanned with running sums.
+//! Profiles along diagonals: each tile of a cut of the pairs of windows is scanned with running sums.
 #![tactic(auto)]
 
 mod blocks;
 mod columns;
-mod cuts;
 mod diagonals;
-mod examples;
 mod firsts;
 mod found;
 mod groups;
@@ -28,13 +25,12 @@ mod tracks;
 mod vectors;
 mod windows;
 
-pub use cuts::{Cut, MAX_ROWS, MAX_TILE, MAX_TILES, Tile, cut_both, cut_own};
-pub use examples::worked_cuts;
 pub use joins::{JoinTiles, join};
 pub use kernels::{OwnTiles, profile};
-pub use laws::{
-    cuts_hold_each_pair_once, profiles_are_of_both_sides, tiles_make_the_join,
-    tiles_make_the_profile,
+pub use laws::{profiles_are_of_both_sides, tiles_make_the_join, tiles_make_the_profile};
+pub use mp_cuts::{
+    Cut, MAX_ROWS, MAX_TILE, MAX_TILES, Tile, cut_both, cut_own, cuts_hold_each_pair_once,
+    worked_cuts,
 };
 pub use narrow::NarrowTiles;
 pub use scans::{scan_both, scan_on_bench, scan_own, scan_patch};

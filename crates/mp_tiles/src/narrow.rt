@@ -5,7 +5,7 @@ ghost use Rattle.mp_series.specs.declared.limits.TheConstants.{MAX_SAMPLES, MAX_
 ghost use Rattle.mp_defs.specs.Series.{series_of};
 ghost use Rattle.mp_defs.specs.Window.{windows as windows_in, excl as zone};
 ghost use Rattle.mp_defs.specs.Profile.{matrix_profile};
-ghost use Rattle.mp_tiles.specs.Cutting.{own_tiles};
+ghost use Rattle.mp_cuts.specs.Cutting.{own_tiles};
 ghost use Rattle.mp_tiles.specs.Levels.{level, AreNarrow, AreSteps};
 ghost use Rattle.mp_tiles.specs.Scales.{AreFarApart};
 ghost use Rattle.mp_tiles.specs.Limits.{AreMarks};
@@ -14,13 +14,13 @@ ghost use Rattle.mp_tiles.specs.Pieces.{OwnTiling, own_size};
 ghost use Rattle.mp_tiles.specs.NarrowPieces.{sides_value, narrow_together};
 
 use crate::blocks::{Block, Steps};
-use crate::cuts::{Cut, MAX_TILE, MAX_TILES, cut_own};
 use crate::groups::LANES;
 use crate::levels::fill_steps;
 use crate::scales::{Scale, find_scale};
 use crate::sides::{BEHIND, Sides};
 use crate::tracks::Track;
 use crate::windows::{Grid, Windows, mark_whole};
+use mp_cuts::{Cut, MAX_TILE, MAX_TILES, cut_own};
 use mp_nums::{Memory, Sample};
 use mp_partial::Kernel;
 use mp_series::{MAX_SAMPLES, MAX_WINDOW, MIN_WINDOW, excl, windows};
@@ -177,8 +177,7 @@ impl<'a> NarrowTiles<'a> {
 
 impl<'a> Kernel for NarrowTiles<'a> {
     ghost use Rattle.std.specs.Prelude.{length, slice_index_or};
-    ghost use Rattle.mp_tiles.specs.Laws.{no_tile};
-    ghost use Rattle.mp_tiles.specs.Pairs.{has_pair};
+    ghost use Rattle.mp_cuts.specs.Pairs.{has_pair, no_tile};
     ghost use Rattle.mp_tiles.specs.Pieces.{own_size};
     ghost use Rattle.mp_tiles.specs.NarrowPieces.{narrow_value, sides_have_columns};
 

@@ -10,10 +10,10 @@ ghost use Rattle.mp_tiles.specs.Limits.{AreMarks};
 ghost use Rattle.mp_tiles.specs.Lowering.{place_at, HasNearer};
 ghost use Rattle.mp_tiles.specs.Sides.{slot, width, column, column_of, IsSide, IsOpen};
 
-use crate::cuts::Tile;
 use crate::lows::{NOWHERE, lower};
 use crate::sweeps::sweep;
 use crate::tracks::Track;
+use mp_cuts::Tile;
 use mp_nums::{Memory, Near, Slot, Sq};
 use mp_partial::{Part, Profile};
 use std::alloc::Global;
@@ -235,7 +235,7 @@ impl Model for Sides {
 }
 
 impl Sides {
-    ghost use Rattle.mp_tiles.specs.Pairs.{has_pair, IsTileBetween};
+    ghost use Rattle.mp_cuts.specs.Pairs.{has_pair, IsTileBetween};
     ghost use Rattle.mp_tiles.specs.Among.{profile_among};
     ghost use Rattle.mp_tiles.specs.Blocks.{rows_of, length_in};
 

@@ -1,7 +1,7 @@
 -- Teams of workers, each with a part of its own.
 use Rattle.std.specs.Prelude.{◌≡◌, ℕ, ◌+◌, ◌<◌, ◌≤◌, List, All, slice_get, Some}
 use Rattle.mp_partial.specs.Values.{Value}
-use Rattle.mp_claims.specs.declared.boards.TheConstants.{MAX_PIECES, MAX_WORKERS}
+use Rattle.mp_partial.specs.declared.limits.TheConstants.{MAX_PIECES, MAX_WORKERS}
 use Rattle.mp_workers.specs.declared.teams.Team.{Team}
 
 -- the team has a worker for each of so many parts, and is one of at most 32 workers

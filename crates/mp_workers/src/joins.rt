@@ -5,10 +5,9 @@ ghost use Rattle.mp_defs.specs.Series.{series_of};
 ghost use Rattle.mp_defs.specs.Profile.{matrix_profile, ab_join};
 
 use crate::teams::run_all;
-use mp_claims::MAX_WORKERS;
 use mp_nums::{Memory, Sample, Slots};
 use mp_outside::Gate;
-use mp_partial::{Kernel, Profile};
+use mp_partial::{Kernel, MAX_WORKERS, Profile};
 use mp_series::{MAX_SAMPLES, MAX_WINDOW, MIN_WINDOW};
 use mp_tiles::{JoinTiles, MAX_TILE, NarrowTiles, OwnTiles};
 use std::alloc::Global;

@@ -1,7 +1,7 @@
 //! Which worker runs which pieces.
 
 ghost use Rattle.std.specs.Prelude.{◌≡◌, ◌<◌, ◌≤◌};
-ghost use Rattle.mp_claims.specs.declared.boards.TheConstants.{MAX_PIECES, MAX_WORKERS};
+ghost use Rattle.mp_partial.specs.declared.limits.TheConstants.{MAX_PIECES, MAX_WORKERS};
 ghost use Rattle.mp_partial.specs.Values.{merged_over};
 ghost use Rattle.mp_workers.specs.Shares.{share};
 

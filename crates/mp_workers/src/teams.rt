@@ -7,10 +7,9 @@ ghost use Rattle.mp_workers.specs.Shares.{shares};
 ghost use Rattle.mp_workers.specs.Teams.{AllHave, FirstHas, IsTeam};
 
 use crate::shares::run_share;
-use mp_claims::{MAX_PIECES, MAX_WORKERS};
 use mp_nums::Memory;
 use mp_outside::Gate;
-use mp_partial::{Kernel, Part, units};
+use mp_partial::{Kernel, MAX_PIECES, MAX_WORKERS, Part, units};
 use std::alloc::Global;
 use std::thread::{Threads, join_mut};
 

@@ -2,8 +2,8 @@
 
 ghost use Rattle.std.specs.Prelude.{◌≤◌, length};
 ghost use Rattle.mp_series.specs.declared.limits.TheConstants.{MAX_SAMPLES, MAX_WINDOW, MIN_WINDOW};
-ghost use Rattle.mp_claims.specs.declared.boards.TheConstants.{MAX_WORKERS};
-ghost use Rattle.mp_tiles.specs.declared.cuts.TheConstants.{MAX_TILE};
+ghost use Rattle.mp_partial.specs.declared.limits.TheConstants.{MAX_WORKERS};
+ghost use Rattle.mp_cuts.specs.declared.cuts.TheConstants.{MAX_TILE};
 
 use crate::words::{Body, Words};
 use mp_nums::{Memory, Sample, Slot};

@@ -2,11 +2,11 @@
 
 ghost use Rattle.std.specs.Prelude.{◌≡◌, ◌≤◌};
 ghost use Rattle.mp_series.specs.declared.limits.TheConstants.{MAX_WINDOW, MIN_WINDOW};
-ghost use Rattle.mp_claims.specs.declared.boards.TheConstants.{MAX_WORKERS};
-ghost use Rattle.mp_tiles.specs.declared.cuts.TheConstants.{MAX_TILE};
+ghost use Rattle.mp_partial.specs.declared.limits.TheConstants.{MAX_WORKERS};
+ghost use Rattle.mp_cuts.specs.declared.cuts.TheConstants.{MAX_TILE};
 
 use anyhow::{Context, Result, bail, ensure};
-use mp_claims::MAX_WORKERS;
+use mp_partial::MAX_WORKERS;
 use mp_series::{MAX_WINDOW, MIN_WINDOW};
 use mp_tiles::MAX_TILE;
 

@@ -180,7 +180,7 @@ fn a_profile_absorbs_its_patch(rt: HostRuntime) -> Result<(), Fail> {
 }
 
 #[test]
-fn groups_of_three_diagonals(rt: HostRuntime) {
+fn chunks_of_three_diagonals(rt: HostRuntime) {
     let tiles = [(0, [2, 4, 0, 7]), (1, [5, 7, 0, 4]), (2, [8, 9, 0, 1])];
     expect_tiles(&rt, &cut_own(10, 1, 3), 3, &tiles);
     let tiles = [(0, [0, 2, 0, 2]), (1, [3, 3, 0, 0])];

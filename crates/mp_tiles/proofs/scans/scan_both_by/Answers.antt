@@ -7,7 +7,7 @@ use Rattle.mp_defs.specs.Series.{series_of}
 use Rattle.mp_defs.specs.Window.{windows}
 use Rattle.mp_defs.specs.Profile.{windows_of}
 use Rattle.mp_defs.specs.SeriesLaws.{series_are_of_samples}
-use Rattle.mp_tiles.specs.Pairs.{has_pair}
+use Rattle.mp_cuts.specs.Pairs.{has_pair}
 use Rattle.mp_tiles.specs.Scanning.{in_block, in_columns, IsJoined}
 use Rattle.mp_tiles.specs.OfferingLaws.{column_to_row, row_to_column, turned}
 use Rattle.mp_tiles.proofs.BlockLemmas.{both_sides, scanned_next}

@@ -8,7 +8,7 @@ use Rattle.mp_partial.specs.Values.{merged_column}
 use Rattle.mp_partial.specs.Profiled.{Profiled}
 use Rattle.mp_partial.specs.Patching.{placed}
 use Rattle.mp_partial.specs.PatchingLaws.{length_slots_from}
-use Rattle.mp_tiles.specs.Pairs.{has_pair}
+use Rattle.mp_cuts.specs.Pairs.{has_pair}
 use Rattle.mp_tiles.specs.Among.{either_way, profile_among}
 use Rattle.mp_tiles.specs.Pieces.{profile_has_columns}
 use Rattle.mp_tiles.specs.Scanning.{HasPlaces, IsScanned}

@@ -2,7 +2,7 @@ use Rattle.std.proofs.Common.{◌+◌, ◌-◌, refl, sym, subst, ◌∙◌, ari
 use Rattle.mp_defs.specs.Series.{series_of}
 use Rattle.mp_defs.specs.Profile.{windows_of}
 use Rattle.mp_defs.specs.SeriesLaws.{series_are_of_samples}
-use Rattle.mp_tiles.specs.Pairs.{has_pair}
+use Rattle.mp_cuts.specs.Pairs.{has_pair}
 use Rattle.mp_tiles.specs.Scanning.{in_block, HasPlaces, IsScanned}
 use Rattle.mp_tiles.specs.OfferingLaws.{each_to_other}
 use Rattle.mp_tiles.proofs.BlockLemmas.{own_pairs}

@@ -1,6 +1,6 @@
 use Rattle.std.proofs.Common.{◌+◌, refl, subst, arith}
 use Rattle.mp_defs.specs.Series.{series_of}
-use Rattle.mp_tiles.specs.Pairs.{has_pair}
+use Rattle.mp_cuts.specs.Pairs.{has_pair}
 use Rattle.mp_tiles.specs.Scanning.{in_block}
 use Rattle.mp_tiles.specs.PatchScanning.{IsPatched}
 use Rattle.mp_tiles.specs.PatchLaws.{patch_offers, rows_alone, columns_alone}

@@ -3,9 +3,9 @@ use Rattle.mp_defs.specs.Series.{series_of}
 use Rattle.mp_defs.specs.Profile.{nearest_column, windows_of}
 use Rattle.mp_defs.specs.SeriesLaws.{series_are_of_samples}
 use Rattle.mp_partial.specs.Values.{merged_columns, empty_columns, merged_below}
-use Rattle.mp_tiles.specs.Pairs.{has_pair}
-use Rattle.mp_tiles.specs.Cutting.{both_tiles}
-use Rattle.mp_tiles.specs.Laws.{no_tile, join_tiles_value}
+use Rattle.mp_cuts.specs.Pairs.{has_pair, no_tile}
+use Rattle.mp_cuts.specs.Cutting.{both_tiles}
+use Rattle.mp_tiles.specs.Laws.{join_tiles_value}
 use Rattle.mp_tiles.proofs.JoinLaws.{make_the_join}
 use Rattle.mp_tiles.proofs.joins.JoinTiles.new.Goals as goal
 

@@ -4,9 +4,8 @@ use Rattle.mp_defs.specs.Series.{series_of}
 use Rattle.mp_defs.specs.Window.{windows}
 use Rattle.mp_defs.specs.Profile.{nearest_column}
 use Rattle.mp_partial.specs.Values.{Value, merged_columns}
-use Rattle.mp_tiles.specs.declared.cuts.Tile.{Tile}
-use Rattle.mp_tiles.specs.Pairs.{has_pair}
-use Rattle.mp_tiles.specs.Laws.{no_tile}
+use Rattle.mp_cuts.specs.declared.cuts.Tile.{Tile}
+use Rattle.mp_cuts.specs.Pairs.{has_pair, no_tile}
 use Rattle.mp_tiles.specs.Pieces.{JoinTiling, join_value}
 use Rattle.mp_tiles.proofs.joins.JoinTilesKernel.run.Goals as goal
 

@@ -3,7 +3,7 @@ use Rattle.mp_defs.specs.Series.{series_of}
 use Rattle.mp_defs.specs.Profile.{windows_of}
 use Rattle.mp_defs.specs.SeriesLaws.{series_are_of_samples}
 use Rattle.mp_partial.specs.Values.{merged_columns, empty_columns, merged_below}
-use Rattle.mp_tiles.specs.Cutting.{own_tiles}
+use Rattle.mp_cuts.specs.Cutting.{own_tiles}
 use Rattle.mp_tiles.specs.Laws.{tile_value, tiles_value}
 use Rattle.mp_tiles.proofs.ProfileLaws.{make_the_profile}
 use Rattle.mp_tiles.proofs.kernels.OwnTiles.new.Goals as goal

@@ -4,10 +4,9 @@ use Rattle.mp_defs.specs.Series.{series_of}
 use Rattle.mp_defs.specs.Profile.{Columns}
 use Rattle.mp_partial.specs.Values.{Value, merged_column, merged_columns}
 use Rattle.mp_partial.specs.Profiled.{Profiled}
-use Rattle.mp_tiles.specs.declared.cuts.Tile.{Tile}
-use Rattle.mp_tiles.specs.Pairs.{has_pair}
+use Rattle.mp_cuts.specs.declared.cuts.Tile.{Tile}
+use Rattle.mp_cuts.specs.Pairs.{has_pair, no_tile}
 use Rattle.mp_tiles.specs.Among.{profile_among, columns_value}
-use Rattle.mp_tiles.specs.Laws.{no_tile}
 use Rattle.mp_tiles.specs.Pieces.{OwnTiling, own_value}
 use Rattle.mp_tiles.proofs.kernels.OwnTilesKernel.run.Goals as goal
 

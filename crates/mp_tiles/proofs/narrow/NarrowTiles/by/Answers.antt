@@ -3,10 +3,10 @@ use Rattle.mp_defs.specs.Series.{series_of}
 use Rattle.mp_defs.specs.Profile.{windows_of, matrix_profile}
 use Rattle.mp_defs.specs.SeriesLaws.{series_are_of_samples}
 use Rattle.mp_partial.specs.Values.{merged_columns, empty_columns, merged_below}
-use Rattle.mp_tiles.specs.Pairs.{has_pair}
-use Rattle.mp_tiles.specs.Cutting.{own_tiles}
+use Rattle.mp_cuts.specs.Pairs.{has_pair, no_tile}
+use Rattle.mp_cuts.specs.Cutting.{own_tiles}
 use Rattle.mp_tiles.specs.Among.{profile_among}
-use Rattle.mp_tiles.specs.Laws.{no_tile, tiles_value}
+use Rattle.mp_tiles.specs.Laws.{tiles_value}
 use Rattle.mp_tiles.specs.NarrowPieces.{sides_value}
 use Rattle.mp_tiles.proofs.ProfileLaws.{make_the_profile}
 use Rattle.mp_tiles.proofs.NarrowLemmas.{sides_together}

@@ -1,11 +1,10 @@
 use Rattle.std.proofs.Common.{◌≡◌, get_or, sym, ap, ◌∙◌}
 use Rattle.std.proofs.lemmas.Option.{get_or_from_slice_get}
 use Rattle.mp_defs.specs.Series.{series_of}
-use Rattle.mp_tiles.specs.declared.cuts.Tile.{Tile}
-use Rattle.mp_tiles.specs.Pairs.{has_pair}
+use Rattle.mp_cuts.specs.declared.cuts.Tile.{Tile}
+use Rattle.mp_cuts.specs.Pairs.{has_pair, no_tile}
 use Rattle.mp_tiles.specs.Among.{profile_among}
 use Rattle.mp_tiles.specs.Blocks.{rows_of, length_in}
-use Rattle.mp_tiles.specs.Laws.{no_tile}
 use Rattle.mp_tiles.proofs.NarrowLemmas.{sides_taken}
 use Rattle.mp_tiles.proofs.narrow.NarrowTilesKernel.run.Goals as goal
 

@@ -1,7 +1,7 @@
 use Rattle.std.proofs.Common.{◌≡◌, ◌+◌, length, refl, sym, ap, ◌∙◌, arith}
 use Rattle.std.specs.Prelude.{◌&&◌, nat_lt}
 use Rattle.mp_defs.specs.Profile.{windows_of}
-use Rattle.mp_tiles.specs.Pairs.{has_pair}
+use Rattle.mp_cuts.specs.Pairs.{has_pair}
 use Rattle.mp_tiles.specs.Among.{either_way}
 use Rattle.mp_tiles.specs.Scanning.{in_block}
 use Rattle.mp_tiles.specs.Blocks.{rows_of, length_in}

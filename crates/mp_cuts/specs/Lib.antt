@@ -1,0 +1,7 @@
+pub mod Limits
+pub mod Pairs
+pub mod Cutting
+pub mod Tight
+pub mod Laws
+pub mod CutLaws
+pub mod Examples
