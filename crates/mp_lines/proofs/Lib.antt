@@ -1,3 +1,3 @@
 pub mod ColumnLemmas
-pub mod LoadLemmas
+pub mod ReadLemmas
 pub mod RefLemmas

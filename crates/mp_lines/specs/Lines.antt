@@ -1,17 +1,13 @@
 -- What a line that was read asks for.
-use Rattle.std.specs.Prelude.{ℕ, Bool, true, false, List, [], ◌∷◌, codes, if◌then◌else◌, Option, Some, None, unwrap_or}
-use Rattle.std.specs.Prelude.{Result, Ok, Err}
-use Rattle.mp_bytes.specs.Bytes.{same_text}
+use Rattle.std.specs.Prelude.{◌≡◌, ℕ, List, [], unwrap_or, Result, Ok, Err}
 use Rattle.mp_bytes.specs.Fields.{fields_in}
 use Rattle.mp_replies.specs.declared.causes.Cause.{Cause}
 use Rattle.mp_replies.specs.declared.causes.Cause.TheVariants as cause
 use Rattle.mp_replies.specs.Command as asked
-use Rattle.mp_replies.specs.Line.{Asked, Nothing, Asks, Faulty, Form}
-use Rattle.mp_replies.specs.Line.{join_form, multi_form, match_form, motifs_form, discords_form, chain_form}
-use Rattle.mp_replies.specs.Line.{chains_form}
-use Rattle.mp_replies.specs.Line.{segments_form, mpdist_form, consensus_form, end_form}
+use Rattle.mp_replies.specs.Line.{Asked, Nothing, Asks, Faulty, asks, made}
 use Rattle.mp_replies.specs.MotifsCommand.{motif_query}
 use Rattle.mp_replies.specs.Numbers.{columns, refs}
+use Rattle.mp_replies.specs.Shapes.{Shape, by_shape}
 use Rattle.mp_lines.specs.declared.commands.Command.{Command}
 use Rattle.mp_lines.specs.declared.commands.Command.TheVariants.{Blank, Session, Open, Load, Append, Window, Profile}
 use Rattle.mp_lines.specs.declared.commands.Command.TheVariants.{Entry, End}
@@ -53,14 +49,16 @@ abbrev pub read_as : Result Command LineFault → Asked
 read_as (Ok command) = asked_by command
 read_as (Err fault) = Faulty (cause_of fault)
 
--- the forms behind that of `entry`
-abbrev pub analyses : List Form
-analyses =
-    join_form ∷ multi_form ∷ match_form ∷ motifs_form ∷ discords_form ∷ chain_form ∷ chains_form ∷ segments_form
-    ∷ mpdist_form ∷ consensus_form ∷ end_form ∷ []
+-- ---- fields that were read by a shape
 
--- what stands behind the columns of a load: nothing, or `header`
-abbrev pub header_of : List (List ℕ) → Option Bool
-header_of [] = Some false
-header_of (word ∷ []) = if same_text word (codes "header") then Some true else None
-header_of (word ∷ other ∷ others) = None
+abbrev pub with_cause : {A : Type 0} → Result A LineFault → Result A Cause
+with_cause (Ok said) = Ok said
+with_cause (Err fault) = Err (cause_of fault)
+
+-- what the fields say
+abbrev pub IsReadBy : {A : Type 0} → Shape A → List (List ℕ) → Result A LineFault → Type 0
+IsReadBy shape fields read = with_cause read ≡ by_shape shape fields
+
+-- the command that is made of what the fields say
+abbrev pub IsMadeBy : {A : Type 0} → (A → asked.Command) → Shape A → List (List ℕ) → Result Command LineFault → Type 0
+IsMadeBy make shape fields read = read_as read ≡ asks (made make (by_shape shape fields))

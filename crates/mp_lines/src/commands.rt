@@ -2,28 +2,15 @@
 
 ghost use Rattle.std.specs.Prelude.{◌≡◌};
 ghost use Rattle.mp_bytes.specs.Fields.{fields_in};
-ghost use Rattle.mp_replies.specs.Line.{asked_of, asks, by_form, command_by, command_in, end_form};
-ghost use Rattle.mp_lines.specs.Lines.{analyses, read_as};
+ghost use Rattle.mp_replies.specs.Line.{asked_of, asks, command_in, forms};
+ghost use Rattle.mp_lines.specs.Lines.{read_as};
 
-use crate::append_line::parse_append;
-use crate::chain_line::parse_chain;
-use crate::chains_line::parse_chains;
-use crate::consensus_line::parse_consensus;
-use crate::discords_line::parse_discords;
-use crate::entry_line::parse_entry;
-use crate::join_line::parse_join;
-use crate::load_line::parse_load;
-use crate::match_line::parse_match;
-use crate::motifs_line::parse_motifs;
-use crate::mpdist_line::parse_mpdist;
-use crate::multi_line::parse_multi;
 use crate::numbers::Columns;
-use crate::open_line::parse_open;
-use crate::profile_line::parse_profile;
 use crate::ref_lists::Refs;
-use crate::segments_line::parse_segments;
-use crate::session_line::parse_session;
-use crate::window_line::parse_window;
+use crate::shapes::{
+    append, consensus, load, matches, motifs, no_field, one_ref, ref_and_count, ref_and_start,
+    segments, session, slot_and_number, two_refs,
+};
 use mp_bytes::{Fields, same_text, without_cr};
 use mp_replies::Ref;
 use thiserror::Error;
@@ -164,65 +151,58 @@ pub fn parse_line(line: &[u8]) -> Result<Command<'_>, LineFault>
     }
 }
 
+/// Reads the fields behind a command word, each word's by its row of the table of commands.
 fn parse_command<'a>(word: &[u8], fields: Fields<'a>) -> Result<Command<'a>, LineFault>
-    ensures { read_as result ≡ asks (command_by word.now (fields_in fields.entry.text.now)) }
+    ensures { read_as result ≡ asks (command_in forms word.now (fields_in fields.entry.text.now)) }
 {
     if same_text(word, b"session") {
-        parse_session(fields)
+        session(fields)
     } else if same_text(word, b"open") {
-        parse_open(fields)
+        let (slot, channels) = slot_and_number(fields)?;
+        Ok(Command::Open { slot, channels })
     } else if same_text(word, b"load") {
-        parse_load(fields)
+        load(fields)
     } else if same_text(word, b"append") {
-        parse_append(fields)
+        append(fields)
     } else if same_text(word, b"window") {
-        parse_window(fields)
+        let (at, start) = ref_and_start(fields)?;
+        Ok(Command::Window { at, start })
     } else if same_text(word, b"profile") {
-        parse_profile(fields)
+        let at = one_ref(fields)?;
+        Ok(Command::Profile { at })
     } else if same_text(word, b"entry") {
-        parse_entry(fields)
-    } else {
-        parse_analysis(word, fields)
-    }
-}
-
-/// The commands behind `entry` in the table.
-fn parse_analysis<'a>(word: &[u8], fields: Fields<'a>) -> Result<Command<'a>, LineFault>
-    ensures { read_as result ≡ asks (command_in analyses word.now (fields_in fields.entry.text.now)) }
-{
-    if same_text(word, b"join") {
-        parse_join(fields)
+        let (at, start) = ref_and_start(fields)?;
+        Ok(Command::Entry { at, start })
+    } else if same_text(word, b"join") {
+        let (a, b) = two_refs(fields)?;
+        Ok(Command::Join { a, b })
     } else if same_text(word, b"multi") {
-        parse_multi(fields)
+        let (slot, k) = slot_and_number(fields)?;
+        Ok(Command::Multi { slot, k })
     } else if same_text(word, b"match") {
-        parse_match(fields)
+        matches(fields)
     } else if same_text(word, b"motifs") {
-        parse_motifs(fields)
+        motifs(fields)
     } else if same_text(word, b"discords") {
-        parse_discords(fields)
+        let (at, count) = ref_and_count(fields)?;
+        Ok(Command::Discords { at, count })
     } else if same_text(word, b"chain") {
-        parse_chain(fields)
+        let (at, start) = ref_and_start(fields)?;
+        Ok(Command::Chain { at, start })
     } else if same_text(word, b"chains") {
-        parse_chains(fields)
+        let at = one_ref(fields)?;
+        Ok(Command::Chains { at })
     } else if same_text(word, b"segments") {
-        parse_segments(fields)
+        segments(fields)
     } else if same_text(word, b"mpdist") {
-        parse_mpdist(fields)
+        let (a, b) = two_refs(fields)?;
+        Ok(Command::Mpdist { a, b })
     } else if same_text(word, b"consensus") {
-        parse_consensus(fields)
+        consensus(fields)
     } else if same_text(word, b"end") {
-        parse_end(fields)
+        no_field(fields)?;
+        Ok(Command::End)
     } else {
         Err(LineFault::Unknown)
-    }
-}
-
-/// `end`: no field behind the word.
-fn parse_end(mut fields: Fields<'_>) -> Result<Command<'_>, LineFault>
-    ensures { read_as result ≡ asks (by_form end_form (fields_in fields.entry.text.now)) }
-{
-    match fields.next() {
-        None => Ok(Command::End),
-        Some(_) => Err(LineFault::Fields),
     }
 }

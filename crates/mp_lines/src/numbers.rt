@@ -14,7 +14,7 @@ ghost use Rattle.mp_replies.specs.Numbers.{
   number,
   positive,
   ref,
-  square,
+  squared,
 };
 
 use mp_bytes::{Values, read_number};
@@ -59,8 +59,8 @@ pub(crate) fn read_u64(field: &[u8]) -> Option<u64>
 }
 
 /// A squared distance.
-pub(crate) fn read_square(field: &[u8]) -> Option<u128>
-    ensures { result ≡ square field.now }
+pub(crate) fn read_squared(field: &[u8]) -> Option<u128>
+    ensures { result ≡ squared field.now }
 {
     read_number(field, MAX_DIGITS, u128::MAX)
 }

@@ -1,15 +1,13 @@
 //! Lists of refs.
 
-ghost use Rattle.std.specs.Prelude.{◌≡◌, ◌≤◌, [], length, take, is_some, unwrap_or, Some, true, IfOk, IfSome};
+ghost use Rattle.std.specs.Prelude.{◌≡◌, ◌≤◌, [], length, take, is_some, unwrap_or, Some, true, IfSome};
 ghost use Rattle.mp_bytes.specs.Fields.{fields_in};
 ghost use Rattle.mp_replies.specs.ConsensusCommand.{consensus_fits};
 ghost use Rattle.mp_replies.specs.Numbers.{refs};
 
 use crate::numbers::read_ref;
 use mp_bytes::Fields;
-use mp_nums::Memory;
 use mp_replies::Ref;
-use std::alloc::Global;
 
 /// The fewest channels that are compared.
 const MIN_REFS: usize = 2;
@@ -62,17 +60,6 @@ impl<'a> Refs<'a> {
             count += 1;
         }
         count
-    }
-
-    /// The refs.
-    pub fn read(self, alloc: Global) -> Result<Vec<Ref>, Memory>
-        ensures { IfOk result (λ read. refs (fields_in self.entry.field.now) ≡ Some read.items) }
-    {
-        let mut read = Vec::new(alloc);
-        for text in (Fields { text: self.field }) {
-            read.push(read_ref(text).unwrap())?;
-        }
-        Ok(read)
     }
 }
 

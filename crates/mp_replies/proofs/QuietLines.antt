@@ -14,7 +14,7 @@ use Rattle.mp_replies.specs.Change.{Change}
 use Rattle.mp_replies.specs.Conditions.{first_of}
 use Rattle.mp_replies.specs.Command.{Command}
 use Rattle.mp_replies.specs.Answer.{Report, Silent, Accepted, Ended}
-use Rattle.mp_replies.specs.Line.{Asked, Nothing, Asks, Faulty, asks, asked_in, asked_of, command_by}
+use Rattle.mp_replies.specs.Line.{Asked, Nothing, Asks, Faulty, asks, asked_in, asked_of, command_in, forms}
 use Rattle.mp_replies.specs.Step.{Verdict, Passes, IsRefused, IsAccepted, verdict, verdict_by, verdict_of, change_by}
 use Rattle.mp_replies.specs.Step.{conditions, after, answer, answer_by, is_last, report_by}
 use Rattle.mp_replies.specs.Laws.{QuietLinesAreSilent}
@@ -72,7 +72,7 @@ by_first_byte false r = asks_something r
 
 fields_ask : (all : List (List ℕ)) → is_nothing (asked_in all) ≡ are_quiet all
 fields_ask [] = refl
-fields_ask (word ∷ others) = by_first_byte (slice_index word 0 == number_sign) (command_by word others)
+fields_ask (word ∷ others) = by_first_byte (slice_index word 0 == number_sign) (command_in forms word others)
 
 -- ---- by its bytes
 

@@ -1,6 +1,6 @@
 -- `append S ITEM ITEM ..`: samples behind those of each channel of a slot.
 use Rattle.std.specs.Prelude.{ℕ, ℤ, ◌+◌, ◌==◌, nat_lt, not, is_none, unwrap_or, List, [], ◌∷◌, length, if◌then◌else◌}
-use Rattle.std.specs.Prelude.{Option, Some, None, option_map, Result, Ok, Err}
+use Rattle.std.specs.Prelude.{Option, Some, None, Result, Ok, Err}
 use Rattle.mp_bytes.specs.Values.{values_in}
 use Rattle.mp_defs.specs.Limits.{max_samples, least_sample, greatest_sample}
 use Rattle.mp_defs.specs.Series.{Series}
@@ -12,12 +12,15 @@ use Rattle.mp_replies.specs.Change.{Change, AddSamples}
 use Rattle.mp_replies.specs.Command.{Command, Append}
 use Rattle.mp_replies.specs.Conditions.{Condition, when, no_slot}
 use Rattle.mp_replies.specs.Numbers.{number}
+use Rattle.mp_replies.specs.Shapes.{Shape, at_least, ◌&◌}
 use Rattle.mp_replies.specs.State.{Store, channels_at, samples_in}
 
--- what the fields behind the word ask for: a slot, and at least one item
-abbrev pub append_of : List (List ℕ) → Option Command
-append_of (slot ∷ item ∷ items) = option_map (λ (s : ℕ). Append s (item ∷ items)) (number slot)
-append_of others = None
+-- a slot, and at least one item
+abbrev pub append_shape : Shape (ℕ × List (List ℕ))
+append_shape = record { fits = at_least 2; read = number & Some }
+
+abbrev pub append_by : ℕ × List (List ℕ) → Command
+append_by (slot, items) = Append slot items
 
 -- ---- one item: the values of one moment, with commas between, one for each channel
 

@@ -1,21 +1,11 @@
 -- `chain R J`: the chain from one window of a channel.
-use Rattle.std.specs.Prelude.{ℕ, List, [], ◌∷◌, ◌++◌, length, codes, decimal, flat_map, Option, None, option_map}
+use Rattle.std.specs.Prelude.{ℕ, List, [], ◌∷◌, ◌++◌, length, codes, decimal, flat_map}
 use Rattle.mp_results.specs.Chains.{chain_from}
 use Rattle.mp_defs.specs.Profile.{Columns, matrix_profile}
 use Rattle.mp_replies.specs.Answer.{Report, ChainReport}
-use Rattle.mp_replies.specs.Command.{Command, Chain}
 use Rattle.mp_replies.specs.Conditions.{Condition, no_slot, no_channel, no_window}
-use Rattle.mp_replies.specs.Numbers.{number, ref, with_next}
 use Rattle.mp_replies.specs.declared.refs.Ref.{Ref}
 use Rattle.mp_replies.specs.State.{State, Store, series_at}
-
-abbrev pub chain_by : Ref → ℕ → Command
-chain_by at start = Chain at start
-
--- what two fields behind the word ask for
-abbrev pub chain_of : List (List ℕ) → Option Command
-chain_of (at ∷ start ∷ []) = with_next (option_map chain_by (ref at)) (number start)
-chain_of others = None
 
 abbrev pub chain_conditions : ℕ → List Store → Ref → ℕ → List Condition
 chain_conditions m stores at start =

@@ -1,18 +1,11 @@
 -- `chains R`: all chains of a channel.
-use Rattle.std.specs.Prelude.{ℕ, List, [], ◌∷◌, ◌++◌, length, codes, decimal, flat_map, Option, Some, None, option_map}
-use Rattle.mp_results.specs.Chains.{chains_of as all_chains_of, longest_of}
+use Rattle.std.specs.Prelude.{ℕ, List, [], ◌∷◌, ◌++◌, length, codes, decimal, flat_map, Option, Some, None}
+use Rattle.mp_results.specs.Chains.{chains_of, longest_of}
 use Rattle.mp_defs.specs.Profile.{Columns, matrix_profile}
 use Rattle.mp_replies.specs.Answer.{Report, ChainsReport}
-use Rattle.mp_replies.specs.Command.{Command, Chains}
 use Rattle.mp_replies.specs.Conditions.{Condition, no_slot, no_channel}
-use Rattle.mp_replies.specs.Numbers.{ref}
 use Rattle.mp_replies.specs.declared.refs.Ref.{Ref}
 use Rattle.mp_replies.specs.State.{State, Store, series_at}
-
--- what the field behind the word asks for
-abbrev pub chains_of : List (List ℕ) → Option Command
-chains_of (field ∷ []) = option_map (λ (at : Ref). Chains at) (ref field)
-chains_of others = None
 
 abbrev pub chains_conditions : List Store → Ref → List Condition
 chains_conditions stores at = no_slot stores at.slot ∷ no_channel stores at ∷ []
@@ -21,7 +14,7 @@ chains_conditions stores at = no_slot stores at.slot ∷ no_channel stores at �
 
 -- all chains, by the left and the right column
 abbrev pub chains_in : Columns → List (List ℕ)
-chains_in columns = all_chains_of columns.left columns.right
+chains_in columns = chains_of columns.left columns.right
 
 abbrev pub chains_report : State → Ref → Report
 chains_report state at = ChainsReport (chains_in (matrix_profile state.window (series_at state.stores at)))

@@ -1,6 +1,6 @@
 -- `consensus R R ..`: the window that several channels have in common.
 use Rattle.std.specs.Prelude.{ℕ, Bool, ◌&&◌, nat_le, List, [], ◌∷◌, ◌++◌, length, map, codes, decimal, flat_map}
-use Rattle.std.specs.Prelude.{Option, Some, None, option_map}
+use Rattle.std.specs.Prelude.{Option, Some, None}
 use Rattle.std.specs.List.{enumerate_from}
 use Rattle.mp_nums.specs.declared.nearest.Near.{Near}
 use Rattle.mp_results.specs.Consensus.{Central, centre_of}
@@ -9,6 +9,7 @@ use Rattle.mp_replies.specs.Command.{Command, Consensus}
 use Rattle.mp_replies.specs.Conditions.{Condition, no_slots, no_channels}
 use Rattle.mp_replies.specs.Limits.{min_refs, max_refs}
 use Rattle.mp_replies.specs.Numbers.{refs}
+use Rattle.mp_replies.specs.Shapes.{Shape}
 use Rattle.mp_replies.specs.declared.refs.Ref.{Ref}
 use Rattle.mp_replies.specs.State.{State, Store, series_at}
 use Rattle.mp_replies.specs.Text.{near_text}
@@ -17,9 +18,11 @@ use Rattle.mp_replies.specs.Text.{near_text}
 abbrev pub consensus_fits : List (List ℕ) → Bool
 consensus_fits others = nat_le min_refs (length others) && nat_le (length others) max_refs
 
--- what the fields behind the word ask for
-abbrev pub consensus_of : List (List ℕ) → Option Command
-consensus_of others = option_map (λ (list : List Ref). Consensus list) (refs others)
+abbrev pub consensus_shape : Shape (List Ref)
+consensus_shape = record { fits = consensus_fits; read = refs }
+
+abbrev pub consensus_by : List Ref → Command
+consensus_by list = Consensus list
 
 abbrev pub consensus_conditions : List Store → List Ref → List Condition
 consensus_conditions stores list = no_slots stores list ∷ no_channels stores list ∷ []

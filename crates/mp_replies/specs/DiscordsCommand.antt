@@ -1,24 +1,14 @@
 -- `discords R COUNT`: the most unusual windows of a channel.
-use Rattle.std.specs.Prelude.{ℕ, List, [], ◌∷◌, ◌++◌, length, codes, decimal, flat_map, Option, None, option_map}
+use Rattle.std.specs.Prelude.{ℕ, List, [], ◌∷◌, ◌++◌, length, codes, decimal, flat_map}
 use Rattle.mp_nums.specs.declared.finds.Discord.{Discord}
 use Rattle.mp_defs.specs.Profile.{matrix_profile}
 use Rattle.mp_defs.specs.Window.{excl}
 use Rattle.mp_results.specs.Discords.{discords}
 use Rattle.mp_replies.specs.Answer.{Report, DiscordsReport}
-use Rattle.mp_replies.specs.Command.{Command, Discords}
 use Rattle.mp_replies.specs.Conditions.{Condition, no_slot, no_channel}
-use Rattle.mp_replies.specs.Numbers.{count, ref, with_next}
 use Rattle.mp_replies.specs.declared.refs.Ref.{Ref}
 use Rattle.mp_replies.specs.State.{State, Store, series_at}
 use Rattle.mp_replies.specs.Text.{near_text}
-
-abbrev pub discords_by : Ref → ℕ → Command
-discords_by at most = Discords at most
-
--- what two fields behind the word ask for
-abbrev pub discords_of : List (List ℕ) → Option Command
-discords_of (at ∷ most ∷ []) = with_next (option_map discords_by (ref at)) (count most)
-discords_of others = None
 
 abbrev pub discords_conditions : List Store → Ref → List Condition
 discords_conditions stores at = no_slot stores at.slot ∷ no_channel stores at ∷ []

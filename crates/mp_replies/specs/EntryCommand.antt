@@ -1,21 +1,12 @@
 -- `entry R I`: the entry of one window.
-use Rattle.std.specs.Prelude.{ℕ, List, [], ◌∷◌, ◌++◌, codes, decimal, slice_index_or, Option, None, option_map}
-use Rattle.std.specs.Prelude.{option_and_then}
+use Rattle.std.specs.Prelude.{ℕ, List, [], ◌∷◌, ◌++◌, codes, decimal, slice_index_or, Option, None}
 use Rattle.mp_nums.specs.declared.nearest.Near.{Near}
 use Rattle.mp_defs.specs.Profile.{Columns, matrix_profile}
 use Rattle.mp_replies.specs.Answer.{Report, EntryReport}
-use Rattle.mp_replies.specs.Command.{Command, Entry}
 use Rattle.mp_replies.specs.Conditions.{Condition, no_slot, no_channel, no_window}
-use Rattle.mp_replies.specs.Numbers.{number, ref}
 use Rattle.mp_replies.specs.declared.refs.Ref.{Ref}
 use Rattle.mp_replies.specs.State.{State, Store, series_at}
 use Rattle.mp_replies.specs.Text.{row_text}
-
--- what two fields behind the word ask for
-abbrev pub entry_of : List (List ℕ) → Option Command
-entry_of (field ∷ start ∷ []) =
-    option_and_then (λ (at : Ref). option_map (λ (i : ℕ). Entry at i) (number start)) (ref field)
-entry_of others = None
 
 abbrev pub entry_conditions : ℕ → List Store → Ref → ℕ → List Condition
 entry_conditions m stores at start =

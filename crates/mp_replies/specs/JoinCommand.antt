@@ -1,19 +1,12 @@
 -- `join R Q`: the AB-join of a channel in another.
-use Rattle.std.specs.Prelude.{ℕ, List, [], ◌∷◌, ◌++◌, codes, Option, None}
+use Rattle.std.specs.Prelude.{ℕ, List, [], ◌∷◌, ◌++◌, codes, Option}
 use Rattle.mp_nums.specs.declared.nearest.Near.{Near}
 use Rattle.mp_defs.specs.Profile.{ab_join}
 use Rattle.mp_replies.specs.Answer.{Report, JoinReport}
-use Rattle.mp_replies.specs.Command.{Command, Join}
 use Rattle.mp_replies.specs.Conditions.{Condition, no_slots, no_channels}
-use Rattle.mp_replies.specs.Numbers.{with_refs}
 use Rattle.mp_replies.specs.declared.refs.Ref.{Ref}
 use Rattle.mp_replies.specs.State.{State, Store, series_at}
 use Rattle.mp_replies.specs.Text.{column_text}
-
--- what two fields behind the word ask for
-abbrev pub join_of : List (List ℕ) → Option Command
-join_of (first ∷ second ∷ []) = with_refs (λ a b. Join a b) first second
-join_of others = None
 
 abbrev pub join_conditions : List Store → Ref → Ref → List Condition
 join_conditions stores a b = no_slots stores (a ∷ b ∷ []) ∷ no_channels stores (a ∷ b ∷ []) ∷ []

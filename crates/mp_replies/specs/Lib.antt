@@ -7,6 +7,7 @@ pub mod Change
 pub mod Command
 pub mod Answer
 pub mod Text
+pub mod Shapes
 pub mod SessionCommand
 pub mod OpenCommand
 pub mod LoadCommand

@@ -1,29 +1,22 @@
 -- What a line asks for.
-use Rattle.std.specs.Prelude.{ℕ, ◌+◌, ◌==◌, Bool, true, false, nat_le, nat_lt, List, [], ◌∷◌, length, codes}
-use Rattle.std.specs.Prelude.{slice_index, if◌then◌else◌, Option, Some, None, Result, Ok, Err}
+use Rattle.std.specs.Prelude.{ℕ, ◌==◌, Bool, true, false, nat_lt, List, [], ◌∷◌, length, codes, slice_index}
+use Rattle.std.specs.Prelude.{if◌then◌else◌, Result, Ok, Err}
 use Rattle.mp_bytes.specs.Bytes.{number_sign, same_text}
 use Rattle.mp_bytes.specs.Fields.{fields}
 use Rattle.mp_bytes.specs.Lines.{max_line}
 use Rattle.mp_replies.specs.declared.causes.Cause.{Cause}
 use Rattle.mp_replies.specs.declared.causes.Cause.TheVariants as cause
-use Rattle.mp_replies.specs.Command.{Command, End}
+use Rattle.mp_replies.specs.Command.{Command, OpenSlot, Window, Profile, Entry, Join, Multi, Discords, Chain, Chains}
+use Rattle.mp_replies.specs.Command.{Mpdist, End}
+use Rattle.mp_replies.specs.Shapes.{Shape, by_shape, no_field, one_ref, two_refs, ref_and_start, ref_and_count}
+use Rattle.mp_replies.specs.Shapes.{slot_and_number}
 use Rattle.mp_replies.specs.SessionCommand.{session_of}
-use Rattle.mp_replies.specs.OpenCommand.{open_of}
-use Rattle.mp_replies.specs.LoadCommand.{load_fits, load_of}
-use Rattle.mp_replies.specs.AppendCommand.{append_of}
-use Rattle.mp_replies.specs.WindowCommand.{window_of}
-use Rattle.mp_replies.specs.ProfileCommand.{profile_of}
-use Rattle.mp_replies.specs.EntryCommand.{entry_of}
-use Rattle.mp_replies.specs.JoinCommand.{join_of}
-use Rattle.mp_replies.specs.MultiCommand.{multi_of}
-use Rattle.mp_replies.specs.MatchCommand.{match_of}
-use Rattle.mp_replies.specs.MotifsCommand.{motifs_of}
-use Rattle.mp_replies.specs.DiscordsCommand.{discords_of}
-use Rattle.mp_replies.specs.ChainCommand.{chain_of}
-use Rattle.mp_replies.specs.ChainsCommand.{chains_of}
-use Rattle.mp_replies.specs.SegmentsCommand.{segments_of}
-use Rattle.mp_replies.specs.MpdistCommand.{mpdist_command_of}
-use Rattle.mp_replies.specs.ConsensusCommand.{consensus_fits, consensus_of}
+use Rattle.mp_replies.specs.LoadCommand.{load_shape, load_by}
+use Rattle.mp_replies.specs.AppendCommand.{append_shape, append_by}
+use Rattle.mp_replies.specs.MatchCommand.{match_shape, match_by}
+use Rattle.mp_replies.specs.MotifsCommand.{motifs_shape, motifs_by}
+use Rattle.mp_replies.specs.SegmentsCommand.{segments_shape, segments_by}
+use Rattle.mp_replies.specs.ConsensusCommand.{consensus_shape, consensus_by}
 
 pub data Asked : Type 0 where
   -- nothing: a blank line or a comment
@@ -34,96 +27,53 @@ pub data Asked : Type 0 where
 
 -- ---- the table of commands
 
--- a command word, which fields may stand behind it, and what they ask for, none where one of them is malformed
+-- a command word, and what the fields behind it ask for
 pub record Form : Type 0 where
   pub word : List ℕ
-  pub fits : List (List ℕ) → Bool
-  pub read : List (List ℕ) → Option Command
+  pub read : List (List ℕ) → Result Command Cause
 
--- so many fields in all, the word included
-abbrev pub in_all : ℕ → List (List ℕ) → Bool
-in_all count others = length others + 1 == count
+-- the command that is made of what fields say
+abbrev pub made : {A : Type 0} → (A → Command) → Result A Cause → Result Command Cause
+made make (Ok said) = Ok (make said)
+made make (Err why) = Err why
 
--- so many fields in all, or more
-abbrev pub at_least : ℕ → List (List ℕ) → Bool
-at_least count others = nat_le count (length others + 1)
+-- a command of fields of a shape
+abbrev pub row : {A : Type 0} → List ℕ → Shape A → (A → Command) → Form
+row word shape make = record { word = word; read = λ fields. made make (by_shape shape fields) }
 
-abbrev pub open_form : Form
-open_form = record { word = codes "open"; fits = in_all 3; read = open_of }
-
-abbrev pub load_form : Form
-load_form = record { word = codes "load"; fits = load_fits; read = load_of }
-
-abbrev pub append_form : Form
-append_form = record { word = codes "append"; fits = at_least 3; read = append_of }
-
-abbrev pub window_form : Form
-window_form = record { word = codes "window"; fits = in_all 3; read = window_of }
-
-abbrev pub profile_form : Form
-profile_form = record { word = codes "profile"; fits = in_all 2; read = profile_of }
-
-abbrev pub entry_form : Form
-entry_form = record { word = codes "entry"; fits = in_all 3; read = entry_of }
-
-abbrev pub join_form : Form
-join_form = record { word = codes "join"; fits = in_all 3; read = join_of }
-
-abbrev pub multi_form : Form
-multi_form = record { word = codes "multi"; fits = in_all 3; read = multi_of }
-
-abbrev pub match_form : Form
-match_form = record { word = codes "match"; fits = in_all 6; read = match_of }
-
-abbrev pub motifs_form : Form
-motifs_form = record { word = codes "motifs"; fits = in_all 7; read = motifs_of }
-
-abbrev pub discords_form : Form
-discords_form = record { word = codes "discords"; fits = in_all 3; read = discords_of }
-
-abbrev pub chain_form : Form
-chain_form = record { word = codes "chain"; fits = in_all 3; read = chain_of }
-
-abbrev pub chains_form : Form
-chains_form = record { word = codes "chains"; fits = in_all 2; read = chains_of }
-
-abbrev pub segments_form : Form
-segments_form = record { word = codes "segments"; fits = in_all 4; read = segments_of }
-
-abbrev pub mpdist_form : Form
-mpdist_form = record { word = codes "mpdist"; fits = in_all 3; read = mpdist_command_of }
-
-abbrev pub consensus_form : Form
-consensus_form = record { word = codes "consensus"; fits = consensus_fits; read = consensus_of }
-
-abbrev pub end_form : Form
-end_form = record { word = codes "end"; fits = in_all 1; read = λ _. Some End }
+-- a version line is refused by its own word alone
+abbrev pub session_form : Form
+session_form = record { word = codes "session"; read = session_of }
 
 abbrev pub forms : List Form
 forms =
-    open_form ∷ load_form ∷ append_form ∷ window_form ∷ profile_form ∷ entry_form ∷ join_form ∷ multi_form
-    ∷ match_form ∷ motifs_form ∷ discords_form ∷ chain_form ∷ chains_form ∷ segments_form ∷ mpdist_form
-    ∷ consensus_form ∷ end_form ∷ []
-
--- ---- what a line asks for, by its fields
-
-abbrev pub unless_malformed : Option Command → Result Command Cause
-unless_malformed None = Err cause.Number
-unless_malformed (Some command) = Ok command
-
--- the number of fields is tested before the fields are
-abbrev pub by_form : Form → List (List ℕ) → Result Command Cause
-by_form form others = if form.fits others then unless_malformed (form.read others) else Err cause.Fields
+    session_form
+    ∷ row (codes "open") slot_and_number (λ (slot, channels). OpenSlot slot channels)
+    ∷ row (codes "load") load_shape load_by
+    ∷ row (codes "append") append_shape append_by
+    ∷ row (codes "window") ref_and_start (λ (at, start). Window at start)
+    ∷ row (codes "profile") one_ref Profile
+    ∷ row (codes "entry") ref_and_start (λ (at, start). Entry at start)
+    ∷ row (codes "join") two_refs (λ (a, b). Join a b)
+    ∷ row (codes "multi") slot_and_number (λ (slot, k). Multi slot k)
+    ∷ row (codes "match") match_shape match_by
+    ∷ row (codes "motifs") motifs_shape motifs_by
+    ∷ row (codes "discords") ref_and_count (λ (at, most). Discords at most)
+    ∷ row (codes "chain") ref_and_start (λ (at, start). Chain at start)
+    ∷ row (codes "chains") one_ref Chains
+    ∷ row (codes "segments") segments_shape segments_by
+    ∷ row (codes "mpdist") two_refs (λ (a, b). Mpdist a b)
+    ∷ row (codes "consensus") consensus_shape consensus_by
+    ∷ row (codes "end") no_field (λ _. End)
+    ∷ []
 
 -- by the form of a command word
 abbrev pub command_in : List Form → List ℕ → List (List ℕ) → Result Command Cause
 command_in [] word others = Err cause.Unknown
 command_in (form ∷ more) word others =
-    if same_text word form.word then by_form form others else command_in more word others
+    if same_text word form.word then form.read others else command_in more word others
 
--- a version line is refused by its own word alone
-abbrev pub command_by : List ℕ → List (List ℕ) → Result Command Cause
-command_by word others = if same_text word (codes "session") then session_of others else command_in forms word others
+-- ---- what a line asks for, by its fields
 
 abbrev pub asks : Result Command Cause → Asked
 asks (Ok command) = Asks command
@@ -131,7 +81,7 @@ asks (Err cause) = Faulty cause
 
 abbrev pub asked_in : List (List ℕ) → Asked
 asked_in [] = Nothing
-asked_in (word ∷ others) = if slice_index word 0 == number_sign then Nothing else asks (command_by word others)
+asked_in (word ∷ others) = if slice_index word 0 == number_sign then Nothing else asks (command_in forms word others)
 
 -- a line with too many bytes is refused, whatever it holds
 unfoldable pub asked_of : List ℕ → Asked

@@ -1,6 +1,6 @@
 -- `load S FILE COL,COL`, or with `header` behind: columns of a file in place of what stood in a slot.
-use Rattle.std.specs.Prelude.{ℕ, ◌==◌, Bool, true, false, not, nat_lt, List, [], ◌∷◌, length, codes, Option, Some, None}
-use Rattle.std.specs.Prelude.{is_none, unwrap_or, option_map, option_and_then, Result, Ok, Err}
+use Rattle.std.specs.Prelude.{ℕ, ◌==◌, Bool, true, false, not, nat_lt, List, [], ◌∷◌, length, codes, if◌then◌else◌}
+use Rattle.std.specs.Prelude.{Option, Some, None, is_none, is_some, unwrap_or, Result, Ok, Err}
 use Rattle.std.specs.FinMap.{get}
 use Rattle.mp_bytes.specs.Bytes.{same_text}
 use Rattle.mp_defs.specs.Series.{Series}
@@ -11,23 +11,27 @@ use Rattle.mp_replies.specs.Command.{Command, Load}
 use Rattle.mp_replies.specs.Conditions.{Condition, when, no_slot}
 use Rattle.mp_replies.specs.Limits.{max_file}
 use Rattle.mp_replies.specs.Numbers.{number, columns}
+use Rattle.mp_replies.specs.Shapes.{Shape, ◌&◌}
 use Rattle.mp_replies.specs.State.{Files, Store, channels_at}
 
--- three fields stand behind the word, or four, of which the last is `header`
+-- ---- its fields
+
+-- what stands behind the columns: nothing, or `header`
+abbrev pub header_of : List (List ℕ) → Option Bool
+header_of [] = Some false
+header_of (word ∷ []) = if same_text word (codes "header") then Some true else None
+header_of others = None
+
+-- three fields, or four, of which the last is `header`
 abbrev pub load_fits : List (List ℕ) → Bool
-load_fits (slot ∷ file ∷ cols ∷ []) = true
-load_fits (slot ∷ file ∷ cols ∷ last ∷ []) = same_text last (codes "header")
+load_fits (slot ∷ file ∷ cols ∷ others) = is_some (header_of others)
 load_fits others = false
 
-abbrev pub load_with : List ℕ → List ℕ → List ℕ → Bool → Option Command
-load_with slot file cols header =
-    option_and_then (λ (s : ℕ). option_map (λ (cs : List ℕ). Load s file cs header) (columns cols)) (number slot)
+abbrev pub load_shape : Shape (ℕ × (List ℕ × (List ℕ × Bool)))
+load_shape = record { fits = load_fits; read = number & Some & columns & header_of }
 
--- what these fields ask for
-abbrev pub load_of : List (List ℕ) → Option Command
-load_of (slot ∷ file ∷ cols ∷ []) = load_with slot file cols false
-load_of (slot ∷ file ∷ cols ∷ last ∷ []) = load_with slot file cols true
-load_of others = None
+abbrev pub load_by : ℕ × (List ℕ × (List ℕ × Bool)) → Command
+load_by (slot, (file, (cols, header))) = Load slot file cols header
 
 -- ---- what the file holds
 

@@ -1,5 +1,5 @@
 -- `match R Q I RADIUS MAX`: the windows of a channel that match a window of another.
-use Rattle.std.specs.Prelude.{ℕ, not, List, [], ◌∷◌, ◌++◌, length, codes, decimal, flat_map, Option, None, option_map}
+use Rattle.std.specs.Prelude.{ℕ, not, List, [], ◌∷◌, ◌++◌, length, codes, decimal, flat_map, None}
 use Rattle.mp_nums.specs.declared.nearest.Near.{Near}
 use Rattle.mp_defs.specs.Series.{Series}
 use Rattle.mp_defs.specs.Window.{excl, is_free}
@@ -9,22 +9,18 @@ use Rattle.mp_replies.specs.declared.causes.Cause.TheVariants.{Missing}
 use Rattle.mp_replies.specs.Answer.{Report, MatchReport}
 use Rattle.mp_replies.specs.Command.{Command, Match}
 use Rattle.mp_replies.specs.Conditions.{Condition, when, no_slots, no_channels, no_window}
-use Rattle.mp_replies.specs.Numbers.{number, count, square, ref, with_next}
+use Rattle.mp_replies.specs.Numbers.{number, count, squared, ref}
+use Rattle.mp_replies.specs.Shapes.{Shape, of_length, last, ◌&◌}
 use Rattle.mp_replies.specs.declared.refs.Ref.{Ref}
 use Rattle.mp_replies.specs.State.{State, Store, series_at}
 use Rattle.mp_replies.specs.Text.{near_text}
 use Rattle.mp_replies.specs.WindowCommand.{window_at}
 
-abbrev pub match_by : Ref → Ref → ℕ → ℕ → ℕ → Command
-match_by at query start radius max = Match at query start radius max
+abbrev pub match_shape : Shape (Ref × (Ref × (ℕ × (ℕ × ℕ))))
+match_shape = record { fits = of_length 5; read = ref & ref & number & squared & last count }
 
--- what five fields behind the word ask for
-abbrev pub match_of : List (List ℕ) → Option Command
-match_of (at ∷ query ∷ start ∷ radius ∷ max ∷ []) =
-    with_next
-    (with_next (with_next (with_next (option_map match_by (ref at)) (ref query)) (number start)) (square radius))
-    (count max)
-match_of others = None
+abbrev pub match_by : Ref × (Ref × (ℕ × (ℕ × ℕ))) → Command
+match_by (at, (query, (start, (radius, max)))) = Match at query start radius max
 
 -- a window with a missing sample has no distance to any other
 abbrev pub match_conditions : ℕ → List Store → Ref → Ref → ℕ → List Condition

@@ -1,10 +1,11 @@
 -- `motifs R COUNT CUTOFF RADIUS NEIGHBOURS MATCHES`: the repeated patterns of a channel.
-use Rattle.std.specs.Prelude.{ℕ, List, [], ◌∷◌, ◌++◌, length, codes, decimal, flat_map, Option, None, option_map}
+use Rattle.std.specs.Prelude.{ℕ, List, [], ◌∷◌, ◌++◌, length, codes, decimal, flat_map}
 use Rattle.mp_results.specs.Motifs.{MotifQuery, Repeated, motifs}
 use Rattle.mp_replies.specs.Answer.{Report, MotifsReport}
 use Rattle.mp_replies.specs.Command.{Command, Motifs}
 use Rattle.mp_replies.specs.Conditions.{Condition, no_slot, no_channel}
-use Rattle.mp_replies.specs.Numbers.{few, square, neighbours, ref, with_next}
+use Rattle.mp_replies.specs.Numbers.{few, squared, neighbours, ref}
+use Rattle.mp_replies.specs.Shapes.{Shape, of_length, last, ◌&◌}
 use Rattle.mp_replies.specs.declared.refs.Ref.{Ref}
 use Rattle.mp_replies.specs.State.{State, Store, series_at}
 use Rattle.mp_replies.specs.Text.{near_text}
@@ -13,18 +14,12 @@ abbrev pub motif_query : ℕ → ℕ → ℕ → ℕ → ℕ → MotifQuery
 motif_query count cutoff radius neighbours matches =
     record { cutoff = cutoff; radius = radius; neighbours = neighbours; max_matches = matches; count = count }
 
-abbrev pub motifs_by : Ref → ℕ → ℕ → ℕ → ℕ → ℕ → Command
-motifs_by at count cutoff radius neighbours matches = Motifs at (motif_query count cutoff radius neighbours matches)
+abbrev pub motifs_shape : Shape (Ref × (ℕ × (ℕ × (ℕ × (ℕ × ℕ)))))
+motifs_shape = record { fits = of_length 6; read = ref & few & squared & squared & neighbours & last few }
 
--- what six fields behind the word ask for
-abbrev pub motifs_of : List (List ℕ) → Option Command
-motifs_of (at ∷ count ∷ cutoff ∷ radius ∷ others ∷ matches ∷ []) =
-    with_next
-    (with_next
-    (with_next (with_next (with_next (option_map motifs_by (ref at)) (few count)) (square cutoff)) (square radius))
-    (neighbours others))
-    (few matches)
-motifs_of others = None
+abbrev pub motifs_by : Ref × (ℕ × (ℕ × (ℕ × (ℕ × ℕ)))) → Command
+motifs_by (at, (count, (cutoff, (radius, (neighbours, matches))))) =
+    Motifs at (motif_query count cutoff radius neighbours matches)
 
 abbrev pub motifs_conditions : List Store → Ref → List Condition
 motifs_conditions stores at = no_slot stores at.slot ∷ no_channel stores at ∷ []

@@ -5,16 +5,9 @@ use Rattle.mp_defs.specs.Profile.{ab_join}
 use Rattle.mp_defs.specs.Series.{Series}
 use Rattle.mp_results.specs.Mpdist.{mpdist_of}
 use Rattle.mp_replies.specs.Answer.{Report, MpdistReport}
-use Rattle.mp_replies.specs.Command.{Command, Mpdist}
 use Rattle.mp_replies.specs.Conditions.{Condition, no_slots, no_channels}
-use Rattle.mp_replies.specs.Numbers.{with_refs}
 use Rattle.mp_replies.specs.declared.refs.Ref.{Ref}
 use Rattle.mp_replies.specs.State.{State, Store, series_at}
-
--- what two fields behind the word ask for
-abbrev pub mpdist_command_of : List (List ℕ) → Option Command
-mpdist_command_of (first ∷ second ∷ []) = with_refs (λ a b. Mpdist a b) first second
-mpdist_command_of others = None
 
 abbrev pub mpdist_conditions : List Store → Ref → Ref → List Condition
 mpdist_conditions stores a b = no_slots stores (a ∷ b ∷ []) ∷ no_channels stores (a ∷ b ∷ []) ∷ []

@@ -1,22 +1,12 @@
 -- `multi S K`: the multidimensional profile of a slot's channels, K of them together.
-use Rattle.std.specs.Prelude.{ℕ, ◌||◌, not, nat_le, List, [], ◌∷◌, ◌++◌, length, codes, Option, None, option_map}
+use Rattle.std.specs.Prelude.{ℕ, ◌||◌, not, nat_le, List, [], ◌∷◌, ◌++◌, length, codes, Option}
 use Rattle.mp_nums.specs.declared.nearest.Near.{Near}
 use Rattle.mp_results.specs.Multi.{multi_of as multi_profile}
 use Rattle.mp_replies.specs.declared.causes.Cause.TheVariants.{Channel}
 use Rattle.mp_replies.specs.Answer.{Report, MultiReport}
-use Rattle.mp_replies.specs.Command.{Command, Multi}
 use Rattle.mp_replies.specs.Conditions.{Condition, when, no_slot}
-use Rattle.mp_replies.specs.Numbers.{number, with_next}
 use Rattle.mp_replies.specs.State.{State, Store, channels_at}
 use Rattle.mp_replies.specs.Text.{column_text}
-
-abbrev pub multi_by : ℕ → ℕ → Command
-multi_by slot k = Multi slot k
-
--- what two fields behind the word ask for
-abbrev pub multi_of : List (List ℕ) → Option Command
-multi_of (slot ∷ k ∷ []) = with_next (option_map multi_by (number slot)) (number k)
-multi_of others = None
 
 abbrev pub multi_conditions : List Store → ℕ → ℕ → List Condition
 multi_conditions stores slot k =

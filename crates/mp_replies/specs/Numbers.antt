@@ -12,8 +12,8 @@ abbrev pub number : List ℕ → Option ℕ
 number field = number_of max_digits max_number field
 
 -- a squared distance
-abbrev pub square : List ℕ → Option ℕ
-square field = number_of max_digits max_square field
+abbrev pub squared : List ℕ → Option ℕ
+squared field = number_of max_digits max_square field
 
 -- a number that isn't 0
 abbrev pub positive : Option ℕ → Option ℕ
@@ -60,10 +60,6 @@ ref_at field (Some at) = ref_with (number (take at field)) (number (drop (at + 1
 
 abbrev pub ref : List ℕ → Option Ref
 ref field = ref_at field (position is_point field)
-
--- what is made of two refs
-abbrev pub with_refs : {A : Type 0} → (Ref → Ref → A) → List ℕ → List ℕ → Option A
-with_refs make first second = with_next (option_map make (ref first)) (ref second)
 
 -- ---- lists
 

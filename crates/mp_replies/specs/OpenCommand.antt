@@ -1,17 +1,9 @@
 -- `open S C`: empty channels in place of what stood in a slot.
-use Rattle.std.specs.Prelude.{ℕ, ◌||◌, not, nat_le, List, [], ◌∷◌, replicate, Option, None, option_map, option_and_then}
+use Rattle.std.specs.Prelude.{ℕ, ◌||◌, not, nat_le, List, [], ◌∷◌, replicate}
 use Rattle.mp_replies.specs.declared.causes.Cause.TheVariants.{Slot, Channel}
 use Rattle.mp_replies.specs.Change.{Change, PutChannels}
-use Rattle.mp_replies.specs.Command.{Command, OpenSlot}
 use Rattle.mp_replies.specs.Conditions.{Condition, when}
 use Rattle.mp_replies.specs.Limits.{slot_count, max_channels}
-use Rattle.mp_replies.specs.Numbers.{number}
-
--- what two fields behind the word ask for
-abbrev pub open_of : List (List ℕ) → Option Command
-open_of (slot ∷ channels ∷ []) =
-    option_and_then (λ (s : ℕ). option_map (λ (c : ℕ). OpenSlot s c) (number channels)) (number slot)
-open_of others = None
 
 -- ---- what is refused, and what is changed
 

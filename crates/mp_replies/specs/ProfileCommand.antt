@@ -1,20 +1,12 @@
 -- `profile R`: the matrix profile of a channel.
-use Rattle.std.specs.Prelude.{ℕ, List, [], ◌∷◌, ◌++◌, length, codes, decimal, flat_map, slice_index_or, Option, None}
-use Rattle.std.specs.Prelude.{option_map}
+use Rattle.std.specs.Prelude.{ℕ, List, [], ◌∷◌, ◌++◌, length, codes, decimal, flat_map, slice_index_or, None}
 use Rattle.std.specs.List.{range_with_len}
 use Rattle.mp_defs.specs.Profile.{Columns, matrix_profile}
 use Rattle.mp_replies.specs.Answer.{Report, ProfileReport}
-use Rattle.mp_replies.specs.Command.{Command, Profile}
 use Rattle.mp_replies.specs.Conditions.{Condition, no_slot, no_channel}
-use Rattle.mp_replies.specs.Numbers.{ref}
 use Rattle.mp_replies.specs.declared.refs.Ref.{Ref}
 use Rattle.mp_replies.specs.State.{State, Store, series_at}
 use Rattle.mp_replies.specs.Text.{row_text}
-
--- what the field behind the word asks for
-abbrev pub profile_of : List (List ℕ) → Option Command
-profile_of (field ∷ []) = option_map (λ (at : Ref). Profile at) (ref field)
-profile_of others = None
 
 abbrev pub profile_conditions : List Store → Ref → List Condition
 profile_conditions stores at = no_slot stores at.slot ∷ no_channel stores at ∷ []

@@ -1,6 +1,6 @@
 -- `segments R COUNT FACTOR`: the places where a channel changes its regime.
 use Rattle.std.specs.Prelude.{ℕ, ◌*◌, List, [], ◌∷◌, ◌++◌, length, slice_index_or, codes, decimal, flat_map}
-use Rattle.std.specs.Prelude.{Option, None, option_map}
+use Rattle.std.specs.Prelude.{Option}
 use Rattle.mp_nums.specs.declared.nearest.Near.{Near}
 use Rattle.mp_results.specs.Arcs.{arcs_of, indices_of}
 use Rattle.mp_results.specs.Curve.{curve_of, whole}
@@ -9,18 +9,16 @@ use Rattle.mp_defs.specs.Profile.{matrix_profile}
 use Rattle.mp_replies.specs.Answer.{Report, SegmentsReport}
 use Rattle.mp_replies.specs.Command.{Command, Segments}
 use Rattle.mp_replies.specs.Conditions.{Condition, no_slot, no_channel}
-use Rattle.mp_replies.specs.Numbers.{count, factor, ref, with_next}
+use Rattle.mp_replies.specs.Numbers.{count, factor, ref}
+use Rattle.mp_replies.specs.Shapes.{Shape, of_length, last, ◌&◌}
 use Rattle.mp_replies.specs.declared.refs.Ref.{Ref}
 use Rattle.mp_replies.specs.State.{State, Store, series_at}
 
-abbrev pub segments_by : Ref → ℕ → ℕ → Command
-segments_by at most lengths = Segments at most lengths
+abbrev pub segments_shape : Shape (Ref × (ℕ × ℕ))
+segments_shape = record { fits = of_length 3; read = ref & count & last factor }
 
--- what three fields behind the word ask for
-abbrev pub segments_of : List (List ℕ) → Option Command
-segments_of (at ∷ most ∷ lengths ∷ []) =
-    with_next (with_next (option_map segments_by (ref at)) (count most)) (factor lengths)
-segments_of others = None
+abbrev pub segments_by : Ref × (ℕ × ℕ) → Command
+segments_by (at, (most, lengths)) = Segments at most lengths
 
 abbrev pub segments_conditions : List Store → Ref → List Condition
 segments_conditions stores at = no_slot stores at.slot ∷ no_channel stores at ∷ []

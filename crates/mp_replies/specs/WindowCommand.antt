@@ -1,20 +1,11 @@
 -- `window R I`: the samples of a window.
-use Rattle.std.specs.Prelude.{ℕ, List, [], ◌∷◌, ◌++◌, take, drop, codes, decimal, flat_map, Option, None, option_map}
-use Rattle.std.specs.Prelude.{option_and_then}
+use Rattle.std.specs.Prelude.{ℕ, List, [], ◌∷◌, ◌++◌, take, drop, codes, decimal, flat_map}
 use Rattle.mp_defs.specs.Series.{Series}
 use Rattle.mp_text.specs.SampleText.{sample_text}
 use Rattle.mp_replies.specs.Answer.{Report, WindowReport}
-use Rattle.mp_replies.specs.Command.{Command, Window}
 use Rattle.mp_replies.specs.Conditions.{Condition, no_slot, no_channel, no_window}
-use Rattle.mp_replies.specs.Numbers.{number, ref}
 use Rattle.mp_replies.specs.declared.refs.Ref.{Ref}
 use Rattle.mp_replies.specs.State.{State, Store, series_at}
-
--- what two fields behind the word ask for
-abbrev pub window_of : List (List ℕ) → Option Command
-window_of (field ∷ start ∷ []) =
-    option_and_then (λ (at : Ref). option_map (λ (i : ℕ). Window at i) (number start)) (ref field)
-window_of others = None
 
 abbrev pub window_conditions : ℕ → List Store → Ref → ℕ → List Condition
 window_conditions m stores at start =

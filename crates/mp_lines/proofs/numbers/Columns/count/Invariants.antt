@@ -1,6 +1,6 @@
 use Rattle.std.specs.Prelude.{option_map}
 use Rattle.mp_bytes.specs.Values.{values_in, values_left}
-use Rattle.mp_lines.proofs.ColumnLemmas.{AreCounted}
+use Rattle.mp_lines.proofs.ReadLemmas.{AreCounted}
 use Rattle.mp_lines.proofs.numbers.Columns.count.Given as goal
 
 abbrev pub invariant-loop : goal.invariant-loop

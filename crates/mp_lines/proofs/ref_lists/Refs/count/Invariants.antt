@@ -1,5 +1,5 @@
 use Rattle.mp_bytes.specs.Fields.{fields_in}
-use Rattle.mp_lines.proofs.RefLemmas.{AreCounted}
+use Rattle.mp_lines.proofs.ReadLemmas.{AreCounted}
 use Rattle.mp_lines.proofs.ref_lists.Refs.count.Given as goal
 
 abbrev pub invariant-loop : goal.invariant-loop

@@ -2,8 +2,9 @@ use Rattle.std.proofs.Common.{rules, ◌≡◌, ◌<◌, ◌∙◌, ◌∷◌, L
 use Rattle.std.proofs.lemmas.List.{take_more_set}
 use Rattle.mp_bytes.specs.Fields.{fields_in}
 use Rattle.mp_replies.specs.declared.refs.Ref.{Ref}
-use Rattle.mp_replies.specs.Numbers.{refs}
-use Rattle.mp_lines.proofs.RefLemmas.{AreCounted, counted_fits, front_more, in_front}
+use Rattle.mp_replies.specs.Numbers.{ref, refs}
+use Rattle.mp_lines.proofs.ReadLemmas.{AreCounted, front_more, in_front}
+use Rattle.mp_lines.proofs.RefLemmas.{counted_fits}
 use Rattle.mp_lines.proofs.ref_lists.Refs.gather.Goals as goal
 
 pub loop-text-preserved : goal.loop-text-preserved
@@ -21,7 +22,7 @@ loop-text-preserved c =
     record {
       counted = search rules;
       gathered =
-          front_more (refs all) (take count room) text left c.unwrap.result (sym c.read_ref.ensures ∙ c.unwrap.ensures)
+          front_more ref (refs all) (take count room) text left c.unwrap.result (sym c.read_ref.ensures ∙ c.unwrap.ensures)
           (c.loop-text.invariant.gathered ∙ ap (λ fields. in_front (take count room) (refs fields)) steps)
           ∙ ap (λ (first : List Ref). in_front first (refs left))
           (sym (take_more_set room count c.unwrap.result below));

@@ -1,7 +1,7 @@
 use Rattle.std.proofs.Common.{◌≡◌, take}
 use Rattle.mp_bytes.specs.Fields.{fields_in}
 use Rattle.mp_replies.specs.Numbers.{refs}
-use Rattle.mp_lines.proofs.RefLemmas.{AreCounted, in_front}
+use Rattle.mp_lines.proofs.ReadLemmas.{AreCounted, in_front}
 use Rattle.mp_lines.proofs.ref_lists.Refs.gather.Given as goal
 
 abbrev pub invariant-loop-text : goal.invariant-loop-text

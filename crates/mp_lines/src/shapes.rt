@@ -1,0 +1,202 @@
+//! The fields of commands, read by their shape.
+
+ghost use Rattle.std.specs.Prelude.{◌≡◌};
+ghost use Rattle.mp_bytes.specs.Fields.{fields_in};
+ghost use Rattle.mp_replies.specs.AppendCommand.{append_by, append_shape};
+ghost use Rattle.mp_replies.specs.ConsensusCommand.{consensus_by, consensus_shape};
+ghost use Rattle.mp_replies.specs.Line.{asks};
+ghost use Rattle.mp_replies.specs.LoadCommand.{header_of, load_by, load_shape};
+ghost use Rattle.mp_replies.specs.MatchCommand.{match_by, match_shape};
+ghost use Rattle.mp_replies.specs.MotifsCommand.{motifs_by, motifs_shape};
+ghost use Rattle.mp_replies.specs.SegmentsCommand.{segments_by, segments_shape};
+ghost use Rattle.mp_replies.specs.SessionCommand.{session_of};
+ghost use Rattle.mp_replies.specs.Shapes as shape;
+ghost use Rattle.mp_lines.specs.Lines.{IsMadeBy, IsReadBy, read_as};
+
+use crate::commands::{Command, LineFault};
+use crate::numbers::{
+    Columns, read_count, read_factor, read_few, read_neighbours, read_ref, read_squared, read_u64,
+};
+use crate::ref_lists::{Refs, is_right_count};
+use crate::texts::{five_texts, one_text, six_texts, three_texts, two_texts};
+use mp_bytes::{Fields, same_text};
+use mp_replies::Ref;
+
+/// The one version that there is.
+const VERSION: u64 = 1;
+
+// ---- common shapes
+
+/// No field.
+pub(crate) fn no_field(mut fields: Fields<'_>) -> Result<(), LineFault>
+    ensures { IsReadBy shape.no_field (fields_in fields.entry.text.now) result }
+{
+    match fields.next() {
+        None => Ok(()),
+        Some(_) => Err(LineFault::Fields),
+    }
+}
+
+/// `R`: a ref.
+pub(crate) fn one_ref(fields: Fields<'_>) -> Result<Ref, LineFault>
+    ensures { IsReadBy shape.one_ref (fields_in fields.entry.text.now) result }
+{
+    let at = one_text(fields).ok_or(LineFault::Fields)?;
+    read_ref(at).ok_or(LineFault::Number)
+}
+
+/// `R Q`: two refs.
+pub(crate) fn two_refs(fields: Fields<'_>) -> Result<(Ref, Ref), LineFault>
+    ensures { IsReadBy shape.two_refs (fields_in fields.entry.text.now) result }
+{
+    let (a, b) = two_texts(fields).ok_or(LineFault::Fields)?;
+    read_ref(a).zip(read_ref(b)).ok_or(LineFault::Number)
+}
+
+/// `R I`: a ref, and where a window starts.
+pub(crate) fn ref_and_start(fields: Fields<'_>) -> Result<(Ref, u64), LineFault>
+    ensures { IsReadBy shape.ref_and_start (fields_in fields.entry.text.now) result }
+{
+    let (at, start) = two_texts(fields).ok_or(LineFault::Fields)?;
+    read_ref(at).zip(read_u64(start)).ok_or(LineFault::Number)
+}
+
+/// `R COUNT`: a ref, and how many windows are asked for.
+pub(crate) fn ref_and_count(fields: Fields<'_>) -> Result<(Ref, u64), LineFault>
+    ensures { IsReadBy shape.ref_and_count (fields_in fields.entry.text.now) result }
+{
+    let (at, count) = two_texts(fields).ok_or(LineFault::Fields)?;
+    read_ref(at).zip(read_count(count)).ok_or(LineFault::Number)
+}
+
+/// `S K`: a slot, and a number.
+pub(crate) fn slot_and_number(fields: Fields<'_>) -> Result<(u64, u64), LineFault>
+    ensures { IsReadBy shape.slot_and_number (fields_in fields.entry.text.now) result }
+{
+    let (slot, number) = two_texts(fields).ok_or(LineFault::Fields)?;
+    read_u64(slot)
+        .zip(read_u64(number))
+        .ok_or(LineFault::Number)
+}
+
+// ---- shapes of one command
+
+/// `session 1`. Its only refusal is that of the version.
+pub(crate) fn session(fields: Fields<'_>) -> Result<Command<'_>, LineFault>
+    ensures { read_as result ≡ asks (session_of (fields_in fields.entry.text.now)) }
+{
+    let field = one_text(fields).ok_or(LineFault::Version)?;
+    match read_u64(field) {
+        Some(VERSION) => Ok(Command::Session { version: VERSION }),
+        _ => Err(LineFault::Version),
+    }
+}
+
+/// `load S FILE COL,COL`, or with `header` behind.
+pub(crate) fn load(mut fields: Fields<'_>) -> Result<Command<'_>, LineFault>
+    ensures { IsMadeBy load_by load_shape (fields_in fields.entry.text.now) result }
+{
+    let slot = fields.next().ok_or(LineFault::Fields)?;
+    let file = fields.next().ok_or(LineFault::Fields)?;
+    let columns = fields.next().ok_or(LineFault::Fields)?;
+    let header = read_header(fields).ok_or(LineFault::Fields)?;
+    let slot = read_u64(slot).ok_or(LineFault::Number)?;
+    let columns = Columns::of(columns).ok_or(LineFault::Number)?;
+    Ok(Command::Load {
+        slot,
+        file,
+        columns,
+        header,
+    })
+}
+
+/// Whether `header` is all that stands there, or else nothing. `None` for other fields.
+fn read_header(mut fields: Fields<'_>) -> Option<bool>
+    ensures { result ≡ header_of (fields_in fields.entry.text.now) }
+{
+    let Some(word) = fields.next() else {
+        return Some(false);
+    };
+    if fields.next().is_some() || !same_text(word, b"header") {
+        return None;
+    }
+    Some(true)
+}
+
+/// `append S ITEM ITEM ..`.
+pub(crate) fn append(mut fields: Fields<'_>) -> Result<Command<'_>, LineFault>
+    ensures { IsMadeBy append_by append_shape (fields_in fields.entry.text.now) result }
+{
+    let slot = fields.next().ok_or(LineFault::Fields)?;
+    let items = fields.text;
+    if fields.next().is_none() {
+        return Err(LineFault::Fields);
+    }
+    let slot = read_u64(slot).ok_or(LineFault::Number)?;
+    Ok(Command::Append { slot, items })
+}
+
+/// `match R Q I RADIUS MAX`.
+pub(crate) fn matches(fields: Fields<'_>) -> Result<Command<'_>, LineFault>
+    ensures { IsMadeBy match_by match_shape (fields_in fields.entry.text.now) result }
+{
+    let (at, query, start, radius, max) = five_texts(fields).ok_or(LineFault::Fields)?;
+    let at = read_ref(at).ok_or(LineFault::Number)?;
+    let query = read_ref(query).ok_or(LineFault::Number)?;
+    let start = read_u64(start).ok_or(LineFault::Number)?;
+    let radius = read_squared(radius).ok_or(LineFault::Number)?;
+    let max = read_count(max).ok_or(LineFault::Number)?;
+    Ok(Command::Match {
+        at,
+        query,
+        start,
+        radius,
+        max,
+    })
+}
+
+/// `motifs R COUNT CUTOFF RADIUS NEIGHBOURS MATCHES`.
+pub(crate) fn motifs(fields: Fields<'_>) -> Result<Command<'_>, LineFault>
+    ensures { IsMadeBy motifs_by motifs_shape (fields_in fields.entry.text.now) result }
+{
+    let (at, count, cutoff, radius, neighbours, matches) = six_texts(fields).ok_or(
+        LineFault::Fields,
+    )?;
+    let at = read_ref(at).ok_or(LineFault::Number)?;
+    let count = read_few(count).ok_or(LineFault::Number)?;
+    let cutoff = read_squared(cutoff).ok_or(LineFault::Number)?;
+    let radius = read_squared(radius).ok_or(LineFault::Number)?;
+    let neighbours = read_neighbours(neighbours).ok_or(LineFault::Number)?;
+    let matches = read_few(matches).ok_or(LineFault::Number)?;
+    Ok(Command::Motifs {
+        at,
+        count,
+        cutoff,
+        radius,
+        neighbours,
+        matches,
+    })
+}
+
+/// `segments R COUNT FACTOR`.
+pub(crate) fn segments(fields: Fields<'_>) -> Result<Command<'_>, LineFault>
+    ensures { IsMadeBy segments_by segments_shape (fields_in fields.entry.text.now) result }
+{
+    let (at, count, factor) = three_texts(fields).ok_or(LineFault::Fields)?;
+    let at = read_ref(at).ok_or(LineFault::Number)?;
+    let count = read_count(count).ok_or(LineFault::Number)?;
+    let factor = read_factor(factor).ok_or(LineFault::Number)?;
+    Ok(Command::Segments { at, count, factor })
+}
+
+/// `consensus R R ..`, with 2 to 64 refs.
+pub(crate) fn consensus(fields: Fields<'_>) -> Result<Command<'_>, LineFault>
+    ensures { IsMadeBy consensus_by consensus_shape (fields_in fields.entry.text.now) result }
+{
+    let field = fields.text;
+    if !is_right_count(field) {
+        return Err(LineFault::Fields);
+    }
+    let refs = Refs::of(field).ok_or(LineFault::Number)?;
+    Ok(Command::Consensus { refs })
+}
