@@ -1,0 +1,4 @@
+pub mod ThresholdLemmas
+pub mod StepLemmas
+pub mod FillLemmas
+pub mod StopLemmas

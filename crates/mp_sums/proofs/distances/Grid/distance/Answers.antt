@@ -1,0 +1,22 @@
+use Rattle.std.proofs.Common.{◌≡◌, ◌∙◌, sym, ap, arith}
+use Rattle.mp_sums.specs.Grids.{first_sum_in}
+use Rattle.mp_sums.specs.SumLaws.{is_sum_of_none, is_sum_of_more, is_small, distances_are_sums}
+use Rattle.mp_sums.proofs.distances.Grid.distance.Goals as goal
+
+pub loop-k-init : goal.loop-k-init
+loop-k-init c = is_sum_of_none _ _ _ _
+
+pub overflow_add-sum : goal.overflow_add-sum
+overflow_add-sum c =
+    omega (arith, is_small _ _ _ _ _ _ c.loop-k.invariant, c.args.self.now.short, c.square-sum.ensures.small)
+
+pub loop-k-preserved : goal.loop-k-preserved
+loop-k-preserved c =
+    is_sum_of_more _ _ _ _ _ _ _ c.loop-k.invariant c.square-sum.ensures.square c.square-sum.ensures.small
+
+pub returns-clause-distance : goal.returns-clause-distance
+returns-clause-distance c = λ d e.
+    let grid = c.args.self.now in
+    let all : c.loop-k.k ≡ grid.m = omega (arith, c.loop-k-test.false, c.loop-k.auto.k-end) in
+    c.loop-k.invariant.sum_is ∙ ap (λ n. first_sum_in grid n c.args.row c.args.column) all
+    ∙ sym (distances_are_sums _ _ _ _ _ d e)

@@ -1,0 +1,56 @@
+-- What holds of sums, of rounded samples and of residues, in the subject's own words.
+use Rattle.std.specs.Prelude.{◌≡◌, ℕ, ◌+◌, ◌≤◌, ℤ, ◌≤ℤ◌, ◌<ℤ◌, Some}
+use Rattle.mp_defs.specs.Series.{Series}
+use Rattle.mp_defs.specs.Distance.{square_gap, distance}
+use Rattle.mp_sums.specs.declared.limits.Limit.{Limit}
+use Rattle.mp_sums.specs.Sums.{numbers_of, square_sum}
+use Rattle.mp_sums.specs.Limits.{IsWithin, IsBeyond}
+use Rattle.mp_sums.specs.Rounding.{rounded, threshold}
+use Rattle.mp_sums.specs.Residues.{rounded_residue, residue, residue_limit, IsChange, moved}
+
+-- ---- sums
+
+pub record SumsRunOn : Type 0 where
+  pub no_numbers : (x : ℕ → ℤ) (i : ℕ) (y : ℕ → ℤ) (j : ℕ) → square_sum 0 x i y j ≡ 0
+  -- with one number more
+  pub one_more : (m : ℕ) (x : ℕ → ℤ) (i : ℕ) (y : ℕ → ℤ) (j : ℕ)
+      → square_sum (m + 1) x i y j ≡ square_sum m x i y j + square_gap (x (i + m)) (y (j + m))
+  -- one place on: one square goes and one comes in
+  pub moved_on : (m : ℕ) (x : ℕ → ℤ) (i : ℕ) (y : ℕ → ℤ) (j : ℕ)
+      → square_sum m x (i + 1) y (j + 1) + square_gap (x i) (y j)
+      ≡ square_sum m x i y j + square_gap (x (i + m)) (y (j + m))
+  -- it is the same from either side
+  pub turned : (m : ℕ) (x : ℕ → ℤ) (i : ℕ) (y : ℕ → ℤ) (j : ℕ) → square_sum m x i y j ≡ square_sum m y j x i
+  -- the first squares alone
+  pub first : (n m : ℕ) (x : ℕ → ℤ) (i : ℕ) (y : ℕ → ℤ) (j : ℕ) → n ≤ m → square_sum n x i y j ≤ square_sum m x i y j
+
+-- where two windows have a distance, it is the sum of their numbers
+abbrev pub DistancesAreSums : Type 0
+DistancesAreSums = (m : ℕ) (a : Series) (i : ℕ) (b : Series) (j d : ℕ) → distance m a i b j ≡ Some d
+    → d ≡ square_sum m (numbers_of a) i (numbers_of b) j
+
+-- ---- rounded samples
+
+-- where a sum is within a limit, that of the rounded numbers is within the limit's threshold
+abbrev pub RoundedSumsAreNear : Type 0
+RoundedSumsAreNear = (m shift limit : ℕ) (x : ℕ → ℤ) (i : ℕ) (y : ℕ → ℤ) (j : ℕ) → square_sum m x i y j ≤ limit
+    → square_sum m (rounded shift x) i (rounded shift y) j ≤ threshold m shift limit
+
+-- ---- residues
+
+-- where row and column move on, so does the residue of their sum, whatever the sum is
+abbrev pub ResiduesMoveOn : Type 0
+ResiduesMoveOn = (m : ℕ) (x : ℕ → ℤ) (i : ℕ) (y : ℕ → ℤ) (j : ℕ) (e s e' s' : ℤ) → IsChange m x i e s
+    → IsChange m y j e' s'
+    → moved (residue (square_sum m x i y j)) e s e' s' ≡ residue (square_sum m x (i + 1) y (j + 1))
+
+-- what the residue of two windows that have a distance tells of it
+pub record ResiduesTell : Type 0 where
+  -- within a limit it passes
+  pub passes : (m shift : ℕ) (limit : Limit) (a : Series) (i : ℕ) (b : Series) (j d : ℕ)
+      → distance m a i b j ≡ Some d → IsWithin limit d
+      → rounded_residue m shift a i b j ≤ℤ residue_limit m shift limit
+  -- so where it doesn't, the windows lie beyond the limit
+  pub beyond : (m shift : ℕ) (limit : Limit) (a : Series) (i : ℕ) (b : Series) (j d : ℕ)
+      → distance m a i b j ≡ Some d → residue_limit m shift limit <ℤ rounded_residue m shift a i b j
+      → IsBeyond limit d

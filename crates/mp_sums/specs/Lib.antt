@@ -1,0 +1,10 @@
+pub mod Sums
+pub mod Grids
+pub mod Limits
+pub mod Rounding
+pub mod Residues
+pub mod Laws
+pub mod Products
+pub mod SumLaws
+pub mod RoundingLaws
+pub mod ResidueLaws

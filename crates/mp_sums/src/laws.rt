@@ -1,0 +1,30 @@
+//! What holds of sums and of residues, as the contracts of functions that do nothing.
+
+ghost use Rattle.mp_sums.specs.Laws.{SumsRunOn, DistancesAreSums, RoundedSumsAreNear, ResiduesMoveOn, ResiduesTell};
+
+/// With one number more a sum grows by one square. One place on, one square goes and one comes in. It is the same from
+/// either side. The first squares alone are no more than all.
+pub fn sums_run_on()
+    ensures { SumsRunOn }
+{}
+
+/// Where two windows have a distance, it is the sum of the squared differences of their numbers.
+pub fn distances_are_sums()
+    ensures { DistancesAreSums }
+{}
+
+/// Where the sum of two windows is within a limit, that of their rounded numbers is within the limit's threshold.
+pub fn rounded_sums_are_near()
+    ensures { RoundedSumsAreNear }
+{}
+
+/// Where a row and a column move on, the residue of their sum moves on by the changes of both, whatever the sum is.
+pub fn residues_move_on()
+    ensures { ResiduesMoveOn }
+{}
+
+/// A pair of windows within a limit passes: its residue is not above the limit's. So a pair whose residue is above that
+/// of its row's limit and that of its column's lies beyond both.
+pub fn residues_tell()
+    ensures { ResiduesTell }
+{}

@@ -1,0 +1,21 @@
+//! Sums of squared differences of windows: exact ones of 128 bits, and residues modulo 2^32 of rounded samples, which
+//! tell of most pairs of windows that they lie beyond a limit.
+#![tactic(auto)]
+
+mod distances;
+mod laws;
+mod limits;
+mod numbers;
+mod residues;
+mod roundings;
+
+pub use distances::Grid;
+pub use laws::{
+    distances_are_sums, residues_move_on, residues_tell, rounded_sums_are_near, sums_run_on,
+};
+pub use limits::Limit;
+pub use numbers::{NUMBER_BITS, Number, number_of, square};
+pub use residues::{
+    ALWAYS, Change, NEVER, ZERO, change_of, fill_changes, first_residue, next_residue, passes,
+};
+pub use roundings::Rounding;
