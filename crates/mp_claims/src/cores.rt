@@ -1,9 +1,9 @@
 //! A core: workers that claim pieces, finish and deliver them, and the total of what was delivered.
 
-ghost use Rattle.std.specs.Prelude.{◌≡◌, ℕ, ◌<◌, ◌≤◌, ◌↔◌, [], length, slice_get, slice_index_or, slice_set, IsTrue, IfOk, OnErr, MatchResult, Some, None};
+ghost use Rattle.std.specs.Prelude.{◌≡◌, ℕ, ◌<◌, ◌≤◌, ◌↔◌, [], length, slice_get, slice_index_or, slice_set, IsTrue, IfOk, OnErr, OnOk, MatchResult, Some, None};
 ghost use Rattle.mp_partial.specs.Values.{Value, merged_below, merged_over};
 ghost use Rattle.mp_claims.specs.Cores.{EachOnce, IsComplete, accepted, after, claimed_by, delivered_by, delivered_pieces, held_by, refusal, start};
-ghost use Rattle.mp_claims.specs.Standing.{StandsFor, TakesIn};
+ghost use Rattle.mp_claims.specs.Standing.{MovesValues, StandsFor, TakesIn};
 
 use crate::boards::Board;
 use crate::events::{CoreRefusal, Event};
@@ -119,6 +119,7 @@ impl<P: Part> Core<P> {
         ensures state { self.new.state ≡ accepted self.old.state event }
         ensures size { self.new.size ≡ self.old.size }
         ensures once { EachOnce self.new.state }
+        ensures values { MovesValues P.merged (P.unit_of self.old.size) (K.value_of kernel.now) event self.old self.new }
         ensures stands { StandsFor P.merged (P.unit_of self.old.size) (K.value_of kernel.now) self.old
             → StandsFor P.merged (P.unit_of self.old.size) (K.value_of kernel.now) self.new }
     {
@@ -141,6 +142,8 @@ impl<P: Part> Core<P> {
         ensures workers { length self.new.state.workers ≡ length self.old.state.workers }
         ensures unchanged { OnErr result (self.new ≡ self.old) }
         ensures once { EachOnce self.new.state }
+        ensures values { OnOk result (MovesValues P.merged (P.unit_of self.old.size) (K.value_of kernel.now) event
+            self.old self.new) }
         ensures stands { StandsFor P.merged (P.unit_of self.old.size) (K.value_of kernel.now) self.old
             → StandsFor P.merged (P.unit_of self.old.size) (K.value_of kernel.now) self.new }
     {

@@ -4,4 +4,5 @@ pub mod MatchLemmas
 pub mod Windows
 pub mod Alone
 pub mod Searching
+pub mod Rounds
 pub mod Entries

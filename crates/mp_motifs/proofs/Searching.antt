@@ -92,7 +92,7 @@ BeginsAt i [] = ⊥
 BeginsAt i (near ∷ nears) = near.index ≡ i
 
 -- such a list shuts out its window
-begins_shut : (zone i : ℕ) (list : List Near) → BeginsAt i list
+pub begins_shut : (zone i : ℕ) (list : List Near) → BeginsAt i list
     → list_all (λ near. nat_lt zone (abs_diff near.index i)) list ≡ false
 begins_shut zone i [] h = absurd h
 begins_shut zone i (near ∷ nears) h =
@@ -142,7 +142,7 @@ module _ (matches_at : ℕ → List Near) (zone neighbours : ℕ) where
   none_among zero left = refl
   none_among (suc rounds) left = refl
 
-  among_none : (rounds count : ℕ) → among rounds count [] ≡ []
+  pub among_none : (rounds count : ℕ) → among rounds count [] ≡ []
   unfolding motifs_among first_of
   among_none zero count = refl
   among_none (suc rounds) zero = refl

@@ -1,3 +1,4 @@
 pub mod Retold
 pub mod Described
 pub mod Examples
+pub mod Laws

@@ -1,7 +1,7 @@
 -- What is asked of channels.
 use Rattle.std.specs.Prelude.{◌≡◌, ℕ, ◌≤◌, List, [], length, slice_index_or, All}
 use Rattle.mp_nums.specs.declared.samples.Sample.{Sample}
-use Rattle.mp_series.specs.declared.limits.TheConstants.{MAX_SAMPLES, MAX_WINDOW, MIN_WINDOW}
+use Rattle.mp_defs.specs.Limits.{max_samples, max_window, min_window}
 use Rattle.mp_multi.specs.declared.profiles.TheConstants.{MAX_CHANNELS}
 
 -- they have as many samples as the first one
@@ -10,11 +10,11 @@ HaveOneLength channels = All (λ channel. length channel ≡ length (slice_index
 
 -- they are compared at window length m, k of them together
 pub record AreChannels (channels : List (List Sample)) (m k : ℕ) : Type 0 where
-  pub shortest : MIN_WINDOW ≤ m
-  pub longest : m ≤ MAX_WINDOW
+  pub shortest : min_window ≤ m
+  pub longest : m ≤ max_window
   pub one : 1 ≤ length channels
   pub few : length channels ≤ MAX_CHANNELS
   pub one_length : HaveOneLength channels
-  pub samples : length (slice_index_or channels 0 []) ≤ MAX_SAMPLES
+  pub samples : length (slice_index_or channels 0 []) ≤ max_samples
   pub some : 1 ≤ k
   pub present : k ≤ length channels

@@ -1,4 +1,4 @@
-ghost use Rattle.std.specs.Prelude.{◌≡◌, ◌≢◌, ◌↔◌, ◌+◌, ◌-◌, ◌^◌, ◌<◌, ◌≤◌, min, None, Ok, Err, vec_len, IfOk, IsErrOf};
+ghost use Rattle.std.specs.Prelude.{◌≡◌, ◌≢◌, ◌+◌, ◌-◌, ◌^◌, ◌<◌, ◌≤◌, min, None, Ok, Err, vec_len, IfOk, IsErrOf};
 ghost use Rattle.std.specs.Io.KnownBytes.{Consumes, IsAtEnd};
 ghost use Rattle.std.specs.Str.{IsUtf8};
 ghost use Rattle.std.proofs.Common.{rules};
@@ -11,7 +11,7 @@ use crate::shelves::Shelf;
 use mp_nums::Memory;
 use std::alloc::{AllocError, Global};
 use std::fs::File;
-use std::io::{self, ErrorKind, Read};
+use std::io::{self, Read};
 use std::marker::Model;
 use std::rt::Files;
 
@@ -67,29 +67,23 @@ impl<R: Files> Shelf for DiskShelf<R> {
         };
         match read_start(&self.rt, alloc, path, limit.saturating_add(1)) {
             Ok(bytes) => kept_within(bytes, limit),
-            Err(error) => Err(self.answer(error.kind())),
+            Err(error) => Err(self.counted(ShelfAnswer::at_error(error.kind()))),
         }
     }
 }
 
 impl<R> DiskShelf<R> {
-    // The answer at an error of the system, which is counted where it is a failure.
-    fn answer(&mut self, kind: ErrorKind) -> ShelfAnswer
-        ensures absent { (result ≡ ShelfAnswer.Absent) ↔ (kind ≡ ErrorKind.NotFound) }
-        ensures memory { (result ≡ ShelfAnswer.Memory) ↔ (kind ≡ ErrorKind.OutOfMemory) }
-        ensures failed { kind ≢ ErrorKind.NotFound → kind ≢ ErrorKind.OutOfMemory → result ≡ ShelfAnswer.Failed }
+    // The answer, which is counted where it is a failure.
+    fn counted(&mut self, answer: ShelfAnswer) -> ShelfAnswer
+        ensures answer { result ≡ answer }
         ensures faults { self.old ≤ self.new }
-        ensures calm { result ≢ ShelfAnswer.Failed → self.new ≡ self.old }
-        ensures counted { result ≡ ShelfAnswer.Failed → self.new ≡ min (self.old + 1) (2 ^ 64 - 1) }
+        ensures calm { answer ≢ ShelfAnswer.Failed → self.new ≡ self.old }
+        ensures counted { answer ≡ ShelfAnswer.Failed → self.new ≡ min (self.old + 1) (2 ^ 64 - 1) }
     {
-        match kind {
-            ErrorKind::NotFound => ShelfAnswer::Absent,
-            ErrorKind::OutOfMemory => ShelfAnswer::Memory,
-            _ => {
-                self.faults = self.faults.saturating_add(1);
-                ShelfAnswer::Failed
-            }
+        if answer == ShelfAnswer::Failed {
+            self.faults = self.faults.saturating_add(1);
         }
+        answer
     }
 }
 

@@ -1,7 +1,8 @@
-ghost use Rattle.std.specs.Prelude.{◌≡◌};
+ghost use Rattle.std.specs.Prelude.{◌≡◌, ◌≢◌, ◌↔◌};
 ghost use Rattle.mp_outside.specs.declared.failures.ShelfAnswer.TheVariants.{Memory};
 
 use std::alloc::AllocError;
+use std::io::ErrorKind;
 use thiserror::Error;
 
 /// A read, a write or a flush that failed.
@@ -24,6 +25,21 @@ pub enum ShelfAnswer {
     /// There was no memory for the file's bytes.
     #[error("out of memory")]
     Memory,
+}
+
+impl ShelfAnswer {
+    /// What a shelf of the system's files answers at an error of the system.
+    pub fn at_error(kind: ErrorKind) -> ShelfAnswer
+        ensures absent { (result ≡ ShelfAnswer.Absent) ↔ (kind ≡ ErrorKind.NotFound) }
+        ensures memory { (result ≡ ShelfAnswer.Memory) ↔ (kind ≡ ErrorKind.OutOfMemory) }
+        ensures failed { kind ≢ ErrorKind.NotFound → kind ≢ ErrorKind.OutOfMemory → result ≡ ShelfAnswer.Failed }
+    {
+        match kind {
+            ErrorKind::NotFound => ShelfAnswer::Absent,
+            ErrorKind::OutOfMemory => ShelfAnswer::Memory,
+            _ => ShelfAnswer::Failed,
+        }
+    }
 }
 
 impl From<AllocError> for ShelfAnswer {

@@ -1,7 +1,8 @@
 -- Appends that come one behind another.
 use Rattle.std.proofs.Common.{◌≡◌, ℕ, ◌+◌, ◌<◌, ◌≤◌, Bool, true, false, not, List, [], ◌∷◌, ◌++◌, length, refl, ap, ◌∙◌}
 use Rattle.std.proofs.Common.{sym, subst, arith, append-nil, length-append, nat_lt}
-use Rattle.std.specs.Prelude.{Option, Some, None, is_some, is_none, unwrap_or, Result, Ok, Err, flat_map}
+use Rattle.std.specs.Prelude.{Option, Some, None, is_some, is_none, unwrap_or, Result, Ok, Err, flat_map, slice_set}
+use Rattle.std.proofs.lemmas.List.{set-set}
 use Rattle.std.proofs.lemmas.Bool.{or_parts}
 use Rattle.std.proofs.lemmas.Bool.Decides.{nat_tests}
 use Rattle.mp_defs.specs.Limits.{max_samples}
@@ -74,11 +75,18 @@ length-items scale n at (item ∷ items) rows h =
 
 -- ---- one line
 
--- these rows stand behind the samples of the slot's channels, where there was room for them
+-- the stores with these rows behind the samples of a slot's channels
+abbrev stores_with : List Store → ℕ → List Row → List Store
+stores_with stores slot rows = slice_set stores slot (Open (with_rows (channels_at stores slot) rows))
+
+-- these rows stand behind the samples of the slot's channels, where there was room for them, and nothing else changes
 record Appended (state later : State) (slot : ℕ) (rows : List Row) : Type 0 where
   room : samples_in (channels_at state.stores slot) + length rows ≤ max_samples
   channels : channels_at later.stores slot ≡ with_rows (channels_at state.stores slot) rows
+  stores_are : later.stores ≡ stores_with state.stores slot rows
+  window_is : later.window ≡ state.window
   scale_is : later.scale ≡ state.scale
+  begun_is : later.begun ≡ true
 
 -- the slot has a channel
 abbrev HasChannel : State → ℕ → Type 0
@@ -131,14 +139,17 @@ appended_by state slot items None p some is =
     let n = length (channels_at state.stores slot) in
     let added = columns_of n (rows_in (read_items state.scale n items)) in
     let long = length-items state.scale n 1 items p.rows p.rows_are in
+    let extended_are : extended (channels_at state.stores slot) added
+    ≡ with_rows (channels_at state.stores slot) p.rows =
+    ap (λ (r : Result (List Row) ℕ). extended (channels_at state.stores slot) (columns_of n (rows_in r))) p.rows_are
+    ∙ sym (with_rows-is (channels_at state.stores slot) p.rows) in
     record {
       room = omega (arith, p.room, long);
-      channels =
-          changed_channels state.stores slot added some
-          ∙ (ap (λ (r : Result (List Row) ℕ). extended (channels_at state.stores slot) (columns_of n (rows_in r)))
-          p.rows_are
-          ∙ sym (with_rows-is (channels_at state.stores slot) p.rows));
+      channels = changed_channels state.stores slot added some ∙ extended_are;
+      stores_are = ap (λ (cs : List Series). slice_set state.stores slot (Open cs)) extended_are;
+      window_is = refl;
       scale_is = refl;
+      begun_is = refl;
     }
 
 one_of : (state : State) (files : Files) (slot : ℕ) (items : List (List ℕ)) → HasChannel state slot
@@ -192,6 +203,8 @@ both state middle later slot items more some p one two =
     let others : read_items state.scale n more ≡ Ok two.rows =
     ap (λ (s : ℕ). read_items s n more) (sym one.scale_is)
     ∙ (ap (λ (c : ℕ). read_items middle.scale c more) (sym same) ∙ two.rows_are) in
+    let joined : with_rows (channels_at middle.stores slot) two.rows ≡ with_rows channels (p.rows ++ two.rows) =
+    ap (λ (cs : List Series). with_rows cs two.rows) one.channels ∙ with_rows-append channels p.rows two.rows in
     let held : samples_in (channels_at middle.stores slot) ≡ samples_in channels + length p.rows =
     ap samples_in one.channels ∙ samples_in-with_rows channels p.rows some in
     record {
@@ -199,11 +212,18 @@ both state middle later slot items more some p one two =
       rows_are = items_of-append state.scale n 1 items more p.rows two.rows p.rows_are others;
       appended = record {
         room = omega (arith, two.appended.room, held, length-append p.rows two.rows);
-        channels =
-            two.appended.channels
-            ∙ (ap (λ (cs : List Series). with_rows cs two.rows) one.channels
-            ∙ with_rows-append channels p.rows two.rows);
+        channels = two.appended.channels ∙ joined;
+        stores_are =
+            two.appended.stores_are
+            ∙ (ap (λ (stores : List Store).
+            slice_set stores slot (Open (with_rows (channels_at middle.stores slot) two.rows)))
+            one.stores_are
+            ∙ (set-set state.stores slot (Open (with_rows channels p.rows))
+            (Open (with_rows (channels_at middle.stores slot) two.rows))
+            ∙ ap (λ (cs : List Series). slice_set state.stores slot (Open cs)) joined));
+        window_is = two.appended.window_is ∙ one.window_is;
         scale_is = two.appended.scale_is ∙ one.scale_is;
+        begun_is = two.appended.begun_is;
       };
     }
 
@@ -274,5 +294,10 @@ appends state files slot first lines groups whole some each asks good =
     let one = one_line state files whole slot items some asks none in
     let same = same_rows all.rows one.0.rows (read_items state.scale n items) all.rows_are one.0.rows_are in (
       none,
-      all.appended.channels ∙ (ap (with_rows (channels_at state.stores slot)) same ∙ sym one.1.channels),
+      record {
+        window_is = all.appended.window_is ∙ sym one.1.window_is;
+        scale_is = all.appended.scale_is ∙ sym one.1.scale_is;
+        begun_is = all.appended.begun_is ∙ sym one.1.begun_is;
+        stores_are = all.appended.stores_are ∙ (ap (stores_with state.stores slot) same ∙ sym one.1.stores_are);
+      },
     )

@@ -130,8 +130,15 @@ AppendEach slot (line ∷ lines) [] = ⊥
 AppendEach slot (line ∷ lines) (items ∷ groups) =
     (asked_of line ≡ Asks (Append slot items)) × AppendEach slot lines groups
 
--- The samples of several appends to a slot with a channel, however they are cut into lines, give the channels of one
--- append, where no line is refused. Then that one isn't, either.
+-- two states are the same, the number of lines run aside
+pub record AreAlike (a b : State) : Type 0 where
+  pub window_is : a.window ≡ b.window
+  pub scale_is : a.scale ≡ b.scale
+  pub begun_is : a.begun ≡ b.begun
+  pub stores_are : a.stores ≡ b.stores
+
+-- The samples of several appends to a slot with a channel, however they are cut into lines, give the state of one
+-- append, the number of lines aside, where no line is refused. Then that one isn't, either.
 abbrev pub AppendsAddUp : Type 0
 AppendsAddUp =
     (state : State) (files : Files) (slot : ℕ)
@@ -140,8 +147,7 @@ AppendsAddUp =
     → asked_of whole ≡ Asks (Append slot (flat_map (λ items. items) groups))
     → some_refused state files (first ∷ lines) ≡ false
     → (cause state whole files ≡ None)
-    × (channels_at (state_after state files (first ∷ lines)).stores slot
-    ≡ channels_at (after state whole files).stores slot)
+    × AreAlike (state_after state files (first ∷ lines)) (after state whole files)
 
 -- ---- limits
 

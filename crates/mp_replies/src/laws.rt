@@ -63,7 +63,8 @@ pub fn bad_items_are_the_first()
     ensures { BadItemsAreTheFirst }
 {}
 
-/// Several appends to a slot give the channels of one, however their samples are cut into lines.
+/// Several appends to a slot give the state of one, however their samples are cut into lines, the number of lines run
+/// aside.
 pub fn appends_add_up()
     ensures { AppendsAddUp }
 {}

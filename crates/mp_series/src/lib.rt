@@ -9,5 +9,5 @@ mod zone;
 
 pub use bundles::Bundle;
 pub use counted_list::{PushRefusal, Samples};
-pub use limits::{MAX_SAMPLES, MAX_WINDOW, MIN_WINDOW};
+pub use limits::{MAX_SAMPLES, MAX_WINDOW, MIN_WINDOW, limits_are_as_defined};
 pub use zone::{allowed, excl, windows};

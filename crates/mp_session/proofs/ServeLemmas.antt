@@ -2,8 +2,8 @@
 use Rattle.std.proofs.Common.{◌≡◌, ◌≢◌, ◌⊎◌, inl, inr, ℕ, ◌+◌, ◌<◌, ◌≤◌, Bool, true, false, ◌||◌, List, [], ◌∷◌, ◌++◌}
 use Rattle.std.proofs.Common.{length, take, drop, get_or, append_assoc, map, refl, sym, ap, ◌∙◌, subst, arith}
 use Rattle.std.proofs.Common.{append-nil, length-append, ⊎_elim}
-use Rattle.std.specs.Prelude.{Option, Some, None, is_some, option_and_then, codes, Result, Ok, Err, IfOk, OnOk}
-use Rattle.std.specs.Prelude.{IsErrOf, IsTrue}
+use Rattle.std.specs.Prelude.{Option, Some, None, is_some, option_and_then, codes, Result, Ok, Err, IfOk, OnOk, IsErrOf}
+use Rattle.std.specs.Prelude.{IsTrue}
 use Rattle.std.specs.List.{concat, take-map}
 use Rattle.std.proofs.lemmas.List.{drop_more, get_or-map, length-map, nil_from_length, take_all, take-append-drop}
 use Rattle.std.proofs.lemmas.List.{take-append-le}
@@ -31,9 +31,10 @@ use Rattle.mp_session.specs.declared.top.Status.{Status}
 use Rattle.mp_session.specs.declared.top.Status.TheVariants as statuses
 use Rattle.mp_session.specs.Sessions.{StandsFor, ToldForAll, some_fetch}
 use Rattle.mp_session.specs.Statuses.{halted, is_whole, ran, status_by}
-use Rattle.mp_session.specs.Running.{Course, WereRun}
-use Rattle.mp_session.specs.Serving.{AreFirst, AsksSummary, Call, WritesSummary, IsPast, IsWithin, RanAll, RanEnded}
-use Rattle.mp_session.specs.Serving.{RanInto, RanSome, RanToFile, ToldForRun, ToldTaken, ToldToFile, ends_within}
+use Rattle.mp_session.specs.Running.{AreFirst, Course, IsPast, IsWithin, RanAll, RanEnded, RanInto, RanSome, RanToFile}
+use Rattle.mp_session.specs.Running.{WereRun, ends_within}
+use Rattle.mp_session.specs.Calls.{AsksSummary, Call, Outside, ToldForRun, ToldTaken, ToldToFile}
+use Rattle.mp_session.specs.Serving.{IsServed, WritesSummary}
 use Rattle.mp_session.proofs.RunLemmas.{not_both, replies-append, some_ends_cut, some_fetch-append, told_first}
 use Rattle.mp_session.proofs.RunLemmas.{told_then}
 
@@ -150,34 +151,39 @@ first_texts {ran = ran} {texts = texts} first state files bytes e texts_are =
           ∙ ap (λ ts. concat ts ++ concat rest) (sym texts_are)))),
     )
 
+-- a run begins at this state, on a source and a shelf that tell these bytes and files, and on a sink that tells what was
+-- written before and has room for the output
+pub record Tells {Out : Type 0} (sink : Ghosts Out) (shelf : Option Files) (old : Course Out) (state : State)
+    (files : Files) (bytes before : List ℕ) : Type 0 where
+  pub stands : StandsFor old.session state
+  pub told : ToldForRun shelf state files bytes
+  pub source : old.left ≡ Some bytes
+  pub written : sink.written old.out ≡ Some before
+  pub fits : length before + length (session_output state files bytes) ≤ sink.room old.out
+
 module _ {Out : Type 0} {sink : Ghosts Out} {shelf : Option Files} where
   told_front : {ran : List (List ℕ)} {old new : Course Out} {refused : Bool}
       (run : WereRun sink shelf ran old new refused) → AreFirst ran old
-      → (state : State) (files : Files) (bytes before : List ℕ) → StandsFor old.session state
-      → ToldForRun shelf state files bytes → old.left ≡ Some bytes
-      → sink.written old.out ≡ Some before
-      → length before + length (session_output state files bytes) ≤ sink.room old.out
+      → (state : State) (files : Files) (bytes before : List ℕ) → Tells sink shelf old state files bytes before
       → sink.written new.out ≡ Some (before ++ concat run.texts)
-  told_front run first state files bytes before h t e w fits =
+  told_front run first state files bytes before k =
       let others =
-      first_texts first state files bytes e
-      (run.run.texts_are state files h (told_in first state files bytes e t)) in
-      wrote_told run.wrote before w (omega (arith, ap length others.1, length-append (concat run.texts) others.0, fits))
+      first_texts first state files bytes k.source
+      (run.run.texts_are state files k.stands (told_in first state files bytes k.source k.told)) in
+      wrote_told run.wrote before k.written
+      (omega (arith, ap length others.1, length-append (concat run.texts) others.0, k.fits))
 
   pub some_front : {old new : Course Out} → RanSome sink shelf old new
-      → (state : State) (files : Files) (bytes before : List ℕ) → StandsFor old.session state
-      → ToldForRun shelf state files bytes → old.left ≡ Some bytes
-      → sink.written old.out ≡ Some before
-      → length before + length (session_output state files bytes) ≤ sink.room old.out
+      → (state : State) (files : Files) (bytes before : List ℕ) → Tells sink shelf old state files bytes before
       → TellsPrefix (sink.written new.out) before (session_output state files bytes)
-  some_front {new = new} ran state files bytes before h t e w fits =
+  some_front {new = new} ran state files bytes before k =
       let others =
-      first_texts ran.first state files bytes e
-      (ran.run.run.texts_are state files h (told_in ran.first state files bytes e t)) in
+      first_texts ran.first state files bytes k.source
+      (ran.run.run.texts_are state files k.stands (told_in ran.first state files bytes k.source k.told)) in
       front_within (sink.written new.out) before (concat ran.run.texts) others.0 (session_output state files bytes)
       others.1
       (whole_text (sink.written new.out) before (concat ran.run.texts)
-      (told_front ran.run ran.first state files bytes before h t e w fits))
+      (told_front ran.run ran.first state files bytes before k))
 
   into_texts : {old new : Course Out} (ran : RanInto sink shelf old new) (state : State) (files : Files)
       (bytes : List ℕ)
@@ -194,14 +200,13 @@ module _ {Out : Type 0} {sink : Ghosts Out} {shelf : Option Files} where
       ∙ sym (replies-append state files ran.lines (ran.line ∷ [])))
 
   pub into_front : {old new : Course Out} → RanInto sink shelf old new
-      → (state : State) (files : Files) (bytes before : List ℕ) → StandsFor old.session state
-      → ToldForRun shelf state files bytes → old.left ≡ Some bytes
-      → sink.written old.out ≡ Some before
-      → length before + length (session_output state files bytes) ≤ sink.room old.out
+      → (state : State) (files : Files) (bytes before : List ℕ) → Tells sink shelf old state files bytes before
       → TellsPrefix (sink.written new.out) before (session_output state files bytes)
-  into_front {new = new} ran state files bytes before h t e w fits =
+  into_front {new = new} ran state files bytes before k =
       let all = ran.run.texts ++ ran.begun.text ∷ [] in
-      let others = first_texts ran.first state files bytes e (into_texts ran state files bytes h t e) in
+      let others =
+      first_texts ran.first state files bytes k.source
+      (into_texts ran state files bytes k.stands k.told k.source) in
       let front_is : concat all ≡ concat ran.run.texts ++ ran.begun.text =
       concat-append ran.run.texts (ran.begun.text ∷ [])
       ∙ ap (λ t. concat ran.run.texts ++ t) (append-nil ran.begun.text) in
@@ -209,8 +214,8 @@ module _ {Out : Type 0} {sink : Ghosts Out} {shelf : Option Files} where
       others.1 ∙ ap (λ t. t ++ others.0) front_is in
       front_within (sink.written new.out) before (concat ran.run.texts ++ ran.begun.text) others.0
       (session_output state files bytes) whole
-      (front_told ran.run.wrote ran.begun.front before w
-      (omega (arith, ap length whole, length-append (concat ran.run.texts ++ ran.begun.text) others.0, fits)))
+      (front_told ran.run.wrote ran.begun.front before k.written
+      (omega (arith, ap length whole, length-append (concat ran.run.texts ++ ran.begun.text) others.0, k.fits)))
 
   -- ---- the whole output
 
@@ -221,17 +226,14 @@ module _ {Out : Type 0} {sink : Ghosts Out} {shelf : Option Files} where
   }
 
   pub all_told : {limit : ℕ} {old new : Course Out} {refused : Bool} → RanAll sink shelf limit old new refused
-      → (state : State) (files : Files) (bytes before : List ℕ) → StandsFor old.session state
-      → ToldForRun shelf state files bytes → old.left ≡ Some bytes
-      → sink.written old.out ≡ Some before
-      → length before + length (session_output state files bytes) ≤ sink.room old.out
+      → (state : State) (files : Files) (bytes before : List ℕ) → Tells sink shelf old state files bytes before
       → sink.written new.out ≡ Some (before ++ session_output state files bytes)
-  all_told ran state files bytes before h t e w fits =
+  all_told ran state files bytes before k =
       let all : concat ran.run.texts ≡ session_output state files bytes =
-      ap concat (ran.run.run.texts_are state files h (told_in (all_first ran) state files bytes e t)
-      ∙ ap (replies state files) (sym (ran.lines_are bytes e) ∙ run_of bytes))
+      ap concat (ran.run.run.texts_are state files k.stands (told_in (all_first ran) state files bytes k.source k.told)
+      ∙ ap (replies state files) (sym (ran.lines_are bytes k.source) ∙ run_of bytes))
       ∙ sym (output_of state files bytes) in
-      told_front ran.run (all_first ran) state files bytes before h t e w fits ∙ ap (λ t. Some (before ++ t)) all
+      told_front ran.run (all_first ran) state files bytes before k ∙ ap (λ t. Some (before ++ t)) all
 
   pub all_some : {limit : ℕ} {old new : Course Out} {refused : Bool} → RanAll sink shelf limit old new refused
       → RanSome sink shelf old new
@@ -297,34 +299,29 @@ module _ {Out : Type 0} {sink : Ghosts Out} {shelf : Option Files} where
       (ran.run.run.texts_are state files h t ∙ (ap (replies state files) (sym is) ∙ replies_cut state files whole))
 
   pub some_whole : {old new : Course Out} → RanSome sink shelf old new
-      → (state : State) (files : Files) (bytes before : List ℕ) → StandsFor old.session state
-      → ToldForRun shelf state files bytes → old.left ≡ Some bytes
-      → sink.written old.out ≡ Some before
-      → length before + length (session_output state files bytes) ≤ sink.room old.out
+      → (state : State) (files : Files) (bytes before : List ℕ) → Tells sink shelf old state files bytes before
       → (count : ℕ) × (sink.written new.out ≡ Some (before ++ reports state files (take count (lines_run bytes))))
-  some_whole ran state files bytes before h t e w fits =
+  some_whole ran state files bytes before k =
       let count = length ran.lines in
-      let more = ran.first.more bytes e in
+      let more = ran.first.more bytes k.source in
       let is : map cut (take count (lines_run bytes)) ≡ ran.lines =
       sym (take-map cut count (lines_run bytes))
       ∙ (ap (take count) (sym (run_of bytes) ∙ more.1) ∙ take-append_seam ran.lines more.0) in (
         count,
-        told_front ran.run ran.first state files bytes before h t e w fits
+        told_front ran.run ran.first state files bytes before k
             ∙ ap (λ t. Some (before ++ t))
-            (texts_of ran state files (take count (lines_run bytes)) h (told_in ran.first state files bytes e t) is),
+            (texts_of ran state files (take count (lines_run bytes)) k.stands
+            (told_in ran.first state files bytes k.source k.told) is),
       )
 
   -- the lines before the one that asks for a file, in whole lines of the input
   pub told_to_file : {old new : Course Out} → RanToFile sink shelf old new
-      → (state : State) (files : Files) (bytes before : List ℕ) → StandsFor old.session state
-      → ToldForRun shelf state files bytes
-      → old.left ≡ Some bytes → sink.written old.out ≡ Some before
-      → length before + length (session_output state files bytes) ≤ sink.room old.out
+      → (state : State) (files : Files) (bytes before : List ℕ) → Tells sink shelf old state files bytes before
       → ToldToFile state files bytes before (sink.written new.out)
-  told_to_file ran state files bytes before h t e w fits =
+  told_to_file ran state files bytes before k =
       let all = lines_run bytes in
       let count = length ran.some.lines in
-      let more = ran.next.more bytes e in
+      let more = ran.next.more bytes k.source in
       let cut_are : map cut all ≡ (ran.some.lines ++ ran.line ∷ []) ++ more.0 = sym (run_of bytes) ∙ more.1 in
       let split : map cut all ≡ ran.some.lines ++ ran.line ∷ more.0 =
       cut_are ∙ append_assoc ran.some.lines (ran.line ∷ []) more.0 in
@@ -335,7 +332,7 @@ module _ {Out : Type 0} {sink : Ghosts Out} {shelf : Option Files} where
       let here : cut (get_or all count []) ≡ ran.line =
       sym (get_or-map cut all count [] [] within)
       ∙ (ap (λ ls. get_or ls count []) split ∙ get_or-append_seam ran.some.lines ran.line more.0 []) in
-      let told = told_in ran.some.first state files bytes e t in
+      let told = told_in ran.some.first state files bytes k.source k.told in
       record {
         ran = take count all;
         line = get_or all count [];
@@ -344,38 +341,32 @@ module _ {Out : Type 0} {sink : Ghosts Out} {shelf : Option Files} where
         asks = ap (λ s. fetches s (get_or all count [])) (sym (state_after_cut state files (take count all)))
             ∙ (sym (fetches_cut (state_after state files (map cut (take count all))) (get_or all count []))
             ∙ (ap (fetches (state_after state files (map cut (take count all)))) here
-            ∙ (ap (λ ls. fetches (state_after state files ls) ran.line) front ∙ ran.asks state files h told)));
-        told = told_front ran.some.run ran.some.first state files bytes before h t e w fits
-            ∙ ap (λ text. Some (before ++ text)) (texts_of ran.some state files (take count all) h told front);
+            ∙ (ap (λ ls. fetches (state_after state files ls) ran.line) front ∙ ran.asks state files k.stands told)));
+        told = told_front ran.some.run ran.some.first state files bytes before k
+            ∙ ap (λ text. Some (before ++ text)) (texts_of ran.some state files (take count all) k.stands told front);
       }
 
   pub ended_told : {overs : ℕ} {old new : Course Out} (ran : RanEnded sink shelf overs old new)
-      → (state : State) (files : Files) (bytes before : List ℕ) → StandsFor old.session state
-      → ToldForRun shelf state files bytes → old.left ≡ Some bytes
-      → sink.written old.out ≡ Some before
-      → length before + length (session_output state files bytes) ≤ sink.room old.out
+      → (state : State) (files : Files) (bytes before : List ℕ) → Tells sink shelf old state files bytes before
       → sink.written new.out ≡ Some (before ++ reports state files (ended_lines ran.taken))
-  ended_told ran state files bytes before h t e w fits =
-      told_front ran.some.run ran.some.first state files bytes before h t e w fits
+  ended_told ran state files bytes before k =
+      told_front ran.some.run ran.some.first state files bytes before k
       ∙ ap (λ t. Some (before ++ t))
-      (texts_of ran.some state files (ended_lines ran.taken) h
-      (told_in ran.some.first state files bytes e t) ran.lines_are)
+      (texts_of ran.some state files (ended_lines ran.taken) k.stands
+      (told_in ran.some.first state files bytes k.source k.told) ran.lines_are)
 
   pub told_taken : {old new : Course Out} → RanEnded sink shelf 0 old new
-      → (state : State) (files : Files) (bytes before : List ℕ) → StandsFor old.session state
-      → ToldForRun shelf state files bytes → old.left ≡ Some bytes
-      → sink.written old.out ≡ Some before
-      → length before + length (session_output state files bytes) ≤ sink.room old.out
+      → (state : State) (files : Files) (bytes before : List ℕ) → Tells sink shelf old state files bytes before
       → ToldTaken state files bytes new.left before (sink.written new.out)
-  told_taken ran state files bytes before h t e w fits =
-      let off = ran.source bytes e in
+  told_taken ran state files bytes before k =
+      let off = ran.source bytes k.source in
       let none : off.over ≡ [] = nil_from_length off.over off.over_count in
       record {
         taken = ran.taken;
         rest = off.rest;
         bytes_are = off.bytes_are ∙ ap (λ over. ran.taken ++ (over ++ off.rest)) none;
         left_is = off.later_is;
-        told = ended_told ran state files bytes before h t e w fits;
+        told = ended_told ran state files bytes before k;
       }
 
   taken_is : {limit : ℕ} {old new : Course Out} → (ran : RanEnded sink shelf 1 old new) → length ran.taken ≡ limit
@@ -387,14 +378,11 @@ module _ {Out : Type 0} {sink : Ghosts Out} {shelf : Option Files} where
 
   pub told_within : {limit : ℕ} {old new : Course Out} → (ran : RanEnded sink shelf 1 old new)
       → length ran.taken ≡ limit
-      → (state : State) (files : Files) (bytes before : List ℕ) → StandsFor old.session state
-      → ToldForRun shelf state files bytes → old.left ≡ Some bytes
-      → sink.written old.out ≡ Some before
-      → length before + length (session_output state files bytes) ≤ sink.room old.out
+      → (state : State) (files : Files) (bytes before : List ℕ) → Tells sink shelf old state files bytes before
       → sink.written new.out ≡ Some (before ++ reports state files (ended_lines (take limit bytes)))
-  told_within ran count state files bytes before h t e w fits =
-      ended_told ran state files bytes before h t e w fits
-      ∙ ap (λ t. Some (before ++ reports state files (ended_lines t))) (sym (taken_is ran count bytes e))
+  told_within ran count state files bytes before k =
+      ended_told ran state files bytes before k
+      ∙ ap (λ t. Some (before ++ reports state files (ended_lines t))) (sym (taken_is ran count bytes k.source))
 
   -- a byte past the limit was taken, so there was one, and no line within it ended the run
   pub past_limit : {limit : ℕ} {old new : Course Out} → (ran : RanEnded sink shelf 1 old new)
@@ -719,7 +707,100 @@ summary_done statuses.WriteFault ended whole = cc
 summary_done statuses.InputLimit ended whole = cc
 summary_done statuses.Memory ended whole = cc
 
+-- ---- flushed
+
+-- of two ends of which one is a failed write, the other, where no write failed
+pub or_fault : {status other : Status} → (status ≡ other) ⊎ (status ≡ statuses.WriteFault)
+    → ¬ (status ≡ statuses.WriteFault) → status ≡ other
+or_fault ended fine = ⊎_elim (λ e. e) (λ e. absurd (fine e)) ended
+
+pub swapped : {A B : Type 0} → A ⊎ B → B ⊎ A
+swapped (inl a) = inr a
+swapped (inr b) = inl b
+
+-- a sink that was flushed is flushed, where it is so or nothing was done with it
+pub by_touch : {Out : Type 0} (sink : Ghosts Out) {old new : Out} → sink.flushed old ≡ true
+    → (sink.flushed new ≡ true) ⊎ (new ≡ old) → sink.flushed new ≡ true
+by_touch sink was touched = ⊎_elim (λ e. e) (λ same. ap sink.flushed same ∙ was) touched
+
+-- where no write failed, a run that is over has flushed
+pub flushed_unless_fault : {Out : Type 0} {sink : Ghosts Out} {shelf : Option Files} (limit : ℕ)
+    {old new : Course Out} (r : Result Bool Halt) (status : Status) → status ≡ status_by r → ¬ (status ≡ statuses.WriteFault)
+    → IfOk r (RanAll sink shelf limit old new) → (IsErrOf r halts.ReadFault → RanEnded sink shelf 0 old new)
+    → (IsErrOf r halts.InputLimit → RanEnded sink shelf 1 old new)
+    → (IsErrOf r halts.Memory → RanSome sink shelf old new)
+    → (IsErrOf r halts.ShelfFault → RanToFile sink shelf old new)
+    → (sink.flushed new.out ≡ true) ⊎ (new.out ≡ old.out)
+flushed_unless_fault limit (Ok refused) status is fine all read past memory stopped = some_flushed (all_some all)
+flushed_unless_fault limit (Err halts.ReadFault) status is fine all read past memory stopped =
+    some_flushed (read refl).some
+flushed_unless_fault limit (Err halts.InputLimit) status is fine all read past memory stopped =
+    some_flushed (past refl).some
+flushed_unless_fault limit (Err halts.Memory) status is fine all read past memory stopped = some_flushed (memory refl)
+flushed_unless_fault limit (Err halts.ShelfFault) status is fine all read past memory stopped =
+    some_flushed (stopped refl).some
+flushed_unless_fault limit (Err halts.WriteFault) status is fine all read past memory stopped = absurd (fine is)
+
 -- ---- nothing was done
 
 pub nothing_written : (now : Option (List ℕ)) (before text : List ℕ) → now ≡ Some before → TellsPrefix now before text
 nothing_written now before text told = (0, omega arith, told ∙ ap Some (sym (append-nil before)))
+
+-- want of memory before anything was done, for words of the grammar
+pub nothing_done : {Sh Out : Type 0} (words : List (List ℕ)) (limit : ℕ) (outside : Outside Sh Out)
+    → (job words ≡ None → ⊥)
+    → IsServed (record { words = words; limit = limit; old = outside; new = outside; status = statuses.Memory })
+nothing_done words limit outside some = record {
+  writes = record {
+    whole = λ files bytes before input room whole. cc;
+    front = λ files bytes before input room.
+        nothing_written outside.written before (output words files bytes) room.tells;
+    read_fault = λ setup files bytes before told is calm. cc;
+    fetch_fault = λ setup files bytes before told is calm. cc;
+    input_limit = λ setup files bytes before told is. cc;
+    memory = λ setup files bytes before told is. (0, told.room.tells ∙ ap Some (sym (append-nil before)));
+    quiet = λ files bytes input nothing. refl;
+    flushed_or_untouched = λ fine. inr refl;
+    flushed = λ was fine. was;
+  };
+  reads = record {
+    refused = λ setup files bytes is input whole. cc;
+    read = λ setup bytes is e goes_on whole. cc;
+    within = λ setup bytes is e goes_on whole. cc;
+    end_within = λ setup bytes is e whole. cc;
+    past = λ bytes e is. cc;
+    over = λ is. cc;
+    given = omega arith;
+  };
+  refuses = record {
+    words = λ is. cc;
+    outside = λ none. absurd (some none);
+    written = λ before room is. cc;
+    front = λ before room none. absurd (some none);
+    unfinished = λ before room none is. absurd (some none);
+    flushed = λ is. cc;
+    unread = λ none. absurd (some none);
+    unfetched = λ none. absurd (some none);
+  };
+  summary = record {
+    status = λ setup make is. inr (inr refl);
+    written = λ setup make before is room done. cc;
+    flushed = λ setup make is done. cc;
+    unfinished = λ setup make before is room fault. cc;
+    front = λ setup make before is room.
+        nothing_written outside.written before (summary_of setup.window make) room.tells;
+    memory = λ setup make is e. refl;
+    unread = λ setup make is. (refl, refl, refl);
+    unfetched = λ setup make is. refl;
+  };
+  ends = record {
+    read_fault = λ is. cc;
+    write_fault = λ is. cc;
+    limited = λ setup bytes is e past. inr (inr (inr refl));
+    complete = λ setup bytes is calm e within. inr refl;
+    complete_given = λ setup is calm within. inr refl;
+    files = refl;
+    calm = λ is. refl;
+    fileless = λ setup files bytes is e goes_on. refl;
+  };
+}

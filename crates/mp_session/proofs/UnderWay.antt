@@ -16,7 +16,7 @@ use Rattle.mp_replies.specs.State.{Files, State}
 use Rattle.mp_replies.specs.Step.{fetches}
 use Rattle.mp_session.specs.Sessions.{Held, StandsFor}
 use Rattle.mp_session.specs.Running.{Course, WasBegun, WereRun, course_at}
-use Rattle.mp_session.specs.Serving.{AreFirst, IsWithin, RanAll, RanEnded, RanInto, RanSome, RanToFile, ends_within}
+use Rattle.mp_session.specs.Running.{AreFirst, IsWithin, RanAll, RanEnded, RanInto, RanSome, RanToFile, ends_within}
 use Rattle.mp_session.proofs.RunLemmas.{not_both, some_ends-append, some_ends_cut, until_end-append, until_end-one}
 use Rattle.mp_session.proofs.RunLemmas.{were_run_none, were_run_on}
 

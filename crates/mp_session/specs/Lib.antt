@@ -1,4 +1,5 @@
 pub mod Sessions
 pub mod Running
+pub mod Calls
 pub mod Serving
 pub mod Statuses

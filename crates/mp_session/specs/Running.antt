@@ -1,12 +1,17 @@
 -- What runs of lines do to a session and to a sink.
-use Rattle.std.specs.Prelude.{◌≡◌, ℕ, ◌+◌, Bool, List, [], ◌∷◌, length, Option, Some, None}
+use Rattle.std.specs.Prelude.{◌≡◌, ◌⊎◌, ℕ, ◌+◌, ◌<◌, ◌≤◌, Bool, true, false, List, [], ◌∷◌, ◌++◌, length, take}
+use Rattle.std.specs.Prelude.{Option, Some, None}
+use Rattle.mp_outside.specs.declared.sinks.Sink.{Ghosts}
+use Rattle.mp_feed.specs.Feeding.{nothing, lines_left, ended_lines_left}
+use Rattle.mp_feed.specs.Reading.{IsTakenOff}
+use Rattle.mp_replies.specs.State.{Files, State}
+use Rattle.mp_bytes.specs.Lines.{ended_lines}
+use Rattle.mp_replies.specs.Output.{reports, some_ends, some_refused, state_after, until_end, replies}
+use Rattle.mp_replies.specs.Step.{fetches}
+use Rattle.mp_session.specs.Sessions.{StandsFor, ToldForAll, Held}
 use Rattle.mp_feed.specs.declared.readers.Next.{Next}
 use Rattle.mp_feed.specs.declared.readers.Next.TheVariants.{Line, End}
-use Rattle.mp_outside.specs.declared.sinks.Sink.{Ghosts}
 use Rattle.mp_feed.specs.Writing.{Wrote, WroteFront}
-use Rattle.mp_replies.specs.State.{Files, State}
-use Rattle.mp_replies.specs.Output.{replies, state_after, some_refused}
-use Rattle.mp_session.specs.Sessions.{Held, StandsFor, ToldForAll}
 
 -- these lines were run one behind the other with a shelf that tells these files, with these reports
 pub record HaveRun (told : Option Files) (lines texts : List (List ℕ)) (old new : Held) (refused : Bool) : Type 0 where
@@ -46,3 +51,71 @@ pub record WasBegun {Out : Type 0} (sink : Ghosts Out) (told : Option Files) (li
 abbrev pub next_by : Option Bool → Next
 next_by None = End
 next_by (Some last) = Line last
+
+-- ---- the limit on input
+
+-- whether a line that ends the run is ended by an LF within so many first bytes
+abbrev pub ends_within : ℕ → List ℕ → Bool
+ends_within limit bytes = some_ends (ended_lines (take limit bytes))
+
+-- so many bytes hold all that is read of an input: the whole of it, or a line that ends the run, with its LF
+abbrev pub IsWithin : ℕ → List ℕ → Type 0
+IsWithin limit bytes = (length bytes ≤ limit) ⊎ (ends_within limit bytes ≡ true)
+
+-- they do not: there are more, and no line that ends the run is ended within them
+pub record IsPast (limit : ℕ) (bytes : List ℕ) : Type 0 where
+  pub longer : limit < length bytes
+  pub none_ends : ends_within limit bytes ≡ false
+
+-- ---- which lines were run
+
+-- these lines come first of those that are run of the input
+pub record AreFirst {Out : Type 0} (lines : List (List ℕ)) (old : Course Out) : Type 0 where
+  pub more : (bytes : List ℕ) → old.left ≡ Some bytes
+      → (rest : List (List ℕ)) × (until_end (lines_left nothing bytes) ≡ lines ++ rest)
+
+-- The lines of the input were run, up to and with the first that ends the run, within the limit. Where none does, the
+-- input was read to its end.
+pub record RanAll {Out : Type 0} (sink : Ghosts Out) (told : Option Files) (limit : ℕ)
+    (old new : Course Out) (refused : Bool) : Type 0 where
+  pub lines : List (List ℕ)
+  pub run : WereRun sink told lines old new refused
+  pub lines_are : (bytes : List ℕ) → old.left ≡ Some bytes → until_end (lines_left nothing bytes) ≡ lines
+  pub read : (bytes : List ℕ) → old.left ≡ Some bytes → some_ends lines ≡ false
+      → (new.left ≡ Some []) × (length bytes ≤ limit)
+  pub within : (bytes : List ℕ) → old.left ≡ Some bytes → IsWithin limit bytes
+
+-- some of them were run, in order from the first on
+pub record RanSome {Out : Type 0} (sink : Ghosts Out) (told : Option Files) (old new : Course Out) : Type 0 where
+  pub lines : List (List ℕ)
+  pub refused : Bool
+  pub run : WereRun sink told lines old new refused
+  pub first : AreFirst lines old
+
+-- The lines that an LF ends were run, of the bytes that were taken within the limit, and so many more were taken. None
+-- of them ends the run.
+pub record RanEnded {Out : Type 0} (sink : Ghosts Out) (told : Option Files) (overs : ℕ)
+    (old new : Course Out) : Type 0 where
+  pub some : RanSome sink told old new
+  pub none_ends : some_ends some.lines ≡ false
+  pub taken : List ℕ
+  pub source : (bytes : List ℕ) → old.left ≡ Some bytes → IsTakenOff taken overs bytes new.left
+  pub lines_are : ended_lines_left nothing taken ≡ some.lines
+
+-- some of them were run, and a front of the report of the next one was written
+pub record RanInto {Out : Type 0} (sink : Ghosts Out) (told : Option Files) (old new : Course Out) : Type 0 where
+  pub lines : List (List ℕ)
+  pub line : List ℕ
+  pub refused : Bool
+  pub between : Course Out
+  pub run : WereRun sink told lines old between refused
+  pub begun : WasBegun sink told line between new
+  pub first : AreFirst (lines ++ line ∷ []) old
+
+-- some of them were run, and the next one asks for a file
+pub record RanToFile {Out : Type 0} (sink : Ghosts Out) (told : Option Files) (old new : Course Out) : Type 0 where
+  pub some : RanSome sink told old new
+  pub line : List ℕ
+  pub next : AreFirst (some.lines ++ line ∷ []) old
+  pub asks : (state : State) (files : Files) → StandsFor old.session state → ToldForAll told state files some.lines
+      → fetches (state_after state files some.lines) line ≡ true

@@ -7,8 +7,8 @@ ghost use Rattle.mp_outside.specs.Counts.{Rose};
 ghost use Rattle.mp_replies.specs.Line.{ends};
 ghost use Rattle.mp_replies.specs.State.{State};
 ghost use Rattle.mp_replies.specs.Step.{fetches};
+ghost use Rattle.mp_session.specs.Running.{RanAll, RanEnded, RanInto, RanSome, RanToFile};
 ghost use Rattle.mp_session.specs.Running.{WasBegun, WereRun, course_at, next_by};
-ghost use Rattle.mp_session.specs.Serving.{RanAll, RanEnded, RanInto, RanSome, RanToFile};
 ghost use Rattle.mp_session.specs.Sessions.{StandsFor};
 
 use crate::halts::Halt;

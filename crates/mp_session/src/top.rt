@@ -1,17 +1,15 @@
 //! Serving an input, from its first byte to its last.
 
-ghost use Rattle.std.specs.Prelude.{◌≡◌, ◌⊎◌, ℕ, ◌+◌, ◌-◌, ◌^◌, ◌<◌, ◌≤◌, List, [], ◌++◌, length, take, drop, map};
-ghost use Rattle.std.specs.Prelude.{string_bytes, Some, None, IfOk, OnOk, OnErr, IsErrOf, IsTrue, true, false};
-ghost use Rattle.mp_bytes.specs.Lines.{ended_lines};
+ghost use Rattle.std.specs.Prelude.{◌≡◌, ◌⊎◌, ℕ, ◌+◌, ◌-◌, ◌^◌, ◌<◌, ◌≤◌, List, ◌++◌, length, map, string_bytes, Some, true};
 ghost use Rattle.mp_defs.specs.Limits.{max_samples};
 ghost use Rattle.mp_feed.specs.Writing.{TellsPrefix};
 ghost use Rattle.mp_outside.specs.Counts.{Rose};
 ghost use Rattle.mp_replies.specs.Limits.{input_limit};
-ghost use Rattle.mp_replies.specs.Output.{lines_run, reports, session_output, some_ends, some_refused, usage};
-ghost use Rattle.mp_replies.specs.State.{Files, opening};
+ghost use Rattle.mp_replies.specs.Output.{usage};
 ghost use Rattle.mp_replies.specs.Summary.{summary_of};
-ghost use Rattle.mp_session.specs.Serving.{IsPast, IsServed, IsWithin, ToldForRun, ToldTaken, ToldToFile, outside_at};
-ghost use Rattle.mp_session.specs.Sessions.{some_fetch};
+ghost use Rattle.mp_replies.specs.Words.{job, session_job};
+ghost use Rattle.mp_session.specs.Calls.{outside_at};
+ghost use Rattle.mp_session.specs.Serving.{IsServed};
 ghost use Rattle.mp_session.specs.Statuses.{status_by};
 
 use crate::halts::Halt;
@@ -112,7 +110,7 @@ pub fn serve_within<R: Threads + Sync, H: Shelf, S: Source, K: Sink, G: Gate>(
     };
     match make {
         Some(make) => write_summary(rt, alloc, settings, make, out, gate),
-        None => status_of(run_session(rt, alloc, settings, shelf, input, out, gate, limit)),
+        None => run_session(rt, alloc, settings, shelf, input, out, gate, limit),
     }
 }
 
@@ -189,7 +187,7 @@ fn status_of(outcome: Result<bool, Halt>) -> Status
     }
 }
 
-/// Runs a session of these settings on the input, and answers whether some line was refused.
+/// Runs a session of these settings on the input, for all words that ask for it.
 fn run_session<R: Threads + Sync, H: Shelf, S: Source, K: Sink, G: Gate>(
     rt: &R,
     alloc: Global,
@@ -199,78 +197,20 @@ fn run_session<R: Threads + Sync, H: Shelf, S: Source, K: Sink, G: Gate>(
     out: &mut K,
     gate: &G,
     limit: u64,
-) -> Result<bool, Halt>
+) -> Status
     requires limit { limit < 2 ^ 64 - 1 }
     requires given { S.given input.old ≤ 2 ^ 127 }
-
-    ensures told { (files : Files) (bytes before : List ℕ)
-        → ToldForRun (H.files shelf.old) (opening settings.window settings.scale) files bytes
-        → S.left input.old ≡ Some bytes → K.written out.old ≡ Some before
-        → length before + length (session_output (opening settings.window settings.scale) files bytes) ≤ K.room out.old
-        → OnOk result (K.written out.new ≡ Some (before ++ session_output (opening settings.window settings.scale) files
-        bytes)) }
-    ensures front { (files : Files) (bytes before : List ℕ)
-        → ToldForRun (H.files shelf.old) (opening settings.window settings.scale) files bytes
-        → S.left input.old ≡ Some bytes → K.written out.old ≡ Some before
-        → length before + length (session_output (opening settings.window settings.scale) files bytes) ≤ K.room out.old
-        → TellsPrefix (K.written out.new) before (session_output (opening settings.window settings.scale) files bytes) }
-    ensures read_fault_front { (files : Files) (bytes before : List ℕ)
-        → ToldForRun (H.files shelf.old) (opening settings.window settings.scale) files bytes
-        → S.left input.old ≡ Some bytes → K.written out.old ≡ Some before
-        → length before + length (session_output (opening settings.window settings.scale) files bytes) ≤ K.room out.old
-        → IsErrOf result Halt.ReadFault
-        → ToldTaken (opening settings.window settings.scale) files bytes (S.left input.new) before (K.written out.new) }
-    ensures input_limit_front { (files : Files) (bytes before : List ℕ)
-        → ToldForRun (H.files shelf.old) (opening settings.window settings.scale) files bytes
-        → S.left input.old ≡ Some bytes → K.written out.old ≡ Some before
-        → length before + length (session_output (opening settings.window settings.scale) files bytes) ≤ K.room out.old
-        → IsErrOf result Halt.InputLimit
-        → K.written out.new ≡ Some (before ++ reports (opening settings.window settings.scale) files
-        (ended_lines (take limit bytes))) }
-    ensures memory_front { (files : Files) (bytes before : List ℕ)
-        → ToldForRun (H.files shelf.old) (opening settings.window settings.scale) files bytes
-        → S.left input.old ≡ Some bytes → K.written out.old ≡ Some before
-        → length before + length (session_output (opening settings.window settings.scale) files bytes) ≤ K.room out.old
-        → IsErrOf result Halt.Memory
-        → (count : ℕ) × (K.written out.new ≡ Some
-        (before ++ reports (opening settings.window settings.scale) files (take count (lines_run bytes)))) }
-
-    ensures shelf_fault_front { (files : Files) (bytes before : List ℕ)
-        → ToldForRun (H.files shelf.old) (opening settings.window settings.scale) files bytes
-        → S.left input.old ≡ Some bytes → K.written out.old ≡ Some before
-        → length before + length (session_output (opening settings.window settings.scale) files bytes) ≤ K.room out.old
-        → IsErrOf result Halt.ShelfFault
-        → ToldToFile (opening settings.window settings.scale) files bytes before (K.written out.new) }
-
-    ensures quiet { (files : Files) (bytes : List ℕ)
-        → ToldForRun (H.files shelf.old) (opening settings.window settings.scale) files bytes
-        → S.left input.old ≡ Some bytes
-        → session_output (opening settings.window settings.scale) files bytes ≡ [] → out.new ≡ out.old }
-    ensures refused { (files : Files) (bytes : List ℕ)
-        → ToldForRun (H.files shelf.old) (opening settings.window settings.scale) files bytes
-        → S.left input.old ≡ Some bytes
-        → IfOk result (λ refused. refused ≡ some_refused (opening settings.window settings.scale) files
-        (lines_run bytes)) }
-    ensures read { (bytes : List ℕ) → S.left input.old ≡ Some bytes → some_ends (lines_run bytes) ≡ false
-        → OnOk result (S.left input.new ≡ Some []) }
-    ensures within { (bytes : List ℕ) → S.left input.old ≡ Some bytes → some_ends (lines_run bytes) ≡ false
-        → OnOk result (length bytes ≤ limit) }
-    ensures end_within { (bytes : List ℕ) → S.left input.old ≡ Some bytes → OnOk result (IsWithin limit bytes) }
-    ensures past { (bytes : List ℕ) → S.left input.old ≡ Some bytes → IsErrOf result Halt.InputLimit
-        → IsPast limit bytes }
-    ensures given { S.given input.new ≤ S.given input.old + limit + 1 }
-
-    ensures flushed { OnOk result ((K.flushed out.new ≡ true) ⊎ (out.new ≡ out.old)) }
-    ensures read_fault { IsErrOf result Halt.ReadFault → Rose (S.faults input.old) (S.faults input.new) }
-    ensures shelf_fault { IsErrOf result Halt.ShelfFault → Rose (H.faults shelf.old) (H.faults shelf.new) }
-    ensures write_fault { IsErrOf result Halt.WriteFault → Rose (K.faults out.old) (K.faults out.new) }
-    ensures input_limit { IsErrOf result Halt.InputLimit → S.given input.old + limit < S.given input.new }
-    ensures calm { ¬ IsErrOf result Halt.ShelfFault → H.faults shelf.new ≡ H.faults shelf.old }
-    ensures fileless { (files : Files) (bytes : List ℕ) → S.left input.old ≡ Some bytes
-        → some_fetch (opening settings.window settings.scale) files (lines_run bytes) ≡ false
-        → IsErrOf result Halt.ShelfFault → ⊥ }
-    ensures files { H.files shelf.new ≡ H.files shelf.old }
+    ensures { (words : List (List ℕ)) → job words ≡ Some (session_job settings) → IsServed (record {
+      words = words;
+      limit = limit;
+      old = outside_at H.Shelf S.Source K.Sink shelf.old input.old out.old;
+      new = outside_at H.Shelf S.Source K.Sink shelf.new input.new out.new;
+      status = result;
+    }) }
 {
-    let mut session = Session::new(rt, alloc, settings)?;
-    run_lines(&mut session, rt, alloc, shelf, input, out, gate, limit)
+    let Ok(mut session) = Session::new(rt, alloc, settings) else {
+        return Status::Memory;
+    };
+    let outcome = run_lines(&mut session, rt, alloc, shelf, input, out, gate, limit);
+    status_of(outcome)
 }

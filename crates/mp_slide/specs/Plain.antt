@@ -6,7 +6,7 @@ use Rattle.mp_nums.specs.declared.nearest.Sq.{Sq}
 use Rattle.mp_nums.specs.declared.samples.Sample.{Sample}
 use Rattle.mp_defs.specs.Series.{Series, reading_of, number_at}
 use Rattle.mp_defs.specs.Distance.{square_gap}
-use Rattle.mp_series.specs.declared.limits.TheConstants.{MAX_WINDOW}
+use Rattle.mp_defs.specs.Limits.{max_window}
 use Rattle.mp_results.specs.Slide.{square}
 use Rattle.mp_slide.specs.declared.kernels.TheConstants.{PART}
 use Rattle.mp_slide.specs.declared.plain.Extent.{Extent}
@@ -45,7 +45,7 @@ sum_from xs ys first (suc n) = sum_from xs ys first n + square_at xs ys (first +
 
 -- no longer than the longest window
 abbrev pub IsShort : List ℤ → Type 0
-IsShort pattern = length pattern ≤ MAX_WINDOW
+IsShort pattern = length pattern ≤ max_window
 
 -- a part's squared differences of any of these have a sum of 64 bits
 pub record LieClose (xs ys : List ℤ) : Type 0 where

@@ -3,6 +3,7 @@
 ghost use Rattle.std.specs.Prelude.{◌≡◌, ◌+◌, ◌-◌, ◌<◌, ◌≤◌, ◌↔◌, ◌⊎◌, length, map, true, IfOk, IsErrOf, Contains};
 ghost use Rattle.std.specs.List.{range_with_len};
 ghost use Rattle.mp_nums.specs.declared.samples.Sample.TheVariants.{Missing};
+ghost use Rattle.mp_defs.specs.Limits.{max_window, min_window};
 ghost use Rattle.mp_defs.specs.Series.{series_of};
 ghost use Rattle.mp_results.specs.Slide.{distances_of};
 ghost use Rattle.mp_slide.specs.Plain.{AreGaps, IsShort, LieClose, plain_distance, plain_numbers};
@@ -34,7 +35,7 @@ struct Slide {
 impl Slide {
     /// Reads samples, of which the pattern's are all there.
     fn of(alloc: Global, pattern: &[Sample], series: &[Sample]) -> Result<Slide, AllocError>
-        requires { length pattern.now ≤ MAX_WINDOW }
+        requires { length pattern.now ≤ max_window }
         ensures pattern { IfOk result (λ slide. slide.pattern.items ≡ plain_numbers FILLER pattern.now) }
         ensures numbers { IfOk result (λ slide. slide.numbers.items ≡ plain_numbers FILLER series.now) }
         ensures gaps { IfOk result (λ slide. AreGaps (series_of series.now) slide.gaps.items) }
@@ -106,9 +107,9 @@ pub fn distances(
     ensures distances { IfOk result (λ list.
         list.items ≡ distances_of (series_of pattern.now) (series_of series.now)) }
     ensures length { IsErrOf result SlideRefusal.Length
-        ↔ ((length pattern.now < MIN_WINDOW) ⊎ (MAX_WINDOW < length pattern.now)) }
+        ↔ ((length pattern.now < min_window) ⊎ (max_window < length pattern.now)) }
     ensures missing { IsErrOf result SlideRefusal.Missing
-        ↔ ((MIN_WINDOW ≤ length pattern.now) × (length pattern.now ≤ MAX_WINDOW) × Contains pattern.now Missing) }
+        ↔ ((min_window ≤ length pattern.now) × (length pattern.now ≤ max_window) × Contains pattern.now Missing) }
 {
     let length = pattern.len() as u64;
     if length < u64::from(MIN_WINDOW) || u64::from(MAX_WINDOW) < length {

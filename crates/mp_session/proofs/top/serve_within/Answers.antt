@@ -1,25 +1,16 @@
-use Rattle.std.proofs.Common.{⊎_elim, ℕ, ◌+◌, ◌≤◌, List, ◌++◌, append-nil, length, map, take, refl, ap, ◌∙◌, ◌≡◌, sym}
-use Rattle.std.proofs.Common.{inl, inr, true, false, subst, arith}
-use Rattle.std.specs.Prelude.{IsErrOf, None, Option, Some, string_bytes}
-use Rattle.mp_bytes.specs.Lines.{ended_lines}
+use Rattle.std.proofs.Common.{⊎_elim, ◌⊎◌, ℕ, ◌+◌, ◌≤◌, List, ◌++◌, length, map, refl, ap, ◌∙◌, ◌≡◌, sym, inl, inr}
+use Rattle.std.proofs.Common.{true, subst, arith}
+use Rattle.std.specs.Prelude.{None, Option, Some, string_bytes}
 use Rattle.mp_feed.specs.Writing.{TellsPrefix}
-use Rattle.mp_replies.specs.Output.{lines_run, output, reports, some_refused}
-use Rattle.mp_replies.specs.State.{opening}
 use Rattle.mp_replies.specs.Summary.{summary_of}
-use Rattle.mp_replies.specs.Words.{Setup, job, job_with, session_job}
+use Rattle.mp_replies.specs.Words.{job, job_with, session_job}
 use Rattle.mp_replies.specs.declared.makes.Make.{Make}
-use Rattle.mp_session.specs.declared.halts.Halt.TheVariants as halts
 use Rattle.mp_session.specs.declared.top.Status.TheVariants as statuses
-use Rattle.mp_session.specs.Serving.{ToldTaken, ToldToFile}
-use Rattle.mp_session.specs.Sessions.{some_fetch}
-use Rattle.mp_session.specs.Statuses.{ran}
-use Rattle.mp_session.proofs.ServeLemmas.{output_is, output_is_usage, usage_is_some, same_setup, on_whole, whole_status}
-use Rattle.mp_session.proofs.ServeLemmas.{on_read_fault, on_write_fault, on_input_limit, on_memory, on_words}
-use Rattle.mp_session.proofs.ServeLemmas.{on_shelf_fault, when_calm, when_early, not_past, no_read_fault, no_limit}
-use Rattle.mp_session.proofs.ServeLemmas.{no_job, no_summary, not_both_jobs, not_of_summary, not_whole}
-use Rattle.mp_session.proofs.ServeLemmas.{nothing_written, output_is_summary, same_summary, summary_done}
-use Rattle.mp_session.proofs.ServeLemmas.{summary_is_some}
+use Rattle.mp_session.proofs.ServeLemmas.{output_is_usage, usage_is_some, no_read_fault, no_limit, no_job, no_summary}
+use Rattle.mp_session.proofs.ServeLemmas.{not_both_jobs, not_of_summary, not_whole, output_is_summary, same_summary}
+use Rattle.mp_session.proofs.ServeLemmas.{summary_done, summary_is_some, nothing_done, or_fault, swapped, by_touch}
 use Rattle.mp_session.proofs.top.serve_within.Goals as goal
+use Rattle.mp_session.specs.Calls.{outside_at}
 
 pub returns-in-Err-Words : goal.returns-in-Err-Words
 returns-in-Err-Words g c =
@@ -40,8 +31,8 @@ returns-in-Err-Words g c =
         input_limit = λ setup files bytes before told is. no_job words (session_job setup) none told.setup_is;
         memory = λ setup files bytes before told is. no_job words (session_job setup) none told.setup_is;
         quiet = λ files bytes input nothing. absurd (usage_is_some (output_is_usage words files bytes none ∙ nothing));
-        flushed_or_untouched = λ whole. not_whole status ended whole;
-        flushed = λ was whole. not_whole status ended whole;
+        flushed_or_untouched = λ fine. inl (c.refuse_words.ensures.flushed (or_fault ended fine));
+        flushed = λ was fine. c.refuse_words.ensures.flushed (or_fault ended fine);
       };
       reads = record {
         refused = λ setup files bytes is input whole. no_job words (session_job setup) none is;
@@ -77,63 +68,9 @@ returns-in-Err-Words g c =
 
 pub returns-in-Err-Memory : goal.returns-in-Err-Memory
 returns-in-Err-Memory g c =
-    let words = map string_bytes c.args.words.now in
-    let some : job words ≡ None → ⊥ =
-    λ none. cc (c.in-Err-Memory.field-0-is, c.in-Err-Memory.ensures.outside.1 none) in
-    record {
-      writes = record {
-        whole = λ files bytes before input room whole. cc;
-        front = λ files bytes before input room.
-            nothing_written (g.K.Sink.written c.args.out.now) before (output words files bytes) room.tells;
-        read_fault = λ setup files bytes before told is calm. cc;
-        fetch_fault = λ setup files bytes before told is calm. cc;
-        input_limit = λ setup files bytes before told is. cc;
-        memory = λ setup files bytes before told is. (0, told.room.tells ∙ ap Some (sym (append-nil before)));
-        quiet = λ files bytes input nothing. refl;
-        flushed_or_untouched = λ whole. cc;
-        flushed = λ was whole. was;
-      };
-      reads = record {
-        refused = λ setup files bytes is input whole. cc;
-        read = λ setup bytes is e goes_on whole. cc;
-        within = λ setup bytes is e goes_on whole. cc;
-        end_within = λ setup bytes is e whole. cc;
-        past = λ bytes e is. cc;
-        over = λ is. cc;
-        given = omega arith;
-      };
-      refuses = record {
-        words = λ is. cc;
-        outside = λ none. absurd (some none);
-        written = λ before room is. cc;
-        front = λ before room none. absurd (some none);
-        unfinished = λ before room none is. absurd (some none);
-        flushed = λ is. cc;
-        unread = λ none. absurd (some none);
-        unfetched = λ none. absurd (some none);
-      };
-      summary = record {
-        status = λ setup make is. inr (inr refl);
-        written = λ setup make before is room done. cc;
-        flushed = λ setup make is done. cc;
-        unfinished = λ setup make before is room fault. cc;
-        front = λ setup make before is room.
-            nothing_written (g.K.Sink.written c.args.out.now) before (summary_of setup.window make) room.tells;
-        memory = λ setup make is e. refl;
-        unread = λ setup make is. (refl, refl, refl);
-        unfetched = λ setup make is. refl;
-      };
-      ends = record {
-        read_fault = λ is. cc;
-        write_fault = λ is. cc;
-        limited = λ setup bytes is e past. inr (inr (inr refl));
-        complete = λ setup bytes is calm e within. inr refl;
-        complete_given = λ setup is calm within. inr refl;
-        files = refl;
-        calm = λ is. refl;
-        fileless = λ setup files bytes is e goes_on. refl;
-      };
-    }
+    nothing_done (map string_bytes c.args.words.now) c.args.limit
+    (outside_at g.H.Shelf g.S.Source g.K.Sink c.args.shelf.now c.args.input.now c.args.out.now)
+    (λ none. cc (c.in-Err-Memory.field-0-is, c.in-Err-Memory.ensures.outside.1 none))
 
 pub returns-in-Some : goal.returns-in-Some
 returns-in-Some g c =
@@ -148,6 +85,10 @@ returns-in-Some g c =
     subst (λ (t : List ℕ). length before + length t ≤ g.K.Sink.room c.args.out.now) (sym same) within in
     let status = c.write_summary.result in
     let ended = wrote.status in
+    let flushed : ¬ (status ≡ statuses.WriteFault) → (g.K.Sink.flushed c.write_summary.new.out ≡ true)
+    ⊎ (c.write_summary.new.out ≡ c.args.out.now) =
+    λ fine.
+    ⊎_elim (λ done. inl (wrote.flushed done)) (λ others. inr (wrote.memory (or_fault (swapped others) fine))) ended in
     record {
       writes = record {
         whole = λ files bytes before input room whole.
@@ -169,8 +110,8 @@ returns-in-Some g c =
         quiet = λ files bytes input nothing.
             absurd (summary_is_some settings.window make
             (output_is_summary words settings make files bytes asked ∙ nothing));
-        flushed_or_untouched = λ whole. inl (wrote.flushed (summary_done status ended whole));
-        flushed = λ was whole. wrote.flushed (summary_done status ended whole);
+        flushed_or_untouched = flushed;
+        flushed = λ was fine. by_touch g.K.Sink was (flushed fine);
       };
       reads = record {
         refused = λ setup files bytes is input whole. not_both_jobs words setup settings make is (sym asked);
@@ -227,117 +168,5 @@ returns-in-Some g c =
 
 pub returns-in-None : goal.returns-in-None
 returns-in-None g c =
-    let words = map string_bytes c.args.words.now in
-    let settings = c.in-Ok.job.settings in
-    let asked : Some (session_job settings) ≡ job words =
-    sym (c.in-Ok.ensures.job ∙ ap (λ (m : Option Make). Some (job_with settings m)) c.in-None.is) in
-    let session = c.run_session.ensures in
-    let r = c.run_session.result in
-    let status = c.status_of.result in
-    let by = c.status_of.ensures in
-    record {
-      writes = record {
-        whole = λ files bytes before input room whole.
-            let same = output_is words settings files bytes asked in
-            on_whole r status by
-            (session.told files bytes before (input.shelf settings (sym asked)) input.source room.tells
-            (rw same room.fits)) whole
-            ∙ ap (λ t. Some (before ++ t)) same;
-        front = λ files bytes before input room.
-            let same = output_is words settings files bytes asked in
-            subst (λ (t : List ℕ). TellsPrefix (g.K.Sink.written c.run_session.new.out) before t) same
-            (session.front files bytes before (input.shelf settings (sym asked)) input.source room.tells
-            (rw same room.fits));
-        read_fault = λ setup files bytes before told is calm.
-            subst (λ (s : Setup).
-            ToldTaken (opening s.window s.scale) files bytes (g.S.Source.left c.run_session.new.input) before
-            (g.K.Sink.written c.run_session.new.out))
-            (same_setup words settings setup asked told.setup_is)
-            (session.read_fault_front files bytes before (told.input.shelf settings (sym asked)) told.input.source
-            told.room.tells (rw (output_is words settings files bytes asked) told.room.fits)
-            (⊎_elim (λ (e : IsErrOf r halts.ReadFault). e)
-            (λ (e : IsErrOf r halts.ShelfFault). absurd (calm (session.shelf_fault e)))
-            (on_read_fault r status by is)));
-        fetch_fault = λ setup files bytes before told is calm.
-            subst (λ (s : Setup).
-            ToldToFile (opening s.window s.scale) files bytes before (g.K.Sink.written c.run_session.new.out))
-            (same_setup words settings setup asked told.setup_is)
-            (session.shelf_fault_front files bytes before (told.input.shelf settings (sym asked)) told.input.source
-            told.room.tells (rw (output_is words settings files bytes asked) told.room.fits)
-            (⊎_elim (λ (e : IsErrOf r halts.ReadFault). absurd (calm (session.read_fault e)))
-            (λ (e : IsErrOf r halts.ShelfFault). e)
-            (on_read_fault r status by is)));
-        input_limit = λ setup files bytes before told is.
-            subst (λ (s : Setup).
-            g.K.Sink.written c.run_session.new.out
-            ≡ Some (before ++ reports (opening s.window s.scale) files (ended_lines (take c.args.limit bytes))))
-            (same_setup words settings setup asked told.setup_is)
-            (session.input_limit_front files bytes before (told.input.shelf settings (sym asked)) told.input.source
-            told.room.tells (rw (output_is words settings files bytes asked) told.room.fits)
-            (on_input_limit r status by is));
-        memory = λ setup files bytes before told is.
-            let front =
-            session.memory_front files bytes before (told.input.shelf settings (sym asked)) told.input.source
-            told.room.tells (rw (output_is words settings files bytes asked) told.room.fits)
-            (on_memory r status by is) in (
-              front.0,
-              front.1
-                  ∙ ap (λ (s : Setup).
-                  Some (before ++ reports (opening s.window s.scale) files (take front.0 (lines_run bytes))))
-                  (same_setup words settings setup asked told.setup_is),
-            );
-        quiet = λ files bytes input nothing.
-            session.quiet files bytes (input.shelf settings (sym asked)) input.source
-            (output_is words settings files bytes asked ∙ nothing);
-        flushed_or_untouched = λ whole. on_whole r status by session.flushed whole;
-        flushed = λ was whole.
-            ⊎_elim (λ (e : g.K.Sink.flushed c.run_session.new.out ≡ true). e)
-            (λ (same : c.run_session.new.out ≡ c.args.out.now). ap g.K.Sink.flushed same ∙ was)
-            (on_whole r status by session.flushed whole);
-      };
-      reads = record {
-        refused = λ setup files bytes is input whole.
-            whole_status r status _ by
-            (session.refused files bytes (input.shelf settings (sym asked)) input.source) whole
-            ∙ ap (λ (s : Setup). ran (some_refused (opening s.window s.scale) files (lines_run bytes)))
-            (same_setup words settings setup asked is);
-        read = λ setup bytes asks e goes_on whole. on_whole r status by (session.read bytes e goes_on) whole;
-        within = λ setup bytes asks e goes_on whole. on_whole r status by (session.within bytes e goes_on) whole;
-        end_within = λ setup bytes asks e whole. on_whole r status by (session.end_within bytes e) whole;
-        past = λ bytes e is. session.past bytes e (on_input_limit r status by is);
-        over = λ is. session.input_limit (on_input_limit r status by is);
-        given = session.given;
-      };
-      refuses = record {
-        words = λ is. on_words r status by is;
-        outside = λ none. no_job words (session_job settings) none (sym asked);
-        written = λ before room is. on_words r status by is;
-        front = λ before room none. no_job words (session_job settings) none (sym asked);
-        unfinished = λ before room none is. no_job words (session_job settings) none (sym asked);
-        flushed = λ is. on_words r status by is;
-        unread = λ none. no_job words (session_job settings) none (sym asked);
-        unfetched = λ none. no_job words (session_job settings) none (sym asked);
-      };
-      summary = no_summary _ (λ setup make asks. not_both_jobs words settings setup make (sym asked) asks);
-      ends = record {
-        read_fault = λ is.
-            ⊎_elim (λ (e : IsErrOf r halts.ReadFault). inl (session.read_fault e))
-            (λ (e : IsErrOf r halts.ShelfFault). inr (session.shelf_fault e))
-            (on_read_fault r status by is);
-        write_fault = λ is. session.write_fault (on_write_fault r status by is);
-        limited = λ setup bytes is e past.
-            when_early r status by (session.end_within bytes e) (λ within. not_past bytes within past);
-        complete = λ setup bytes is calm e within.
-            when_calm r status by (λ f. calm.reads (session.read_fault f)) (λ f. calm.fetches (session.shelf_fault f))
-            (λ f. calm.writes (session.write_fault f)) (λ f. not_past bytes within (session.past bytes e f));
-        complete_given = λ setup is calm within.
-            when_calm r status by (λ f. calm.reads (session.read_fault f)) (λ f. calm.fetches (session.shelf_fault f))
-            (λ f. calm.writes (session.write_fault f)) (λ f. omega (arith, session.input_limit f, within));
-        files = session.files;
-        calm = λ is. session.calm (λ f. is (on_shelf_fault r status by f));
-        fileless = λ setup files bytes is e goes_on.
-            session.calm (λ f. session.fileless files bytes e
-            (subst (λ (s : Setup). some_fetch (opening s.window s.scale) files (lines_run bytes) ≡ false)
-            (sym (same_setup words settings setup asked is)) goes_on) f);
-      };
-    }
+    c.run_session.ensures (map string_bytes c.args.words.now)
+    (c.in-Ok.ensures.job ∙ ap (λ (m : Option Make). Some (job_with c.in-Ok.job.settings m)) c.in-None.is)
