@@ -2,8 +2,9 @@
 # Nanoseconds a pair of windows at window 128 and tiles of 256 diagonals, each the least of three runs: of profiles by one
 # worker, by one tile after another and by four workers, and of AB-joins of two halves. The series are an electrocardiogram,
 # the same measured coarsely, with a gap in each thousand samples and spread over the whole range of 32 bits, and a made one
-# of 65,536 samples. At last, what four workers reach of what four runs of one worker reach at the same time. Needs the
-# program: `rt run` in crates/scan_bench once.
+# of 65,536 samples. One worker is timed in turn with `scan.cpp` too, which has to find the same profile. At last, what four
+# workers reach of what four runs of one worker reach at the same time. Needs g++ and the program: `rt run` in
+# crates/scan_bench once.
 set -eu
 here="$(dirname "$0")"
 program="$here/../crates/scan_bench/out/scan_bench"
@@ -44,6 +45,21 @@ nanoseconds_a_pair() {
 
 for series in ecg coarse gaps wide made; do
     nanoseconds_a_pair "$series" workers 1
+done
+
+g++ -O3 -march=x86-64-v2 -o "$work/plain" "$here/scan.cpp"
+for series in ecg coarse made; do
+    for _ in 1 2 3; do
+        "$program" workers 128 256 1 timed < "$work/$series" > "$work/out"
+        sed -n 1p "$work/out" >> "$work/found.$series"
+        sed -n 's/ nanoseconds$//p' "$work/out" >> "$work/scan.$series"
+        "$work/plain" 128 < "$work/$series" > "$work/out"
+        sed -n 1p "$work/out" >> "$work/found.$series"
+        sed -n 's/ nanoseconds$//p' "$work/out" >> "$work/plain.$series"
+    done
+    [ "$(sort -u "$work/found.$series" | wc -l)" -eq 1 ]
+    awk -v scan="$(sort -n "$work/scan.$series" | head -n 1)" -v plain="$(sort -n "$work/plain.$series" | head -n 1)" \
+        -v series="$series" 'BEGIN { printf "%s, one worker by C++ with sums of 64 bits: %.2f\n", series, scan / plain }'
 done
 nanoseconds_a_pair ecg tiles 1
 nanoseconds_a_pair ecg join 1

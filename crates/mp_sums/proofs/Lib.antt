@@ -2,3 +2,4 @@ pub mod ThresholdLemmas
 pub mod StepLemmas
 pub mod FillLemmas
 pub mod StopLemmas
+pub mod RowLemmas

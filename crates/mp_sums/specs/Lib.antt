@@ -3,6 +3,7 @@ pub mod Grids
 pub mod Limits
 pub mod Rounding
 pub mod Residues
+pub mod Rows
 pub mod Laws
 pub mod Products
 pub mod SumLaws

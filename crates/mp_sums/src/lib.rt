@@ -8,14 +8,16 @@ mod limits;
 mod numbers;
 mod residues;
 mod roundings;
+mod rows;
 
 pub use distances::Grid;
 pub use laws::{
     distances_are_sums, residues_move_on, residues_tell, rounded_sums_are_near, sums_run_on,
 };
 pub use limits::Limit;
-pub use numbers::{NUMBER_BITS, Number, number_of, square};
+pub use numbers::{NUMBER_BITS, Number, number_of, sample_at, square};
 pub use residues::{
     ALWAYS, Change, NEVER, ZERO, change_of, fill_changes, first_residue, next_residue, passes,
 };
 pub use roundings::Rounding;
+pub use rows::{add_numbers, clear_residues};

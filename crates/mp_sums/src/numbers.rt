@@ -38,7 +38,7 @@ pub fn square(x: Number, y: Number) -> u128
 
 /// The sample at a place, a missing one past the last.
 #[inline]
-pub(crate) fn sample_at(samples: &[Sample], place: usize) -> Sample
+pub fn sample_at(samples: &[Sample], place: usize) -> Sample
     ensures { result ≡ slice_index_or samples.now place Missing }
 {
     if place < samples.len() {

@@ -53,7 +53,7 @@ pub fn fill_changes(leaves: &[i32], enters: &[i32], differences: &mut [i32], sum
 
 /// The residue with one more pair of numbers.
 #[inline]
-fn with_square(residue: i32, row: i32, column: i32) -> i32
+pub(crate) fn with_square(residue: i32, row: i32, column: i32) -> i32
     ensures { (m : ℕ) (x : ℕ → ℤ) (i : ℕ) (y : ℕ → ℤ) (j : ℕ) → residue ≡ residue_of (square_sum m x i y j)
         → row ≡ int_wrap w32 (x (i + m)) → column ≡ int_wrap w32 (y (j + m))
         → result ≡ residue_of (square_sum (m + 1) x i y j) }

@@ -3,29 +3,27 @@ use Rattle.std.proofs.Common.{◌≡◌, ◌≢◌, ℕ, zero, suc, ◌+◌, ◌
 use Rattle.std.proofs.Common.{refl, sym, ap, ◌∙◌, arith, subst}
 use Rattle.std.specs.Prelude.{Option, Some, None, ◌&&◌, ◌||◌, nat_lt, if◌then◌else◌, ⊤}
 use Rattle.std.proofs.lemmas.Bool.Decides.{nat_tests}
-use Rattle.std.proofs.lemmas.List.{ext_get_or}
-use Rattle.std.proofs.lemmas.Simd.{length-zip2, get_or-zip2}
 use Rattle.mp_nums.specs.declared.nearest.Near.{Near}
-use Rattle.mp_nums.specs.Listed.{Listed}
 use Rattle.mp_nums.specs.Near.{nearer_of}
 use Rattle.mp_nums.specs.NearLaws.{nearer_commutes, nearer_associates, nearer_with_none}
 use Rattle.mp_defs.specs.Series.{Series}
 use Rattle.mp_defs.specs.Distance.{distance}
 use Rattle.mp_defs.specs.Least.{near_at, at_distance, candidate, near}
-use Rattle.mp_defs.specs.Profile.{nearest, nearest_column, windows_of}
+use Rattle.mp_defs.specs.Profile.{nearest, windows_of}
 use Rattle.mp_defs.specs.DistanceLaws.{symmetric}
 use Rattle.mp_defs.specs.LeastLaws.{grows_by_one_candidate}
-use Rattle.mp_defs.specs.NearestLaws.{nearest_by_choice}
-use Rattle.mp_defs.specs.ColumnLaws.{columns_have_places}
-use Rattle.mp_partial.specs.Values.{Column, merged_column}
+use Rattle.mp_partial.specs.Values.{Column}
 use Rattle.mp_partial.specs.Profiled.{Profiled}
-use Rattle.mp_tiles.specs.Pairs.{only}
+use Rattle.mp_scans.specs.Offering.{only, IsLimiting}
+use Rattle.mp_scans.specs.Slots.{Covers}
+use Rattle.mp_tiles.specs.declared.offers.ColumnToRow.{ColumnToRow}
+use Rattle.mp_tiles.specs.declared.offers.RowToColumn.{RowToColumn}
 use Rattle.mp_tiles.specs.Among.{either_way}
-use Rattle.mp_tiles.specs.Scanning.{IsScanned}
-use Rattle.mp_tiles.specs.TakenLaws.{HasTaken, as_long}
-use Rattle.mp_tiles.specs.OfferingLaws.{fits_each, is_scanned_each, fits_rows, is_scanned_rows, fits_columns, turned}
-use Rattle.mp_tiles.specs.OfferingLaws.{is_scanned_columns}
-use Rattle.mp_tiles.specs.Limits.{Covers, ComesFirst, IsLimiting}
+use Rattle.mp_tiles.specs.Sides.{Sided, sides_of}
+use Rattle.mp_tiles.specs.Scanning.{AreSided}
+use Rattle.mp_tiles.specs.TakenLaws.{HasTaken, at_taken, are_taken}
+use Rattle.mp_tiles.specs.OfferingLaws.{fits_sides, is_scanned_sides, fits_each, is_scanned_each}
+use Rattle.mp_tiles.specs.OfferingLaws.{fits_rows, is_scanned_rows, fits_columns, is_scanned_columns, turned}
 
 -- ---- one slot
 
@@ -34,23 +32,6 @@ covers_more s x j d h =
     let c : Option Near = Some (near_at j d) in
     nearer_associates s x c ∙ ap (nearer_of s) (nearer_commutes x c) ∙ sym (nearer_associates s c x)
     ∙ ap (λ y. nearer_of y x) h
-
-is_nearer : (k e j d : ℕ) → e < d → nearer_of (Some (near_at k e)) (Some (near_at j d)) ≡ Some (near_at k e)
-is_nearer k e j d lt = grind (arith, nat_tests)
-
-is_earlier : (k j d : ℕ) → k ≤ j → nearer_of (Some (near_at k d)) (Some (near_at j d)) ≡ Some (near_at k d)
-is_earlier k j d le = grind (arith, nat_tests)
-
-comes_first : (k e j d : ℕ) → ComesFirst e k d j
-    → nearer_of (Some (near_at k e)) (Some (near_at j d)) ≡ Some (near_at k e)
-comes_first k e j d (inl lt) = is_nearer k e j d lt
-comes_first k e j d (inr (same, le)) =
-    subst (λ x. nearer_of (Some (near_at k x)) (Some (near_at j d)) ≡ Some (near_at k x)) (sym same)
-    (is_earlier k j d le)
-
-pub covers_found : (s : Option Near) (k e j d : ℕ) → ComesFirst e k d j → Covers (nearer_of s (Some (near_at k e))) j d
-covers_found s k e j d first =
-    nearer_associates s (Some (near_at k e)) (Some (near_at j d)) ∙ ap (nearer_of s) (comes_first k e j d first)
 
 near_quiet : (slot : Option Near) (c : ℕ → Option Near) (n : ℕ) → ((j : ℕ) → j < n → nearer_of slot (c j) ≡ slot)
     → nearer_of slot (near c n) ≡ slot
@@ -77,46 +58,19 @@ nearest_quiet slot p m a i b h =
 
 -- ---- one column
 
-at_taken : (p : ℕ → ℕ → Bool) (m : ℕ) (a b : Series) (old new : Column) (i : ℕ) → length old ≡ windows_of m a
-    → i < windows_of m a → HasTaken p m a b old new
-    → get_or new i None ≡ nearer_of (get_or old i None) (nearest m (p i) a i b)
-at_taken p m a b old new i l lt h =
-    let f : ℕ → Option Near = λ x. nearest m (p x) a x b in
-    ap (λ (c : Column). get_or c i None) h
-    ∙ get_or-zip2 nearer_of old (nearest_column p m a b) i None None None (omega (arith, l, lt))
-    (omega (arith, as_long p m a b, lt))
-    ∙ ap (nearer_of (get_or old i None)) (columns_have_places.at_place f (windows_of m a) i lt)
-
 taken_quiet : (p : ℕ → ℕ → Bool) (m : ℕ) (a b : Series) (old : Column) → length old ≡ windows_of m a
     → ((i j d : ℕ) → i < windows_of m a → j < windows_of m b → p i j ≡ true → distance m a i b j ≡ Some d
     → Covers (get_or old i None) j d)
     → HasTaken p m a b old old
 taken_quiet p m a b old l h =
-    let f : ℕ → Option Near = λ x. nearest m (p x) a x b in
-    let same : length old ≡ length (nearest_column p m a b) = l ∙ sym (as_long p m a b) in
-    ext_get_or None old (merged_column old (nearest_column p m a b))
-    (sym (length-zip2 nearer_of old (nearest_column p m a b) same))
-    (λ k within. let below : k < windows_of m a = omega (arith, within, l) in
-    sym (get_or-zip2 nearer_of old (nearest_column p m a b) k None None None (omega (arith, within))
-    (omega (arith, within, same))
-    ∙ ap (nearer_of (get_or old k None)) (columns_have_places.at_place f (windows_of m a) k below)
-    ∙ nearest_quiet (get_or old k None) (p k) m a k b (λ j d lt is found. h k j d below lt is found)))
+    are_taken p m a b old old l l
+    (λ k below. sym (nearest_quiet (get_or old k None) (p k) m a k b (λ j d lt is found. h k j d below lt is found)))
 
 taken_stays : (p : ℕ → ℕ → Bool) (m : ℕ) (a b : Series) (old new : Column) (i j d : ℕ) → length old ≡ windows_of m a
     → i < windows_of m a → HasTaken p m a b old new → Covers (get_or old i None) j d → Covers (get_or new i None) j d
 taken_stays p m a b old new i j d l lt h covers =
     subst (λ s. Covers s j d) (sym (at_taken p m a b old new i l lt h))
     (covers_more (get_or old i None) (nearest m (p i) a i b) j d covers)
-
-taken_closes : (p : ℕ → ℕ → Bool) (m : ℕ) (a b : Series) (old new : Column) (i j s c d : ℕ)
-    → length old ≡ windows_of m a → i < windows_of m a → j < windows_of m b → HasTaken p m a b old new → p i j ≡ true
-    → ((c : ℕ) → c ≢ j → p i c ≡ false) → distance m a i b j ≡ Some s → ComesFirst s j d c
-    → Covers (get_or new i None) c d
-taken_closes p m a b old new i j s c d l lt lt' h here other dist first =
-    let found : nearest m (p i) a i b ≡ Some (near_at j s) =
-    nearest_by_choice.only m (p i) a i b j lt' here other ∙ ap (at_distance j) dist in
-    subst (λ x. Covers x c d) (sym (at_taken p m a b old new i l lt h ∙ ap (nearer_of (get_or old i None)) found))
-    (covers_found (get_or old i None) j s c d first)
 
 -- ---- tests
 
@@ -141,149 +95,136 @@ pair_is i j = grind (arith, nat_tests)
 pub no_other_column : (i j c : ℕ) → c ≢ j → only i j i c ≡ false
 no_other_column i j c ne = grind (arith, nat_tests)
 
-no_other_row : (i j r : ℕ) → r ≢ i → only i j r j ≡ false
-no_other_row i j r ne = grind (arith, nat_tests)
+-- ---- each of two windows of a series to the other, on its side
 
-row_pair : (i j : ℕ) → i < j → either_way (only i j) i j ≡ true
-row_pair i j lt = grind (arith, nat_tests)
+-- the row's later windows
+abbrev pub keeps_row_sides : Sided → ℕ → ℕ → ℕ → Type 0
+keeps_row_sides s i j d = Covers (get_or s.right i None) j d
 
-no_row_pair : (i j c : ℕ) → i < j → c ≢ j → either_way (only i j) i c ≡ false
-no_row_pair i j c lt ne = grind (arith, nat_tests)
-
-column_pair : (i j : ℕ) → i < j → either_way (only i j) j i ≡ true
-column_pair i j lt = grind (arith, nat_tests)
-
-no_column_pair : (i j c : ℕ) → i < j → c ≢ i → either_way (only i j) j c ≡ false
-no_column_pair i j c lt ne = grind (arith, nat_tests)
-
-right_pair : (i j : ℕ) → i < j → (either_way (only i j) i j && nat_lt i j) ≡ true
-right_pair i j lt = grind (arith, nat_tests)
-
-left_pair : (i j : ℕ) → i < j → (either_way (only i j) j i && nat_lt i j) ≡ true
-left_pair i j lt = grind (arith, nat_tests)
-
-false_and : (s t : Bool) → s ≡ false → (s && t) ≡ false
-false_and s t e = ap (λ x. x && t) e
-
--- ---- each of two windows of a series to the other
-
--- the row's later windows and the column's earlier ones, and what they have of both
-abbrev pub keeps_row_each : Profiled → ℕ → ℕ → ℕ → Type 0
-keeps_row_each p i j d = Covers (get_or p.right i None) j d × Covers (get_or p.all i None) j d
-
-abbrev pub keeps_column_each : Profiled → ℕ → ℕ → ℕ → Type 0
-keeps_column_each p j i d = Covers (get_or p.left j None) i d × Covers (get_or p.all j None) i d
+-- and the column's earlier ones
+abbrev pub keeps_column_sides : Sided → ℕ → ℕ → ℕ → Type 0
+keeps_column_sides s j i d = Covers (get_or s.left j None) i d
 
 -- what is known of pairs that give nothing
-abbrev GiveNothing : ℕ → Series → (ℕ → ℕ → Bool) → Profiled → Type 0
-GiveNothing m a pairs p = (i j d : ℕ) → i < windows_of m a → j < windows_of m a → pairs i j ≡ true
-    → distance m a i a j ≡ Some d → keeps_row_each p i j d × keeps_column_each p j i d
+abbrev GiveNothing : ℕ → Series → Series → (ℕ → ℕ → Bool) → (ℕ → ℕ → ℕ → Type 0) → (ℕ → ℕ → ℕ → Type 0) → Type 0
+GiveNothing m a b pairs keeps_row keeps_column = (i j d : ℕ) → i < windows_of m a → j < windows_of m b
+    → pairs i j ≡ true → distance m a i b j ≡ Some d → keeps_row i j d × keeps_column j i d
 
-each_quiet : (m : ℕ) (a b : Series) (pairs : ℕ → ℕ → Bool) (p : Profiled) → fits_each m a b p
-    → ((i j : ℕ) → pairs i j ≡ true → i + 1 ≤ j) → GiveNothing m a pairs p → IsScanned pairs m a p p
-each_quiet m a b pairs p h order q = record {
-  all = taken_quiet (either_way pairs) m a a p.all h.0.all
-      (λ i j d lt lt' is dist. elim (either_true (pairs i j) (pairs j i) is) [
-        | inl here ↦ (q i j d lt lt' here dist).0.1
-        | inr back ↦ (q j i d lt' lt back (symmetric m a j a i ∙ dist)).1.1
-      ]);
-  left = taken_quiet (λ i j. either_way pairs i j && nat_lt j i) m a a p.left h.0.left
+-- in one series
+one_series : (m : ℕ) (a b : Series) (pairs : ℕ → ℕ → Bool) (keeps_row keeps_column : ℕ → ℕ → ℕ → Type 0) → a ≡ b
+    → GiveNothing m a b pairs keeps_row keeps_column → GiveNothing m a a pairs keeps_row keeps_column
+one_series m a b pairs keeps_row keeps_column e q =
+    subst (λ (x : Series). GiveNothing m a x pairs keeps_row keeps_column) (sym e) q
+
+sides_quiet : (m : ℕ) (a : Series) (pairs : ℕ → ℕ → Bool) (s : Sided) → fits_sides m a a s
+    → ((i j : ℕ) → pairs i j ≡ true → i + 1 ≤ j)
+    → GiveNothing m a a pairs (keeps_row_sides s) (keeps_column_sides s) → AreSided pairs m a s s
+sides_quiet m a pairs s h order q = record {
+  left = taken_quiet (λ i j. either_way pairs i j && nat_lt j i) m a a s.left h.0.left
       (λ i j d lt lt' is dist.
       let earlier : j < i = is_less j i (last_true (either_way pairs i j) (nat_lt j i) is) in
       elim (either_true (pairs i j) (pairs j i) (first_true (either_way pairs i j) (nat_lt j i) is)) [
         | inl here ↦ absurd (omega (arith, order i j here, earlier))
-        | inr back ↦ (q j i d lt' lt back (symmetric m a j a i ∙ dist)).1.0
+        | inr back ↦ (q j i d lt' lt back (symmetric m a j a i ∙ dist)).1
       ]);
-  right = taken_quiet (λ i j. either_way pairs i j && nat_lt i j) m a a p.right h.0.right
+  right = taken_quiet (λ i j. either_way pairs i j && nat_lt i j) m a a s.right h.0.right
       (λ i j d lt lt' is dist.
       let later : i < j = is_less i j (last_true (either_way pairs i j) (nat_lt i j) is) in
       elim (either_true (pairs i j) (pairs j i) (first_true (either_way pairs i j) (nat_lt i j) is)) [
-        | inl here ↦ (q i j d lt lt' here dist).0.0
+        | inl here ↦ (q i j d lt lt' here dist).0
         | inr back ↦ absurd (omega (arith, order j i back, later))
       ]);
-  spare = refl;
 }
+
+row_side_stays : (pairs : ℕ → ℕ → Bool) (m : ℕ) (a b : Series) (old new : Sided) (i j d : ℕ) → fits_sides m a b old
+    → AreSided pairs m a old new → i < windows_of m a → keeps_row_sides old i j d → keeps_row_sides new i j d
+row_side_stays pairs m a b old new i j d h s lt k =
+    taken_stays (λ i j. either_way pairs i j && nat_lt i j) m a a old.right new.right i j d h.0.right lt s.right k
+
+column_side_stays : (pairs : ℕ → ℕ → Bool) (m : ℕ) (a b : Series) (old new : Sided) (j i d : ℕ)
+    → fits_sides m a b old → AreSided pairs m a old new → j < windows_of m b → keeps_column_sides old j i d
+    → keeps_column_sides new j i d
+column_side_stays pairs m a b old new j i d h s lt k =
+    let wide : windows_of m a ≡ windows_of m b = ap (windows_of m) h.1 in
+    taken_stays (λ i j. either_way pairs i j && nat_lt j i) m a a old.left new.left j i d h.0.left
+    (omega (arith, lt, wide)) s.left k
+
+pub side_limits : IsLimiting 1 fits_sides is_scanned_sides keeps_row_sides keeps_column_sides
+side_limits = record {
+  quiet = λ m a b pairs s h order q.
+      sides_quiet m a pairs s (h.0, refl) order
+      (one_series m a b pairs (keeps_row_sides s) (keeps_column_sides s) h.1 q);
+  row_stays = λ m a b pairs old new h s i j d lt k. row_side_stays pairs m a b old new i j d h s lt k;
+  column_stays = λ m a b pairs old new h s j i d lt k. column_side_stays pairs m a b old new j i d h s lt k;
+}
+
+-- ---- the same, in a profile
+
+-- on its side, and of both
+abbrev pub keeps_row_each : Profiled → ℕ → ℕ → ℕ → Type 0
+keeps_row_each p i j d = keeps_row_sides (sides_of p) i j d × Covers (get_or p.all i None) j d
+
+abbrev pub keeps_column_each : Profiled → ℕ → ℕ → ℕ → Type 0
+keeps_column_each p j i d = keeps_column_sides (sides_of p) j i d × Covers (get_or p.all j None) i d
 
 pub each_limits : IsLimiting 1 fits_each is_scanned_each keeps_row_each keeps_column_each
 each_limits = record {
-  quiet = λ m a b pairs p h order q.
-      let wide : windows_of m a ≡ windows_of m b = ap (windows_of m) h.1 in
-      each_quiet m a b pairs p h order
-      (λ i j d lt lt' is dist. q i j d lt (omega (arith, lt', wide)) is
-      (subst (λ (x : Series). distance m a i x j ≡ Some d) h.1 dist));
+  quiet = λ m a b pairs p h order q'.
+      let q = one_series m a b pairs (keeps_row_each p) (keeps_column_each p) h.1 q' in
+      record {
+        all = taken_quiet (either_way pairs) m a a p.all h.0.all
+            (λ i j d lt lt' is dist. elim (either_true (pairs i j) (pairs j i) is) [
+              | inl here ↦ (q i j d lt lt' here dist).0.1
+              | inr back ↦ (q j i d lt' lt back (symmetric m a j a i ∙ dist)).1.1
+            ]);
+        sides = sides_quiet m a pairs (sides_of p) (h.0.sides, refl) order
+            (λ i j d lt lt' is dist. let both = q i j d lt lt' is dist in (both.0.0, both.1.0));
+        spare = refl;
+      };
   row_stays = λ m a b pairs old new h s i j d lt k. (
-    taken_stays (λ i j. either_way pairs i j && nat_lt i j) m a a old.right new.right i j d h.0.right lt s.right k.0,
+    row_side_stays pairs m a b (sides_of old) (sides_of new) i j d (h.0.sides, h.1) s.sides lt k.0,
     taken_stays (either_way pairs) m a a old.all new.all i j d h.0.all lt s.all k.1,
   );
   column_stays = λ m a b pairs old new h s j i d lt k.
-      let wide : windows_of m a ≡ windows_of m b = ap (windows_of m) h.1 in
-      let within : j < windows_of m a = omega (arith, lt, wide) in (
-        taken_stays (λ i j. either_way pairs i j && nat_lt j i) m a a old.left new.left j i d h.0.left within s.left
-            k.0,
-        taken_stays (either_way pairs) m a a old.all new.all j i d h.0.all within s.all k.1,
-      );
-  row_closes = λ m a b i j e old new h lt lt' apart dist s k d first.
-      let wide : windows_of m a ≡ windows_of m b = ap (windows_of m) h.1 in
-      let order : i < j = omega (arith, apart) in
-      let within : j < windows_of m a = omega (arith, lt', wide) in
-      let here : distance m a i a j ≡ Some e = subst (λ (x : Series). distance m a i x j ≡ Some e) (sym h.1) dist in (
-        taken_closes (λ r c. either_way (only i j) r c && nat_lt r c) m a a old.right new.right i j e k d h.0.right lt
-            within s.right (right_pair i j order)
-            (λ c ne. false_and (either_way (only i j) i c) (nat_lt i c) (no_row_pair i j c order ne)) here first,
-        taken_closes (either_way (only i j)) m a a old.all new.all i j e k d h.0.all lt within s.all
-            (row_pair i j order) (λ c ne. no_row_pair i j c order ne) here first,
-      );
-  column_closes = λ m a b i j e old new h lt lt' apart dist s k d first.
-      let wide : windows_of m a ≡ windows_of m b = ap (windows_of m) h.1 in
-      let order : i < j = omega (arith, apart) in
-      let within : j < windows_of m a = omega (arith, lt', wide) in
-      let here : distance m a i a j ≡ Some e = subst (λ (x : Series). distance m a i x j ≡ Some e) (sym h.1) dist in
-      let back : distance m a j a i ≡ Some e = symmetric m a j a i ∙ here in (
-        taken_closes (λ r c. either_way (only i j) r c && nat_lt c r) m a a old.left new.left j i e k d h.0.left within
-            lt s.left (left_pair i j order)
-            (λ c ne. false_and (either_way (only i j) j c) (nat_lt c j) (no_column_pair i j c order ne)) back first,
-        taken_closes (either_way (only i j)) m a a old.all new.all j i e k d h.0.all within lt s.all
-            (column_pair i j order) (λ c ne. no_column_pair i j c order ne) back first,
+      let wide : windows_of m a ≡ windows_of m b = ap (windows_of m) h.1 in (
+        column_side_stays pairs m a b (sides_of old) (sides_of new) j i d (h.0.sides, h.1) s.sides lt k.0,
+        taken_stays (either_way pairs) m a a old.all new.all j i d h.0.all (omega (arith, lt, wide)) s.all k.1,
       );
 }
 
 -- ---- the column to the row
 
-abbrev pub keeps_slot : Listed (Option Near) → ℕ → ℕ → ℕ → Type 0
-keeps_slot slots i j d = Covers (get_or slots.items i None) j d
+abbrev pub keeps_row_slot : ColumnToRow → ℕ → ℕ → ℕ → Type 0
+keeps_row_slot into i j d = Covers (get_or into.slots.now i None) j d
 
 -- where nothing is offered
-abbrev pub keeps_all : Listed (Option Near) → ℕ → ℕ → ℕ → Type 0
-keeps_all slots i j d = ⊤
+abbrev pub keeps_all : {Into : Type 0} → Into → ℕ → ℕ → ℕ → Type 0
+keeps_all into i j d = ⊤
 
-pub row_limits : IsLimiting 0 fits_rows is_scanned_rows keeps_slot keeps_all
+pub row_limits : IsLimiting 0 fits_rows is_scanned_rows keeps_row_slot keeps_all
 row_limits = record {
-  quiet = λ m a b pairs slots h order q. record {
-    items = taken_quiet pairs m a b slots.items h (λ i j d lt lt' is dist. (q i j d lt lt' is dist).0);
-    spare = refl;
+  quiet = λ m a b pairs into h order q. record {
+    slots = taken_quiet pairs m a b into.slots.now h (λ i j d lt lt' is dist. (q i j d lt lt' is dist).0);
+    same_slots = refl;
   };
-  row_stays = λ m a b pairs old new h s i j d lt k. taken_stays pairs m a b old.items new.items i j d h lt s.items k;
+  row_stays = λ m a b pairs old new h s i j d lt k.
+      taken_stays pairs m a b old.slots.now new.slots.now i j d h lt s.slots k;
   column_stays = λ m a b pairs old new h s j i d lt k. tt;
-  row_closes = λ m a b i j e old new h lt lt' apart dist s k d first.
-      taken_closes (only i j) m a b old.items new.items i j e k d h lt lt' s.items (pair_is i j)
-      (λ c ne. no_other_column i j c ne) dist first;
-  column_closes = λ m a b i j e old new h lt lt' apart dist s k d first. tt;
 }
 
 -- ---- the row to the column
 
-pub column_limits : IsLimiting 0 fits_columns is_scanned_columns keeps_all keeps_slot
+abbrev pub keeps_column_slot : RowToColumn → ℕ → ℕ → ℕ → Type 0
+keeps_column_slot into j i d = Covers (get_or into.slots.now j None) i d
+
+pub column_limits : IsLimiting 0 fits_columns is_scanned_columns keeps_all keeps_column_slot
 column_limits = record {
-  quiet = λ m a b pairs slots h order q. record {
-    items = taken_quiet (turned pairs) m b a slots.items h
+  quiet = λ m a b pairs into h order q. record {
+    slots = taken_quiet (turned pairs) m b a into.slots.now h
         (λ j i d lt lt' is dist. (q i j d lt' lt is (symmetric m a i b j ∙ dist)).1);
-    spare = refl;
+    same_slots = refl;
   };
   row_stays = λ m a b pairs old new h s i j d lt k. tt;
   column_stays = λ m a b pairs old new h s j i d lt k.
-      taken_stays (turned pairs) m b a old.items new.items j i d h lt s.items k;
-  row_closes = λ m a b i j e old new h lt lt' apart dist s k d first. tt;
-  column_closes = λ m a b i j e old new h lt lt' apart dist s k d first.
-      taken_closes (turned (only i j)) m b a old.items new.items j i e k d h lt' lt s.items (pair_is i j)
-      (λ r ne. no_other_row i j r ne) (symmetric m b j a i ∙ dist) first;
+      taken_stays (turned pairs) m b a old.slots.now new.slots.now j i d h lt s.slots k;
 }

@@ -20,13 +20,12 @@ use Rattle.mp_defs.specs.ColumnLaws.{columns_have_places, columns_by_choice}
 use Rattle.mp_partial.specs.Values.{Column, merged_column}
 use Rattle.mp_partial.specs.Patching.{slots_from}
 use Rattle.mp_partial.specs.PatchingLaws.{either_below, length_slots_from, at_slots_from}
-use Rattle.mp_tiles.specs.Pairs.{only}
+use Rattle.mp_scans.specs.Offering.{only, IsOffering, IsLimiting}
+use Rattle.mp_scans.specs.Slots.{Covers}
 use Rattle.mp_tiles.specs.Among.{either_way}
 use Rattle.mp_tiles.specs.Scanning.{taken}
-use Rattle.mp_tiles.specs.Offering.{IsOffering}
-use Rattle.mp_tiles.specs.Limits.{Covers, ComesFirst, IsLimiting}
 use Rattle.mp_tiles.specs.TakenLaws.{as_long}
-use Rattle.mp_tiles.specs.LimitLaws.{covers_more, covers_found, nearest_quiet, pair_is, no_other_column}
+use Rattle.mp_tiles.specs.LimitLaws.{covers_more, nearest_quiet, pair_is, no_other_column}
 use Rattle.mp_tiles.specs.PatchScanning.{HasTakenFrom, fits_patch, may_patch, is_scanned_patch, KeepsFrom}
 use Rattle.mp_tiles.specs.PatchScanning.{keeps_row_patch, keeps_column_patch}
 
@@ -247,20 +246,6 @@ taken_stays p m a b first first' old new i j d e h keeps le lt =
     (covers_more (get_or old (i - first) None) (get_or (nearest_column p m a b) (first + (i - first)) None) j d
     (keeps (omega (arith, e, le)) (omega (arith, e, lt, l)))))
 
-taken_closes : (i j m : ℕ) (a b : Series) (first first' : ℕ) (old new : Column) (s c d : ℕ) → first' ≡ first
-    → i < windows_of m a → j < windows_of m b → distance m a i b j ≡ Some s → ComesFirst s j d c
-    → HasTakenFrom (only i j) m a b first old new → KeepsFrom first' new i c d
-taken_closes i j m a b first first' old new s c d e lt lt' is before h le within =
-    let l : length new ≡ length old = same_places (only i j) m a b first old new h in
-    let same : i - first' ≡ i - first = omega (arith, e) in
-    let back : first + (i - first) ≡ i = omega (arith, e, le) in
-    subst (λ n. Covers (get_or new n None) c d) (sym same)
-    (subst (λ x. Covers x c d)
-    (sym (at_taken (only i j) m a b first old new (i - first) (omega (arith, e, le, within, l)) h
-    ∙ ap (nearer_of (get_or old (i - first) None)) (ap (λ n. get_or (nearest_column (only i j) m a b) n None) back
-    ∙ only_here i j m a b s lt lt' is)))
-    (covers_found (get_or old (i - first) None) j s c d before))
-
 pub patch_limits : IsLimiting 0 fits_patch is_scanned_patch keeps_row_patch keeps_column_patch
 patch_limits = record {
   quiet = λ m a b pairs p h order q. record {
@@ -276,13 +261,6 @@ patch_limits = record {
   column_stays = λ m a b pairs old new h s j i d lt keeps.
       taken_stays (λ c r. pairs r c) m b a old.first_column new.first_column old.columns new.columns j i d
       s.first_column s.columns keeps;
-  row_closes = λ m a b i j e old new h lt lt' apart dist s k d before.
-      taken_closes i j m a b old.first_row new.first_row old.rows new.rows e k d s.first_row lt lt' dist before s.rows;
-  column_closes = λ m a b i j e old new h lt lt' apart dist s k d before.
-      taken_closes j i m b a old.first_column new.first_column old.columns new.columns e k d s.first_column lt' lt
-      (symmetric m b j a i ∙ dist) before
-      (taken_same (λ c r. only i j r c) (only j i) m b a old.first_column old.columns new.columns s.columns
-      (λ c r _ _. sym (turned_only i j r c)));
 }
 
 -- ---- pairs of a series whose row starts earlier

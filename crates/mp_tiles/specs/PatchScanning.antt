@@ -4,7 +4,7 @@ use Rattle.mp_defs.specs.Series.{Series}
 use Rattle.mp_defs.specs.Profile.{nearest_column}
 use Rattle.mp_partial.specs.Values.{Column, merged_column}
 use Rattle.mp_partial.specs.Patching.{Patched, slots_from}
-use Rattle.mp_tiles.specs.Limits.{Covers}
+use Rattle.mp_scans.specs.Slots.{Covers}
 
 -- slots of windows of a from one on have taken what these pairs with windows of b give
 abbrev pub HasTakenFrom : (ℕ → ℕ → Bool) → ℕ → Series → Series → ℕ → Column → Column → Type 0

@@ -10,7 +10,7 @@ use Rattle.mp_defs.specs.NearestLaws.{zone_is_mutual}
 use Rattle.mp_defs.specs.ColumnLaws.{columns_by_choice}
 use Rattle.mp_partial.specs.Values.{Column, Value, merged_column}
 use Rattle.mp_tiles.specs.Laws.{ProfilesAreOfBothSides}
-use Rattle.mp_tiles.specs.NarrowPieces.{sides_value}
+use Rattle.mp_tiles.specs.Pieces.{sides_value}
 
 -- of two windows that may be compared the other one starts earlier or later
 on_a_side : (t : Bool) (i j : ℕ) → (i ≡ j → t ≡ false) → t ≡ ((t && nat_lt j i) || (t && nat_lt i j))

@@ -17,7 +17,7 @@ use Rattle.mp_defs.specs.NearestLaws.{nearest_by_choice}
 use Rattle.mp_defs.specs.ColumnLaws.{columns_have_places, columns_by_choice}
 use Rattle.mp_partial.specs.Values.{Column, merged_column}
 use Rattle.mp_partial.specs.MergeLaws.{zip_commutes, zip_associates, zip_unit_first}
-use Rattle.mp_tiles.specs.Pairs.{only}
+use Rattle.mp_scans.specs.Offering.{only}
 use Rattle.mp_tiles.specs.Scanning.{taken}
 
 -- the column has taken what the pairs give
@@ -97,3 +97,29 @@ taken_one i j m a b old new d l lt lt' is e =
 -- nothing is taken where there is nothing
 pub taken_nothing : (old : Column) (i : ℕ) → taken old i None ≡ old
 taken_nothing old i = ap (set old i) (nearer_with_none (get_or old i None)).1 ∙ set-get_or old i None
+
+-- ---- place by place
+
+pub at_taken : (p : ℕ → ℕ → Bool) (m : ℕ) (a b : Series) (old new : Column) (i : ℕ) → length old ≡ windows_of m a
+    → i < windows_of m a → HasTaken p m a b old new
+    → get_or new i None ≡ nearer_of (get_or old i None) (nearest m (p i) a i b)
+at_taken p m a b old new i l lt h =
+    let f : ℕ → Option Near = λ x. nearest m (p x) a x b in
+    ap (λ (c : Column). get_or c i None) h
+    ∙ get_or-zip2 nearer_of old (nearest_column p m a b) i None None None (omega (arith, l, lt))
+    (omega (arith, as_long p m a b, lt))
+    ∙ ap (nearer_of (get_or old i None)) (columns_have_places.at_place f (windows_of m a) i lt)
+
+pub are_taken : (p : ℕ → ℕ → Bool) (m : ℕ) (a b : Series) (old new : Column) → length old ≡ windows_of m a
+    → length new ≡ windows_of m a
+    → ((i : ℕ) → i < windows_of m a → get_or new i None ≡ nearer_of (get_or old i None) (nearest m (p i) a i b))
+    → HasTaken p m a b old new
+are_taken p m a b old new l l' h =
+    let f : ℕ → Option Near = λ x. nearest m (p x) a x b in
+    let same : length old ≡ length (nearest_column p m a b) = l ∙ sym (as_long p m a b) in
+    ext_get_or None new (merged_column old (nearest_column p m a b))
+    (l' ∙ sym l ∙ sym (length-zip2 nearer_of old (nearest_column p m a b) same))
+    (λ k within. let below : k < windows_of m a = omega (arith, within, l') in
+    h k below ∙ ap (nearer_of (get_or old k None)) (sym (columns_have_places.at_place f (windows_of m a) k below))
+    ∙ sym (get_or-zip2 nearer_of old (nearest_column p m a b) k None None None (omega (arith, below, l))
+    (omega (arith, below, l, same))))

@@ -5,22 +5,21 @@ ghost use Rattle.mp_series.specs.declared.limits.TheConstants.{MAX_SAMPLES, MAX_
 ghost use Rattle.mp_defs.specs.Series.{series_of};
 ghost use Rattle.mp_defs.specs.Profile.{ab_join};
 
-use crate::scales::{Scale, find_scale};
-use crate::scans::scan_both_by;
+use crate::scans::scan_join;
 use mp_cuts::{Cut, MAX_TILE, MAX_TILES, cut_both};
 use mp_nums::{Memory, Sample, Slots};
 use mp_partial::{Kernel, run_in_order};
+use mp_scans::Plan;
 use mp_series::{MAX_SAMPLES, MAX_WINDOW, MIN_WINDOW, windows};
+use mp_sums::Grid;
 use std::alloc::Global;
 use std::marker::Model;
 
 /// The tiles of two series as the pieces of a kernel, whose values together are the AB-join.
-#[derive(Debug, Drop)]
+#[derive(Drop)]
 pub struct JoinTiles<'a> {
-    a: &'a [Sample],
-    b: &'a [Sample],
-    m: u32,
-    scale: Option<Scale>,
+    /// The windows of the one series as rows, and those of the other as columns.
+    plan: Plan<'a>,
     cut: Cut,
 }
 
@@ -29,9 +28,14 @@ impl<'a> Model for JoinTiles<'a> {
 
     ghost Value = { JoinTiling };
 
-    ghost view = { λ join. record { a = join.a.now; b = join.b.now; m = join.m; tiles = join.cut } };
+    ghost view = { λ join. record {
+      a = join.plan.grid.rows.now;
+      b = join.plan.grid.columns.now;
+      m = join.plan.grid.m;
+      tiles = join.cut;
+    } };
 
-    ghost invariant = { λ join. IsJoinTiling join.a.now join.b.now join.m join.scale join.cut };
+    ghost invariant = { λ join. IsJoinTiling join.plan join.cut };
 }
 
 impl<'a> JoinTiles<'a> {
@@ -41,7 +45,7 @@ impl<'a> JoinTiles<'a> {
     ghost use Rattle.mp_tiles.specs.Pieces.{join_together};
 
     /// The tiles of at most `tile` diagonals of both series' windows of length `m`. They may be the same series. It
-    /// looks at each sample once, and takes no memory.
+    /// takes no memory.
     pub fn new(a: &'a [Sample], b: &'a [Sample], m: u32, tile: u32) -> JoinTiles<'a>
         requires shortest { MIN_WINDOW ≤ m }
         requires longest { m ≤ MAX_WINDOW }
@@ -57,11 +61,13 @@ impl<'a> JoinTiles<'a> {
         ensures together { join_together result ≡ ab_join m (series_of a.now) (series_of b.now) ∷ [] }
     {
         let (first, second) = (windows(a.len() as u64, m), windows(b.len() as u64, m));
+        let plan = Plan::of(Grid {
+            rows: a,
+            columns: b,
+            m: m as usize,
+        });
         JoinTiles {
-            a,
-            b,
-            m,
-            scale: find_scale(a, b, m as usize),
+            plan,
             cut: cut_both(first, second, tile),
         }
     }
@@ -85,7 +91,7 @@ impl<'a> Kernel for JoinTiles<'a> {
         join.b };
 
     fn size(&self) -> u64 {
-        windows(self.a.len() as u64, self.m)
+        windows(self.plan.grid.rows.len() as u64, self.plan.rounding.m)
     }
 
     fn pieces(&self) -> u64 {
@@ -93,14 +99,7 @@ impl<'a> Kernel for JoinTiles<'a> {
     }
 
     fn run(&self, piece: u64, into: &mut Slots) {
-        scan_both_by(
-            self.a,
-            self.b,
-            self.m,
-            self.scale,
-            &self.cut.tile(piece),
-            into,
-        );
+        scan_join(&self.plan, &self.cut.tile(piece), into);
     }
 }
 

@@ -5,22 +5,23 @@ ghost use Rattle.mp_series.specs.declared.limits.TheConstants.{MAX_SAMPLES, MAX_
 ghost use Rattle.mp_defs.specs.Series.{series_of};
 ghost use Rattle.mp_defs.specs.Profile.{matrix_profile};
 
-use crate::narrow::NarrowTiles;
-use crate::scales::{Scale, find_scale};
-use crate::scans::scan_own_by;
+use crate::offers::OnBothSides;
+use crate::scans::scan_tile;
+use crate::sides::Sides;
 use mp_cuts::{Cut, MAX_TILE, MAX_TILES, cut_own};
 use mp_nums::{Memory, Sample};
 use mp_partial::{Kernel, Profile, run_in_order};
+use mp_scans::Plan;
 use mp_series::{MAX_SAMPLES, MAX_WINDOW, MIN_WINDOW, excl, windows};
+use mp_sums::Grid;
 use std::alloc::Global;
 use std::marker::Model;
 
-/// The tiles of a series as the pieces of a kernel, whose values together are the matrix profile.
-#[derive(Debug, Drop)]
+/// The tiles of a series as the pieces of a kernel, whose values together are both sides of the matrix profile.
+#[derive(Drop)]
 pub struct OwnTiles<'a> {
-    samples: &'a [Sample],
-    m: u32,
-    scale: Option<Scale>,
+    /// The windows, each a row and a column.
+    plan: Plan<'a>,
     cut: Cut,
 }
 
@@ -29,19 +30,17 @@ impl<'a> Model for OwnTiles<'a> {
 
     ghost Value = { OwnTiling };
 
-    ghost view = { λ own. record { samples = own.samples.now; m = own.m; tiles = own.cut } };
+    ghost view = { λ own. record { samples = own.plan.grid.rows.now; m = own.plan.grid.m; tiles = own.cut } };
 
-    ghost invariant = { λ own. IsOwnTiling own.samples.now own.m own.scale own.cut };
+    ghost invariant = { λ own. IsOwnTiling own.plan own.cut };
 }
 
 impl<'a> OwnTiles<'a> {
     ghost use Rattle.mp_defs.specs.Window.{windows as windows_in, excl as zone};
     ghost use Rattle.mp_cuts.specs.Cutting.{own_tiles};
-    ghost use Rattle.mp_tiles.specs.Among.{columns_value};
-    ghost use Rattle.mp_tiles.specs.Pieces.{own_together};
+    ghost use Rattle.mp_tiles.specs.Pieces.{sides_value, own_together};
 
-    /// The tiles of at most `tile` diagonals of the samples' windows of length `m`. It looks at each sample once, and
-    /// takes no memory.
+    /// The tiles of at most `tile` diagonals of the samples' windows of length `m`. It takes no memory.
     pub fn new(samples: &'a [Sample], m: u32, tile: u32) -> OwnTiles<'a>
         requires shortest { MIN_WINDOW ≤ m }
         requires longest { m ≤ MAX_WINDOW }
@@ -52,13 +51,16 @@ impl<'a> OwnTiles<'a> {
         ensures m { result.m ≡ m }
         ensures tiles { result.tiles ≡ own_tiles (windows_in (length samples.now) m) (zone m) tile }
         ensures few { length result.tiles ≤ MAX_TILES }
-        ensures together { own_together result ≡ columns_value (matrix_profile m (series_of samples.now)) }
+        ensures together { own_together result ≡ sides_value (matrix_profile m (series_of samples.now)) }
     {
         let count = windows(samples.len() as u64, m);
+        let plan = Plan::of(Grid {
+            rows: samples,
+            columns: samples,
+            m: m as usize,
+        });
         OwnTiles {
-            samples,
-            m,
-            scale: find_scale(samples, samples, m as usize),
+            plan,
             cut: cut_own(count, excl(m), tile),
         }
     }
@@ -67,9 +69,9 @@ impl<'a> OwnTiles<'a> {
 impl<'a> Kernel for OwnTiles<'a> {
     ghost use Rattle.std.specs.Prelude.{length, slice_index_or};
     ghost use Rattle.mp_cuts.specs.Pairs.{has_pair, no_tile};
-    ghost use Rattle.mp_tiles.specs.Pieces.{own_size, own_value, value_has_columns};
+    ghost use Rattle.mp_tiles.specs.Pieces.{own_size, own_value, sides_have_columns};
 
-    type Out = Profile;
+    type Out = Sides;
 
     ghost size_of = { own_size };
 
@@ -78,24 +80,19 @@ impl<'a> Kernel for OwnTiles<'a> {
     ghost value_of = { own_value };
 
     ghost has_values = { λ own piece _.
-        value_has_columns (has_pair 0 (slice_index_or own.tiles piece no_tile)) own.m own.samples };
+        sides_have_columns (has_pair 0 (slice_index_or own.tiles piece no_tile)) own.m own.samples };
 
     fn size(&self) -> u64 {
-        windows(self.samples.len() as u64, self.m)
+        windows(self.plan.grid.rows.len() as u64, self.plan.rounding.m)
     }
 
     fn pieces(&self) -> u64 {
         self.cut.count()
     }
 
-    fn run(&self, piece: u64, into: &mut Profile) {
-        scan_own_by(
-            self.samples,
-            self.m,
-            self.scale,
-            &self.cut.tile(piece),
-            into,
-        );
+    fn run(&self, piece: u64, into: &mut Sides) {
+        let _windows = into.len();
+        scan_tile::<OnBothSides>(&self.plan, &self.cut.tile(piece), into);
     }
 }
 
@@ -111,11 +108,7 @@ pub fn profile(alloc: Global, samples: &[Sample], m: u32, tile: u32) -> Result<P
     ensures left { IfOk result (λ p. p.left ≡ (matrix_profile m (series_of samples.now)).left) }
     ensures right { IfOk result (λ p. p.right ≡ (matrix_profile m (series_of samples.now)).right) }
 {
-    match NarrowTiles::new(alloc, samples, m, tile)? {
-        Some(tiles) => {
-            let room = Profile::with_capacity(alloc, tiles.size())?;
-            Ok(run_in_order(alloc, &tiles)?.profile(room))
-        }
-        None => run_in_order(alloc, &OwnTiles::new(samples, m, tile)),
-    }
+    let tiles = OwnTiles::new(samples, m, tile);
+    let room = Profile::with_capacity(alloc, tiles.size())?;
+    Ok(run_in_order(alloc, &tiles)?.profile(room))
 }

@@ -1,29 +1,14 @@
-//! Profiles along diagonals: each tile of a cut of the pairs of windows is scanned with running sums.
+//! Profiles along diagonals: each tile of a cut of the pairs of windows is scanned.
 #![tactic(auto)]
 
-mod blocks;
-mod columns;
-mod diagonals;
-mod firsts;
-mod found;
-mod groups;
 mod joins;
 mod kernels;
 mod laws;
-mod levels;
 mod limits;
-mod lows;
-mod narrow;
 mod offers;
-mod runs;
-mod scales;
+mod plans;
 mod scans;
 mod sides;
-mod strips;
-mod sweeps;
-mod tracks;
-mod vectors;
-mod windows;
 
 pub use joins::{JoinTiles, join};
 pub use kernels::{OwnTiles, profile};
@@ -32,6 +17,5 @@ pub use mp_cuts::{
     Cut, MAX_ROWS, MAX_TILE, MAX_TILES, Tile, cut_both, cut_own, cuts_hold_each_pair_once,
     worked_cuts,
 };
-pub use narrow::NarrowTiles;
-pub use scans::{scan_both, scan_on_bench, scan_own, scan_patch};
+pub use scans::{scan_both, scan_own, scan_patch};
 pub use sides::Sides;

@@ -1,81 +1,84 @@
 //! How the windows of a pair are offered: each to the other, or one of them to the other.
 
-ghost use Rattle.std.specs.Prelude.{◌≡◌, ℕ, ◌<◌, Bool, Some};
+ghost use Rattle.std.specs.Prelude.{◌≡◌, ℕ, ◌<◌, length, Some};
 ghost use Rattle.mp_defs.specs.Series.{Series};
 ghost use Rattle.mp_defs.specs.Distance.{distance};
 ghost use Rattle.mp_defs.specs.Profile.{windows_of};
-ghost use Rattle.mp_tiles.specs.Pairs.{only};
-ghost use Rattle.mp_tiles.specs.Offering.{IsOffering};
+ghost use Rattle.mp_partial.specs.Values.{offered};
+ghost use Rattle.mp_scans.specs.Offering.{only};
+ghost use Rattle.mp_tiles.specs.OfferingLaws.{fits_sides, may_sides, is_scanned_sides, on_both_sides};
 ghost use Rattle.mp_tiles.specs.OfferingLaws.{fits_each, may_each, is_scanned_each, each_to_other};
 ghost use Rattle.mp_tiles.specs.OfferingLaws.{fits_rows, may_row, is_scanned_rows, column_to_row};
 ghost use Rattle.mp_tiles.specs.OfferingLaws.{fits_columns, may_column, is_scanned_columns, row_to_column};
-ghost use Rattle.mp_partial.specs.Patching.{Patched};
 ghost use Rattle.mp_tiles.specs.PatchScanning.{HasTakenFrom, fits_patch, may_patch, is_scanned_patch};
 ghost use Rattle.mp_tiles.specs.PatchScanning.{keeps_row_patch, keeps_column_patch};
 ghost use Rattle.mp_tiles.specs.PatchLaws.{patch_offers, patch_limits};
-ghost use Rattle.mp_tiles.specs.Limits.{IsReach, IsLimiting};
+ghost use Rattle.mp_tiles.specs.LimitLaws.{keeps_row_sides, keeps_column_sides, side_limits};
 ghost use Rattle.mp_tiles.specs.LimitLaws.{keeps_row_each, keeps_column_each, each_limits};
-ghost use Rattle.mp_tiles.specs.LimitLaws.{keeps_slot, keeps_all, row_limits, column_limits};
+ghost use Rattle.mp_tiles.specs.LimitLaws.{keeps_row_slot, keeps_column_slot, keeps_all, row_limits, column_limits};
 
-use crate::limits::reach_at;
-use mp_nums::{Slots, Sq};
-use mp_partial::{Patch, Profile, offer_at};
+use crate::limits::{either, limit_at};
+use crate::sides::Sides;
+use mp_nums::{Near, Slot, Sq, nearer};
+use mp_partial::{Patch, Profile};
+use mp_scans::Offers;
+use mp_sums::Limit;
 
-/// A way to offer the windows of a pair. One window of the pair is a row and one a column.
-pub(crate) trait Offers {
-    /// What keeps the nearest windows.
-    type Into;
+/// Each of two windows of one series is offered to the other, on the side on which it starts.
+pub(crate) struct OnBothSides;
 
-    /// How far a column starts behind its row, at least.
-    ghost least: { ℕ };
-
-    /// There are places for the windows of these series, the first of which has the rows.
-    ghost fits: { ℕ → Series → Series → Self.Into → Type 0 };
-
-    /// A row and a column have their places.
-    ghost may_offer: { Self.Into → ℕ → ℕ → Type 0 };
-
-    /// The second has what the first one had, and what these pairs of windows of the series give.
-    ghost is_scanned: { ℕ → Series → Series → (ℕ → ℕ → Bool) → Self.Into → Self.Into → Type 0 };
-
-    /// The windows that start at `row` and at `column` have this distance.
-    fn offer(into: &mut Self::Into, row: u64, column: u64, dist: Sq)
-        requires { may_offer into.old row column }
-        ensures { (m : ℕ) (a b : Series) → fits m a b into.old → row < windows_of m a → column < windows_of m b
-            → distance m a row b column ≡ Some dist.0 → is_scanned m a b (only row column) into.old into.new };
-
-    /// A window at a distance gives the row nothing.
-    ghost keeps_row: { Self.Into → ℕ → ℕ → ℕ → Type 0 };
-
-    /// The same of the column.
-    ghost keeps_column: { Self.Into → ℕ → ℕ → ℕ → Type 0 };
-
-    /// The distance above which a column gives the row nothing, as far as 63 bits tell it.
-    fn row_limit(into: &Self::Into, row: u64) -> i64
-        ensures { IsReach (keeps_row into.now row) result };
-
-    /// The distance above which a row gives the column nothing, as far as 63 bits tell it.
-    fn column_limit(into: &Self::Into, column: u64) -> i64
-        ensures { IsReach (keeps_column into.now column) result };
-
-    /// Offers of more pairs give what these pairs give together.
-    ghost laws: { IsOffering least fits may_offer is_scanned };
-
-    /// Distances above the limits give nothing.
-    ghost limits: { IsLimiting least fits is_scanned keeps_row keeps_column };
-}
-
-/// Each of two windows of one series is offered to the other.
+/// Each of two windows of one series is offered to the other, on its side and among all.
 pub(crate) struct EachToOther;
 
 /// Each is offered to the other, where a patch has a slot for it.
 pub(crate) struct EachInPatch;
 
-/// The column is offered to the row.
-pub(crate) struct ColumnToRow;
+/// The column is offered to the row. The slots are those of the rows.
+#[derive(Drop)]
+pub(crate) struct ColumnToRow<'a> {
+    pub(crate) slots: &'a mut [Slot],
+}
 
-/// The row is offered to the column.
-pub(crate) struct RowToColumn;
+/// The row is offered to the column. The slots are those of the columns.
+#[derive(Drop)]
+pub(crate) struct RowToColumn<'a> {
+    pub(crate) slots: &'a mut [Slot],
+}
+
+impl Offers for OnBothSides {
+    type Into = Sides;
+
+    ghost least = { 1 };
+
+    ghost fits = { fits_sides };
+
+    ghost may_offer = { may_sides };
+
+    ghost is_scanned = { is_scanned_sides };
+
+    ghost laws = { on_both_sides };
+
+    ghost keeps_row = { keeps_row_sides };
+
+    ghost keeps_column = { keeps_column_sides };
+
+    ghost limits = { side_limits };
+
+    #[inline]
+    fn offer(into: &mut Sides, row: u64, column: u64, dist: Sq) {
+        into.offer(row, column, dist);
+    }
+
+    #[inline]
+    fn row_limit(into: &Sides, row: u64, first: u64) -> Limit {
+        limit_at(into.right(), row, first)
+    }
+
+    #[inline]
+    fn column_limit(into: &Sides, column: u64, first: u64) -> Limit {
+        limit_at(into.left(), column, first)
+    }
+}
 
 impl Offers for EachToOther {
     type Into = Profile;
@@ -103,13 +106,15 @@ impl Offers for EachToOther {
     }
 
     #[inline]
-    fn row_limit(into: &Profile, row: u64) -> i64 {
-        reach_at(into.right(), row).max(reach_at(into.all(), row))
+    fn row_limit(into: &Profile, row: u64, first: u64) -> Limit {
+        let later = limit_at(into.right(), row, first);
+        either(later, limit_at(into.all(), row, first))
     }
 
     #[inline]
-    fn column_limit(into: &Profile, column: u64) -> i64 {
-        reach_at(into.left(), column).max(reach_at(into.all(), column))
+    fn column_limit(into: &Profile, column: u64, first: u64) -> Limit {
+        let earlier = limit_at(into.left(), column, first);
+        either(earlier, limit_at(into.all(), column, first))
     }
 }
 
@@ -169,18 +174,32 @@ impl Offers for EachInPatch {
     }
 
     #[inline]
-    fn row_limit(into: &Patch, row: u64) -> i64 {
-        reach_at(into.rows(), row.saturating_sub(into.first_row()))
+    fn row_limit(into: &Patch, row: u64, first: u64) -> Limit {
+        limit_at(into.rows(), row.saturating_sub(into.first_row()), first)
     }
 
     #[inline]
-    fn column_limit(into: &Patch, column: u64) -> i64 {
-        reach_at(into.columns(), column.saturating_sub(into.first_column()))
+    fn column_limit(into: &Patch, column: u64, first: u64) -> Limit {
+        limit_at(
+            into.columns(),
+            column.saturating_sub(into.first_column()),
+            first,
+        )
     }
 }
 
-impl Offers for ColumnToRow {
-    type Into = Slots;
+/// Keeps the nearer of what stands at a place and of window `index` at a distance.
+#[inline]
+fn offer_slot(slots: &mut [Slot], place: u64, index: u64, dist: Sq)
+    requires { place < length slots.old }
+    ensures { slots.new ≡ offered slots.old place (record { dist = dist; index = index }) }
+{
+    let slot = &mut slots[place as usize];
+    *slot = nearer(*slot, Some(Near { dist, index }));
+}
+
+impl<'a> Offers for ColumnToRow<'a> {
+    type Into = ColumnToRow<'a>;
 
     ghost least = { 0 };
 
@@ -192,30 +211,30 @@ impl Offers for ColumnToRow {
 
     ghost laws = { column_to_row };
 
-    ghost keeps_row = { keeps_slot };
+    ghost keeps_row = { keeps_row_slot };
 
     ghost keeps_column = { keeps_all };
 
     ghost limits = { row_limits };
 
     #[inline]
-    fn offer(into: &mut Slots, row: u64, column: u64, dist: Sq) {
-        offer_at(into, row, column, dist);
+    fn offer(into: &mut ColumnToRow<'a>, row: u64, column: u64, dist: Sq) {
+        offer_slot(into.slots, row, column, dist);
     }
 
     #[inline]
-    fn row_limit(into: &Slots, row: u64) -> i64 {
-        reach_at(into.as_slice(), row)
+    fn row_limit(into: &ColumnToRow<'a>, row: u64, first: u64) -> Limit {
+        limit_at(into.slots, row, first)
     }
 
     #[inline]
-    fn column_limit(_into: &Slots, _column: u64) -> i64 {
-        0
+    fn column_limit(_into: &ColumnToRow<'a>, _column: u64, _first: u64) -> Limit {
+        Limit::Below(Sq(0))
     }
 }
 
-impl Offers for RowToColumn {
-    type Into = Slots;
+impl<'a> Offers for RowToColumn<'a> {
+    type Into = RowToColumn<'a>;
 
     ghost least = { 0 };
 
@@ -229,22 +248,22 @@ impl Offers for RowToColumn {
 
     ghost keeps_row = { keeps_all };
 
-    ghost keeps_column = { keeps_slot };
+    ghost keeps_column = { keeps_column_slot };
 
     ghost limits = { column_limits };
 
     #[inline]
-    fn offer(into: &mut Slots, row: u64, column: u64, dist: Sq) {
-        offer_at(into, column, row, dist);
+    fn offer(into: &mut RowToColumn<'a>, row: u64, column: u64, dist: Sq) {
+        offer_slot(into.slots, column, row, dist);
     }
 
     #[inline]
-    fn row_limit(_into: &Slots, _row: u64) -> i64 {
-        0
+    fn row_limit(_into: &RowToColumn<'a>, _row: u64, _first: u64) -> Limit {
+        Limit::Below(Sq(0))
     }
 
     #[inline]
-    fn column_limit(into: &Slots, column: u64) -> i64 {
-        reach_at(into.as_slice(), column)
+    fn column_limit(into: &RowToColumn<'a>, column: u64, first: u64) -> Limit {
+        limit_at(into.slots, column, first)
     }
 }

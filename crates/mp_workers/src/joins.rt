@@ -9,7 +9,7 @@ use mp_nums::{Memory, Sample, Slots};
 use mp_outside::Gate;
 use mp_partial::{Kernel, MAX_WORKERS, Profile};
 use mp_series::{MAX_SAMPLES, MAX_WINDOW, MIN_WINDOW};
-use mp_tiles::{JoinTiles, MAX_TILE, NarrowTiles, OwnTiles};
+use mp_tiles::{JoinTiles, MAX_TILE, OwnTiles};
 use std::alloc::Global;
 use std::thread::Threads;
 
@@ -35,16 +35,9 @@ pub fn self_join<R: Threads + Sync, G: Gate>(
     ensures left { IfOk result (λ p. p.left ≡ (matrix_profile m (series_of samples.now)).left) }
     ensures right { IfOk result (λ p. p.right ≡ (matrix_profile m (series_of samples.now)).right) }
 {
-    match NarrowTiles::new(alloc, samples, m, tile)? {
-        Some(tiles) => {
-            let room = Profile::with_capacity(alloc, tiles.size())?;
-            Ok(run_all(rt, alloc, &tiles, tiles.pieces(), workers, gate)?.profile(room))
-        }
-        None => {
-            let tiles = OwnTiles::new(samples, m, tile);
-            run_all(rt, alloc, &tiles, tiles.pieces(), workers, gate)
-        }
-    }
+    let tiles = OwnTiles::new(samples, m, tile);
+    let room = Profile::with_capacity(alloc, tiles.size())?;
+    Ok(run_all(rt, alloc, &tiles, tiles.pieces(), workers, gate)?.profile(room))
 }
 
 /// The AB-join at window length `m`: for each window of `a` its nearest window in `b`, without an exclusion zone,

@@ -8,7 +8,7 @@ use mp_nums::{Memory, Near, Sample, Slot, Slots, Sq};
 use mp_partial::{Bench, Part, Patch, Profile};
 use mp_plain::Columns;
 use mp_series::{MAX_WINDOW, MIN_WINDOW, excl, windows};
-use mp_tiles::{Cut, MAX_TILE, Tile, cut_both, cut_own, join, profile, scan_on_bench};
+use mp_tiles::{Cut, MAX_TILE, Tile, cut_both, cut_own, join, profile, scan_own, scan_patch};
 use std::alloc::Global;
 use std::process::Abort;
 use std::test::Fail;
@@ -225,8 +225,8 @@ fn expect_profile<R: Abort + AllocGlobal>(
 fn tiles_give_what_every_pair_gives(rt: HostRuntime) -> Result<(), Fail> {
     for seed in 0..6 {
         let samples = ties(rt.alloc(), 40 + 61 * seed, seed)?;
-        for m in [3, 20] {
-            expect_profile(&rt, samples.as_slice(), m, &[1, 7, 65, 256])?;
+        for m in [3, 20, 40] {
+            expect_profile(&rt, samples.as_slice(), m, &[1, 65, 256])?;
         }
     }
     Ok(())
@@ -241,46 +241,52 @@ fn long_series_give_what_every_pair_gives(rt: HostRuntime) -> Result<(), Fail> {
     Ok(())
 }
 
-/// Scans each of the tiles into a patch.
-fn scan_each(samples: &[Sample], m: u32, tile: u32, bench: &mut Bench)
+/// Scans each of the tiles into a profile and into a patch.
+fn scan_each(samples: &[Sample], m: u32, tile: u32, profile: &mut Profile, patch: &mut Patch)
     requires shortest { MIN_WINDOW ≤ m }
     requires longest { m ≤ MAX_WINDOW }
     requires samples { length samples.now ≤ MAX_SAMPLES }
     requires least { 1 ≤ tile }
     requires greatest { tile ≤ MAX_TILE }
-    requires places { length bench.old.profile.all ≡ windows_in (length samples.now) m }
+    requires places { length profile.old.all ≡ windows_in (length samples.now) m }
 {
-    let cut = cut_own(bench.profile.len(), excl(m), tile);
+    let cut = cut_own(profile.len(), excl(m), tile);
     for k in 0..cut.count() {
-        scan_on_bench(samples, m, &cut.tile(k), bench);
+        scan_own(samples, m, &cut.tile(k), profile);
+        scan_patch(samples, m, &cut.tile(k), patch);
     }
 }
 
-/// Expects the profile by patches to be what every pair gives.
-fn expect_patches(
+/// Expects the profile by scans, and both sides of a patch of all windows, to be what every pair gives.
+fn expect_scans(
     rt: &impl Abort,
     alloc: Global,
     samples: &[Sample],
     tile: u32,
     every: &Columns,
 ) -> Result<(), Fail>
-    requires samples { length samples.now ≤ MAX_SAMPLES }
+    requires samples { length samples.now ≤ 330 }
     requires least { 1 ≤ tile }
     requires greatest { tile ≤ MAX_TILE }
 {
-    let mut bench: Bench = unit(alloc, windows(samples.len() as u64, 20))?;
-    scan_each(samples, 20, tile, &mut bench);
-    expect_columns(rt, &bench.profile, every);
+    let size = windows(samples.len() as u64, 20);
+    let mut profile: Profile = unit(alloc, size)?;
+    let mut patch = Patch::new(alloc)?;
+    patch.start(0, size, 0, size);
+    scan_each(samples, 20, tile, &mut profile, &mut patch);
+    expect_columns(rt, &profile, every);
+    assert_eq!(rt; patch.rows(), every.right.as_slice());
+    assert_eq!(rt; patch.columns(), every.left.as_slice());
     Ok(())
 }
 
 #[test]
-fn patches_give_what_every_pair_gives(rt: HostRuntime) -> Result<(), Fail> {
+fn scans_give_what_every_pair_gives(rt: HostRuntime) -> Result<(), Fail> {
     for (low, high) in [(-3, 4), (i32::MIN, i32::MAX)] {
         let samples = spread(rt.alloc(), 330, low, high)?;
         let every = mp_plain::profile(rt.alloc(), samples.as_slice(), 20)?;
-        for tile in [1, 65, 256, 65_536] {
-            expect_patches(&rt, rt.alloc(), samples.as_slice(), tile, &every)?;
+        for tile in [1, 65, 65_536] {
+            expect_scans(&rt, rt.alloc(), samples.as_slice(), tile, &every)?;
         }
     }
     Ok(())
@@ -320,17 +326,24 @@ fn joins_give_what_every_pair_gives(rt: HostRuntime) -> Result<(), Fail> {
     Ok(())
 }
 
-/// Window lengths, and the least and the greatest of the numbers. At window 8 numbers that lie 2^30 - 1 apart have sums
-/// below 2^63, and those that lie further apart may not. At window 9 the greatest range is 1,012,333,498.
-static RANGES: [(u32, i32, i32); 8] = [
-    (8, 0, 1_073_741_823),
-    (8, i32::MIN, i32::MIN + 1_073_741_823),
-    (8, 0, 1_073_741_824),
-    (8, i32::MIN, i32::MIN + 1_073_741_824),
-    (9, 0, 1_012_333_498),
-    (9, i32::MIN, i32::MIN + 1_012_333_498),
+#[test]
+fn long_joins_give_what_every_pair_gives(rt: HostRuntime) -> Result<(), Fail> {
+    let a = spread(rt.alloc(), 1_100, -3, 4)?;
+    let b = spread(rt.alloc(), 700, -3, 4)?;
+    let (a, b) = (a.as_slice(), b.as_slice());
+    expect_join(&rt, a, b, 5, &[40, 65_536])?;
+    expect_join(&rt, b, a, 5, &[600])
+}
+
+/// Window lengths, and the least and the greatest of the numbers. At window 8 numbers that lie 23,170 apart have sums
+/// below 2^32, and those that lie further apart may not.
+static RANGES: [(u32, i32, i32); 6] = [
+    (3, 0, 1),
+    (8, 0, 23_170),
+    (8, i32::MIN, i32::MIN + 23_171),
     (9, 0, 1_012_333_499),
-    (9, i32::MIN, i32::MAX),
+    (40, i32::MIN, i32::MIN + 1_073_741_823),
+    (40, i32::MIN, i32::MAX),
 ];
 
 /// Expects the profile and a join at samples in such a range to be what every pair gives.
@@ -338,14 +351,14 @@ fn expect_within<R: Abort + AllocGlobal>(rt: &R, m: u32, low: i32, high: i32) ->
     requires shortest { MIN_WINDOW ≤ m }
     requires longest { m ≤ MAX_WINDOW }
 {
-    let samples = spread(rt.alloc(), 90, low, high)?;
-    let (a, b) = samples.as_slice().split_at(40);
+    let samples = spread(rt.alloc(), 180, low, high)?;
+    let (a, b) = samples.as_slice().split_at(80);
     expect_profile(rt, samples.as_slice(), m, &[256])?;
     expect_join(rt, a, b, m, &[256])
 }
 
 #[test]
-fn ranges_on_both_sides_of_64_bits(rt: HostRuntime) -> Result<(), Fail> {
+fn ranges_give_what_every_pair_gives(rt: HostRuntime) -> Result<(), Fail> {
     for (m, low, high) in &RANGES {
         assert!(rt; MIN_WINDOW <= *m && *m <= MAX_WINDOW);
         expect_within(&rt, *m, *low, *high)?;

@@ -1,0 +1,70 @@
+-- Pairs of windows, and whether they have a distance.
+use Rattle.std.proofs.Common.{false, ◌≡◌, ℕ, ◌+◌, ◌<◌, ◌≤◌, List, length, true, refl, sym, ap, ◌∙◌, arith}
+use Rattle.std.specs.Prelude.{Option, Some, None, IsTrue, IsSome}
+use Rattle.std.proofs.lemmas.List.{length-map}
+use Rattle.std.specs.Prelude.{◌||◌}
+use Rattle.std.proofs.lemmas.Bool.Decides.{nat_tests}
+use Rattle.mp_scans.specs.Offering.{only, in_row}
+use Rattle.mp_nums.specs.declared.samples.Sample.{Sample}
+use Rattle.mp_defs.specs.Series.{Series, reading_of, series_of}
+use Rattle.mp_defs.specs.Window.{is_free}
+use Rattle.mp_defs.specs.Distance.{distance}
+use Rattle.mp_defs.specs.Profile.{windows_of}
+use Rattle.mp_defs.specs.DistanceLaws.{of_free_windows}
+
+-- a window lies in its series
+pub window_within : (m : ℕ) (samples : List Sample) (i : ℕ) → 1 ≤ m → i < windows_of m (series_of samples)
+    → i + m ≤ length samples
+window_within m samples i some lt = omega (arith, lt, length-map samples reading_of)
+
+-- what a distance may be
+record IsThere (d : Option ℕ) : Type 0 where
+  dist : ℕ
+  is : d ≡ Some dist
+
+there : (d : Option ℕ) → IsSome d → IsThere d
+there None h = absurd (cc)
+there (Some x) h = record { dist = x; is = refl }
+
+pub free_distance : (m : ℕ) (a b : Series) (i j d : ℕ) → is_free m a i ≡ true → is_free m b j ≡ true
+    → ((x : ℕ) → distance m a i b j ≡ Some x → d ≡ x) → distance m a i b j ≡ Some d
+free_distance m a b i j d e f h =
+    let t = there (distance m a i b j) ((of_free_windows m a i b j).1 (e, f)) in
+    t.is ∙ ap Some (sym (h t.dist t.is))
+
+none_of : (d : Option ℕ) (P : Type 0) → (IsSome d → P) → (P → ⊥) → d ≡ None
+none_of None P h k = refl
+none_of (Some x) P h k = absurd (k (h refl))
+
+pub no_distance : (m : ℕ) (a b : Series) (i j : ℕ)
+    → (is_free m a i ≡ true → is_free m b j ≡ true → ⊥) → distance m a i b j ≡ None
+no_distance m a b i j h =
+    none_of (distance m a i b j) (IsTrue (is_free m a i) × IsTrue (is_free m b j)) (of_free_windows m a i b j).0
+    (λ both. h both.0 both.1)
+
+-- ---- a row, column by column
+
+pub no_columns : (r c d i j : ℕ) → d ≤ c → in_row r c d i j ≡ false
+no_columns r c d i j le = grind (arith, nat_tests)
+
+pub one_column : (r c d d' e i j : ℕ) → c ≤ d → d' ≡ d → e ≡ d + 1
+    → (in_row r c d i j || only r d' i j) ≡ in_row r c e i j
+one_column r c d d' e i j le f g = grind (arith, nat_tests)
+
+-- ---- one column of the row first
+
+pub first_column : (r c d b r' b' i j : ℕ) → d ≤ c → r' ≡ r → b' ≡ b
+    → only r' b' i j ≡ (only r b i j || in_row r c d i j)
+first_column r c d b r' b' i j le e f = grind (arith, nat_tests)
+
+pub next_column : (r c d e b r' d' i j : ℕ) → c ≤ d → e ≡ d + 1 → r' ≡ r → d' ≡ d
+    → ((only r b i j || in_row r c d i j) || only r' d' i j) ≡ (only r b i j || in_row r c e i j)
+next_column r c d e b r' d' i j le f g h = grind (arith, nat_tests)
+
+pub taken_column : (r c d e b i j : ℕ) → c ≤ d → b ≡ d → e ≡ d + 1
+    → (only r b i j || in_row r c d i j) ≡ (only r b i j || in_row r c e i j)
+taken_column r c d e b i j le f g = grind (arith, nat_tests)
+
+pub all_columns : (r c d b e i j : ℕ) → c ≤ b → b < e → d ≡ e
+    → (only r b i j || in_row r c d i j) ≡ in_row r c e i j
+all_columns r c d b e i j le lt f = grind (arith, nat_tests)

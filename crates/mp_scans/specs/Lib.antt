@@ -1,0 +1,7 @@
+pub mod Lanes
+pub mod Free
+pub mod Exacts
+pub mod Blocks
+pub mod Offering
+pub mod Slots
+pub mod Limiting

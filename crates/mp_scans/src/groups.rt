@@ -1,0 +1,242 @@
+//! Groups of diagonals, block by block.
+
+ghost use Rattle.std.specs.Prelude.{◌≡◌, ◌+◌, ◌-◌, ◌*◌, ◌^◌, ◌<◌, ◌≤◌, length};
+ghost use Rattle.std.specs.Int.{div_ceil};
+ghost use Rattle.mp_defs.specs.Series.{series_of};
+ghost use Rattle.mp_defs.specs.Profile.{windows_of};
+ghost use Rattle.mp_scans.specs.Blocks.{AreStripResidues, FitIn, AreScannedIn};
+ghost use Rattle.mp_scans.specs.Exacts.{AreExacts, AreExactsIn};
+ghost use Rattle.mp_scans.specs.Limiting.{AreLimits, first_on};
+ghost use Rattle.mp_scans.specs.Offering.{in_block};
+ghost use Rattle.mp_scans.specs.declared.sizes.TheConstants.{GROUP, ROWS};
+
+use crate::blocks::{Block, Changes, Strip};
+use crate::exacts::{Exact, clear_exacts};
+use crate::firsts::{fill_windows, start_residues};
+use crate::limits::{fill_column_limits, fill_row_limits};
+use crate::marks::mark_free;
+use crate::offers::Offers;
+use crate::plans::{Plan, count_columns};
+use crate::sizes::{COLUMNS, GROUP, ROWS};
+use crate::strips::scan_strip;
+use crate::vectors::LANES;
+use mp_sums::NEVER;
+
+/// Successive diagonals of two series, from `first` on.
+#[derive(Clone, Copy)]
+pub(crate) struct Group<'a> {
+    pub(crate) plan: Plan<'a>,
+    pub(crate) first: usize,
+    /// How many there are.
+    pub(crate) width: usize,
+    ghost some: { 1 ≤ width },
+    ghost few: { width ≤ GROUP },
+}
+
+/// Takes the pairs of a block, strip by strip. The last strip has a column's first rows, and so comes first: a later row
+/// at the same distance gives the column nothing.
+fn scan_strips<O: Offers>(
+    block: &Block,
+    row_limits: &mut [i32],
+    column_limits: &mut [i32],
+    residues: &mut [i32],
+    exacts: &mut [Option<Exact>],
+    into: &mut O::Into,
+)
+    requires strips { length residues.old ≡ div_ceil block.now.width 32 * 32 }
+    requires apart { block.now.row + O.least ≤ block.now.column }
+    requires residues { AreStripResidues block.now.grid block.now.rounding.shift block.now.row block.now.column
+        residues.old }
+    requires exacts { AreExactsIn block.now exacts.old }
+    requires fits { FitIn O.fits block.now into.old }
+    requires limits { AreLimits block.now (O.keeps_row into.old) (O.keeps_column into.old)
+        (first_on (div_ceil block.now.width 32 * 32)) row_limits.old column_limits.old }
+    ensures exacts { AreExactsIn block.now exacts.new }
+    ensures scanned { AreScannedIn O.is_scanned block.now (in_block (block.now.column - block.now.row)
+        (block.now.column - block.now.row + block.now.width) block.now.row
+        (block.now.row + length block.now.rows.differences.now)) into.old into.new }
+    ensures residues { AreStripResidues block.now.grid block.now.rounding.shift
+        (block.now.row + length block.now.rows.differences.now)
+        (block.now.column + length block.now.rows.differences.now) residues.new }
+    ensures places { length residues.new ≡ length residues.old }
+{
+    let columns = count_columns(&block.grid);
+    let mut strips = block.width.div_ceil(LANES);
+    while strips > 0 {
+        strips -= 1;
+        let offset = strips * LANES;
+        let left = columns.saturating_sub(block.column + offset);
+        let width = (block.width - offset).min(LANES);
+        let end = block.rows.differences.len().min(left);
+        let strip = Strip {
+            block: *block,
+            offset,
+            width,
+            end,
+        };
+        scan_strip::<O>(&strip, row_limits, column_limits, residues, exacts, into);
+    }
+}
+
+/// Takes the pairs of a block.
+fn scan_block<O: Offers>(
+    block: &Block,
+    residues: &mut [i32],
+    exacts: &mut [Option<Exact>],
+    into: &mut O::Into,
+)
+    requires some { 1 ≤ block.now.width }
+    requires strips { length residues.old ≡ div_ceil block.now.width 32 * 32 }
+    requires apart { block.now.row + O.least ≤ block.now.column }
+    requires residues { AreStripResidues block.now.grid block.now.rounding.shift block.now.row block.now.column
+        residues.old }
+    requires exacts { AreExactsIn block.now exacts.old }
+    requires fits { FitIn O.fits block.now into.old }
+    ensures exacts { AreExactsIn block.now exacts.new }
+    ensures scanned { AreScannedIn O.is_scanned block.now (in_block (block.now.column - block.now.row)
+        (block.now.column - block.now.row + block.now.width) block.now.row
+        (block.now.row + length block.now.rows.differences.now)) into.old into.new }
+    ensures residues { AreStripResidues block.now.grid block.now.rounding.shift
+        (block.now.row + length block.now.rows.differences.now)
+        (block.now.column + length block.now.rows.differences.now) residues.new }
+    ensures places { length residues.new ≡ length residues.old }
+{
+    let (mut rows, mut columns) = ([NEVER; ROWS], [NEVER; COLUMNS]);
+    let row_limits = &mut rows[..block.rows.differences.len()];
+    let column_limits = &mut columns[..block.columns.differences.len()];
+    fill_row_limits::<O>(block, row_limits, into);
+    let width = block.width.div_ceil(LANES) * LANES;
+    fill_column_limits::<O>(block, width, column_limits, into);
+    scan_strips::<O>(block, row_limits, column_limits, residues, exacts, into);
+}
+
+/// Takes the pairs of as many rows from `row` on as `count` says, on the diagonals of a group.
+fn scan_rows<O: Offers>(
+    group: &Group,
+    row: usize,
+    count: usize,
+    residues: &mut [i32],
+    exacts: &mut [Option<Exact>],
+    into: &mut O::Into,
+)
+    requires some { 1 ≤ count }
+    requires few { count ≤ ROWS }
+    requires are_rows { row + count ≤ windows_of group.now.plan.grid.m (series_of group.now.plan.grid.rows.now) }
+    requires column { row + group.now.first < 2 ^ 31 }
+    requires strips { length residues.old ≡ div_ceil group.now.width 32 * 32 }
+    requires apart { O.least ≤ group.now.first }
+    requires residues { AreStripResidues group.now.plan.grid group.now.plan.rounding.shift row (row + group.now.first)
+        residues.old }
+    requires exacts { AreExacts group.now.plan.grid group.now.first exacts.old }
+    requires fits { O.fits group.now.plan.grid.m (series_of group.now.plan.grid.rows.now)
+        (series_of group.now.plan.grid.columns.now) into.old }
+    ensures exacts { AreExacts group.now.plan.grid group.now.first exacts.new }
+    ensures scanned { O.is_scanned group.now.plan.grid.m (series_of group.now.plan.grid.rows.now)
+        (series_of group.now.plan.grid.columns.now)
+        (in_block group.now.first (group.now.first + group.now.width) row (row + count)) into.old into.new }
+    ensures residues { AreStripResidues group.now.plan.grid group.now.plan.rounding.shift (row + count)
+        (row + group.now.first + count) residues.new }
+    ensures places { length residues.new ≡ length residues.old }
+{
+    let (grid, rounding) = (group.plan.grid, group.plan.rounding);
+    let column = row + group.first;
+    let columns = count + group.width.div_ceil(LANES) * LANES - 1;
+    let (mut row_differences, mut row_sums) = ([0; ROWS], [0; ROWS]);
+    let (mut column_differences, mut column_sums) = ([0; COLUMNS], [0; COLUMNS]);
+    let (mut free_rows, mut free_columns) = ([false; ROWS], [false; COLUMNS]);
+    fill_windows(
+        &rounding,
+        grid.rows,
+        row,
+        &mut row_differences[..count],
+        &mut row_sums[..count],
+    );
+    fill_windows(
+        &rounding,
+        grid.columns,
+        column,
+        &mut column_differences[..columns],
+        &mut column_sums[..columns],
+    );
+    mark_free(grid.rows, grid.m, row, &mut free_rows[..count]);
+    mark_free(grid.columns, grid.m, column, &mut free_columns[..columns]);
+    let block = Block {
+        grid,
+        rounding,
+        row,
+        column,
+        width: group.width,
+        rows: Changes {
+            differences: &row_differences[..count],
+            sums: &row_sums[..count],
+        },
+        columns: Changes {
+            differences: &column_differences[..columns],
+            sums: &column_sums[..columns],
+        },
+        free_rows: &free_rows[..count],
+        free_columns: &free_columns[..columns],
+    };
+    scan_block::<O>(&block, residues, exacts, into);
+}
+
+/// Takes the pairs of the rows from `top` on and before `bottom` on the diagonals of a group. Each strip of these has
+/// thirty-two places for residues.
+fn scan_group_by<O: Offers>(
+    group: &Group,
+    top: usize,
+    bottom: usize,
+    residues: &mut [i32],
+    exacts: &mut [Option<Exact>],
+    into: &mut O::Into,
+)
+    requires top { top ≤ bottom }
+    requires bottom { bottom ≤ windows_of group.now.plan.grid.m (series_of group.now.plan.grid.rows.now) }
+    requires within { top + group.now.first ≤ windows_of group.now.plan.grid.m
+        (series_of group.now.plan.grid.columns.now) }
+    requires strips { length residues.old ≡ div_ceil group.now.width 32 * 32 }
+    requires apart { O.least ≤ group.now.first }
+    requires diagonals { length exacts.old ≡ GROUP }
+    requires fits { O.fits group.now.plan.grid.m (series_of group.now.plan.grid.rows.now)
+        (series_of group.now.plan.grid.columns.now) into.old }
+    ensures scanned { O.is_scanned group.now.plan.grid.m (series_of group.now.plan.grid.rows.now)
+        (series_of group.now.plan.grid.columns.now)
+        (in_block group.now.first (group.now.first + group.now.width) top bottom) into.old into.new }
+{
+    clear_exacts(exacts);
+    start_residues(&group.plan, top, top + group.first, residues);
+    let columns = count_columns(&group.plan.grid);
+    let end = bottom.min(columns - group.first);
+    let mut row = top;
+    while row < end {
+        let count = (end - row).min(ROWS);
+        scan_rows::<O>(group, row, count, residues, exacts, into);
+        row += count;
+    }
+}
+
+/// Takes the pairs of the rows from `top` on and before `bottom` on the diagonals of a group.
+pub(crate) fn scan_group<O: Offers>(group: &Group, top: usize, bottom: usize, into: &mut O::Into)
+    requires top { top ≤ bottom }
+    requires bottom { bottom ≤ windows_of group.now.plan.grid.m (series_of group.now.plan.grid.rows.now) }
+    requires within { top + group.now.first ≤ windows_of group.now.plan.grid.m
+        (series_of group.now.plan.grid.columns.now) }
+    requires apart { O.least ≤ group.now.first }
+    requires fits { O.fits group.now.plan.grid.m (series_of group.now.plan.grid.rows.now)
+        (series_of group.now.plan.grid.columns.now) into.old }
+    ensures scanned { O.is_scanned group.now.plan.grid.m (series_of group.now.plan.grid.rows.now)
+        (series_of group.now.plan.grid.columns.now)
+        (in_block group.now.first (group.now.first + group.now.width) top bottom) into.old into.new }
+{
+    let mut residues = [0; GROUP];
+    let places = group.width.div_ceil(LANES) * LANES;
+    let mut exacts = [None; GROUP];
+    scan_group_by::<O>(
+        group,
+        top,
+        bottom,
+        &mut residues[..places],
+        &mut exacts,
+        into,
+    );
+}

@@ -1,0 +1,91 @@
+//! The limits of a block's rows and columns, as residues.
+
+ghost use Rattle.std.specs.Prelude.{◌≡◌, ℕ, ◌+◌, ◌<◌, ◌≤◌, length, FitsSigned};
+ghost use Rattle.std.specs.Int.{w32};
+ghost use Rattle.mp_defs.specs.Series.{series_of};
+ghost use Rattle.mp_defs.specs.Window.{is_free};
+ghost use Rattle.mp_sums.specs.Residues.{item};
+ghost use Rattle.mp_scans.specs.Limiting.{IsRowLimit, IsColumnLimit, first_on};
+
+use crate::blocks::Block;
+use crate::offers::Offers;
+use mp_sums::NEVER;
+
+/// Whether no sample of a row is missing.
+#[inline]
+pub(crate) fn is_row_free(block: &Block, p: usize) -> bool
+    requires { p < length block.now.rows.differences.now }
+    ensures { result ≡ is_free block.now.grid.m (series_of block.now.grid.rows.now) (block.now.row + p) }
+{
+    block.free_rows[p]
+}
+
+/// Whether no sample of a column is missing.
+#[inline]
+pub(crate) fn is_column_free(block: &Block, c: usize) -> bool
+    requires { c < length block.now.columns.differences.now }
+    ensures { result ≡ is_free block.now.grid.m (series_of block.now.grid.columns.now) (block.now.column + c) }
+{
+    block.free_columns[c]
+}
+
+/// The limit of a row. Where a sample of it is missing, no pair passes.
+#[inline]
+pub(crate) fn row_limit<O: Offers>(block: &Block, p: usize, into: &O::Into) -> i32
+    requires row { p < length block.now.rows.differences.now }
+    ensures { IsRowLimit block.now (O.keeps_row into.now) p p result }
+{
+    if is_row_free(block, p) {
+        let first = block.column + p;
+        let limit = O::row_limit(into, (block.row + p) as u64, first as u64);
+        block.rounding.residue_limit(limit)
+    } else {
+        NEVER
+    }
+}
+
+/// The limit of a column to which rows from one on are still offered. Where a sample of it is missing, no pair passes.
+#[inline]
+pub(crate) fn column_limit<O: Offers>(block: &Block, first: usize, c: usize, into: &O::Into) -> i32
+    requires column { c < length block.now.columns.differences.now }
+    requires first { first ≤ c + 1 }
+    ensures { IsColumnLimit block.now (O.keeps_column into.now) first c result }
+{
+    if is_column_free(block, c) {
+        let (column, row) = (block.column + c, block.row + first);
+        let limit = O::column_limit(into, column as u64, row as u64);
+        block.rounding.residue_limit(limit)
+    } else {
+        NEVER
+    }
+}
+
+/// The limits of all rows.
+pub(crate) fn fill_row_limits<O: Offers>(block: &Block, limits: &mut [i32], into: &O::Into)
+    requires places { length limits.old ≡ length block.now.rows.differences.now }
+    ensures limits { (p : ℕ) → p < length limits.new
+        → IsRowLimit block.now (O.keeps_row into.now) p p (item limits.new p) }
+    ensures places { length limits.new ≡ length block.now.rows.differences.now }
+{
+    for p in 0..limits.len() {
+        limits[p] = row_limit::<O>(block, p, into);
+    }
+}
+
+/// The limits of all columns, to which rows are offered on the block's first diagonals, as many as `width` says.
+pub(crate) fn fill_column_limits<O: Offers>(
+    block: &Block,
+    width: usize,
+    limits: &mut [i32],
+    into: &O::Into,
+)
+    requires places { length limits.old ≡ length block.now.columns.differences.now }
+    ensures limits { (c : ℕ) → c < length limits.new
+        → IsColumnLimit block.now (O.keeps_column into.now) (first_on width c) c (item limits.new c) }
+    ensures fit { (c : ℕ) → c < length limits.new → FitsSigned w32 (item limits.new c) }
+    ensures places { length limits.new ≡ length block.now.columns.differences.now }
+{
+    for c in 0..limits.len() {
+        limits[c] = column_limit::<O>(block, (c + 1).saturating_sub(width), c, into);
+    }
+}

@@ -1,0 +1,55 @@
+//! How the windows of a pair are offered, and what of them is kept.
+
+ghost use Rattle.std.specs.Prelude.{ℕ, ◌<◌, ◌≤◌, ◌≡◌, Bool, Some};
+ghost use Rattle.mp_defs.specs.Series.{Series};
+ghost use Rattle.mp_defs.specs.Distance.{distance};
+ghost use Rattle.mp_defs.specs.Profile.{windows_of};
+ghost use Rattle.mp_sums.specs.Limits.{IsBeyond};
+ghost use Rattle.mp_scans.specs.Offering.{only, IsOffering, IsLimiting};
+
+use mp_nums::Sq;
+use mp_sums::Limit;
+
+/// A way to offer the windows of a pair. One window of the pair is a row and one a column.
+pub trait Offers {
+    /// What keeps the nearest windows.
+    type Into;
+
+    /// How far a column starts behind its row, at least.
+    ghost least: { ℕ };
+
+    /// There are places for the windows of these series, the first of which has the rows.
+    ghost fits: { ℕ → Series → Series → Self.Into → Type 0 };
+
+    /// A row and a column have their places.
+    ghost may_offer: { Self.Into → ℕ → ℕ → Type 0 };
+
+    /// The second has what the first one had, and what these pairs of windows of the series give.
+    ghost is_scanned: { ℕ → Series → Series → (ℕ → ℕ → Bool) → Self.Into → Self.Into → Type 0 };
+
+    /// The windows that start at `row` and at `column` have this distance.
+    fn offer(into: &mut Self::Into, row: u64, column: u64, dist: Sq)
+        requires { may_offer into.old row column }
+        ensures { (m : ℕ) (a b : Series) → fits m a b into.old → row < windows_of m a → column < windows_of m b
+            → distance m a row b column ≡ Some dist.0 → is_scanned m a b (only row column) into.old into.new };
+
+    /// A column at a distance gives the row nothing.
+    ghost keeps_row: { Self.Into → ℕ → ℕ → ℕ → Type 0 };
+
+    /// A row at a distance gives the column nothing.
+    ghost keeps_column: { Self.Into → ℕ → ℕ → ℕ → Type 0 };
+
+    /// Which distances of the columns from `first` on may still give the row something.
+    fn row_limit(into: &Self::Into, row: u64, first: u64) -> Limit
+        ensures { (column dist : ℕ) → first ≤ column → IsBeyond result dist → keeps_row into.now row column dist };
+
+    /// Which distances of the rows from `first` on may still give the column something.
+    fn column_limit(into: &Self::Into, column: u64, first: u64) -> Limit
+        ensures { (row dist : ℕ) → first ≤ row → IsBeyond result dist → keeps_column into.now column row dist };
+
+    /// Offers of more pairs give what these pairs give together.
+    ghost laws: { IsOffering least fits may_offer is_scanned };
+
+    /// What gives nothing is no matter.
+    ghost limits: { IsLimiting least fits is_scanned keeps_row keeps_column };
+}

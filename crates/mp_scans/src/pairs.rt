@@ -1,0 +1,240 @@
+//! Pairs of windows that are offered to each other.
+
+ghost use Rattle.std.specs.Prelude.{◌≡◌, ◌≢◌, ℕ, ◌+◌, ◌<◌, ◌≤◌, length, true, false};
+ghost use Rattle.mp_defs.specs.Series.{series_of};
+ghost use Rattle.mp_defs.specs.Window.{is_free};
+ghost use Rattle.mp_scans.specs.Exacts.{AreExactsIn};
+ghost use Rattle.mp_scans.specs.Blocks.{residue_in, FitIn, AreScannedIn};
+ghost use Rattle.mp_scans.specs.Limiting.{IsColumn, IsRowLimit, IsColumnLimit, AreLimits, first_row};
+ghost use Rattle.mp_scans.specs.Offering.{only, in_row};
+ghost use Rattle.mp_sums.specs.Residues.{item};
+ghost use Rattle.mp_defs.specs.Profile.{windows_of};
+
+use crate::blocks::{Block, Pair, Row, Strip};
+use crate::exacts::{Exact, distance_by};
+use crate::limits::{column_limit, row_limit};
+use crate::offers::Offers;
+use mp_nums::Sq;
+use mp_sums::passes;
+
+/// Whether no sample of a row and of a column is missing.
+#[inline]
+fn are_free(block: &Block, p: usize, c: usize) -> bool
+    requires row { p < length block.now.rows.differences.now }
+    requires column { c < length block.now.columns.differences.now }
+    ensures row { result ≡ true
+        → is_free block.now.grid.m (series_of block.now.grid.rows.now) (block.now.row + p) ≡ true }
+    ensures column { result ≡ true
+        → is_free block.now.grid.m (series_of block.now.grid.columns.now) (block.now.column + c) ≡ true }
+    ensures both { is_free block.now.grid.m (series_of block.now.grid.rows.now) (block.now.row + p) ≡ true
+        → is_free block.now.grid.m (series_of block.now.grid.columns.now) (block.now.column + c) ≡ true
+        → result ≡ true }
+{
+    block.free_rows[p] & block.free_columns[c]
+}
+
+/// Offers a row and a column to each other, where no sample of either is missing.
+pub(crate) fn offer_pair<O: Offers>(
+    strip: &Strip,
+    p: usize,
+    c: usize,
+    exacts: &mut [Option<Exact>],
+    into: &mut O::Into,
+)
+    requires row { p < strip.now.end }
+    requires first { p + strip.now.offset ≤ c }
+    requires last { c < p + strip.now.offset + 32 }
+    requires apart { strip.now.block.row + O.least ≤ strip.now.block.column + strip.now.offset }
+    requires is_column { IsColumn strip.now.block c }
+    requires exacts { AreExactsIn strip.now.block exacts.old }
+    requires fits { FitIn O.fits strip.now.block into.old }
+    ensures scanned { AreScannedIn O.is_scanned strip.now.block
+        (only (strip.now.block.row + p) (strip.now.block.column + c)) into.old into.new }
+    ensures exacts { AreExactsIn strip.now.block exacts.new }
+{
+    let block = &strip.block;
+    if are_free(block, p, c) {
+        let (row, column) = (block.row + p, block.column + c);
+        let first = block.column - block.row;
+        let dist = distance_by(&block.grid, first, exacts, row, column);
+        O::offer(into, row as u64, column as u64, Sq(dist));
+    }
+}
+
+/// The limit of a pair's row behind the pair, where one from before is known. It is made anew where the pair was within
+/// it.
+#[inline]
+fn next_row_limit<O: Offers>(strip: &Strip, pair: Pair, limit: i32, into: &O::Into) -> i32
+    requires row { pair.row < strip.now.end }
+    requires limit { IsRowLimit strip.now.block (O.keeps_row into.now) pair.row pair.row limit }
+    ensures { IsRowLimit strip.now.block (O.keeps_row into.now) pair.row pair.row result }
+{
+    if pair.residue <= limit {
+        row_limit::<O>(&strip.block, pair.row, into)
+    } else {
+        limit
+    }
+}
+
+/// The same of its column.
+#[inline]
+fn next_column_limit<O: Offers>(strip: &Strip, pair: Pair, limit: i32, into: &O::Into) -> i32
+    requires column { pair.column < length strip.now.block.columns.differences.now }
+    requires order { pair.row ≤ pair.column }
+    requires limit { IsColumnLimit strip.now.block (O.keeps_column into.now) pair.row pair.column limit }
+    ensures { IsColumnLimit strip.now.block (O.keeps_column into.now) pair.row pair.column result }
+{
+    if pair.residue <= limit {
+        column_limit::<O>(&strip.block, pair.row, pair.column, into)
+    } else {
+        limit
+    }
+}
+
+/// Offers a row and a column to each other, and makes their limits anew. Only later rows are still offered to
+/// the column. It stands apart, so that the lanes of a row are tested in a short loop.
+#[inline(never)]
+fn offer_within<O: Offers>(
+    strip: &Strip,
+    pair: Pair,
+    row_limits: &mut [i32],
+    column_limits: &mut [i32],
+    exacts: &mut [Option<Exact>],
+    into: &mut O::Into,
+)
+    requires row { pair.row < strip.now.end }
+    requires first { pair.row + strip.now.offset ≤ pair.column }
+    requires last { pair.column < pair.row + strip.now.offset + 32 }
+    requires apart { strip.now.block.row + O.least ≤ strip.now.block.column + strip.now.offset }
+    requires is_column { IsColumn strip.now.block pair.column }
+    requires exacts { AreExactsIn strip.now.block exacts.old }
+    requires fits { FitIn O.fits strip.now.block into.old }
+    requires limits { AreLimits strip.now.block (O.keeps_row into.old) (O.keeps_column into.old)
+        (first_row strip.now.offset pair.row) row_limits.old column_limits.old }
+    ensures scanned { AreScannedIn O.is_scanned strip.now.block
+        (only (strip.now.block.row + pair.row) (strip.now.block.column + pair.column)) into.old into.new }
+    ensures exacts { AreExactsIn strip.now.block exacts.new }
+    ensures limits { AreLimits strip.now.block (O.keeps_row into.new) (O.keeps_column into.new)
+        (first_row strip.now.offset pair.row) row_limits.new column_limits.new }
+{
+    let (p, c) = (pair.row, pair.column);
+    offer_pair::<O>(strip, p, c, exacts, into);
+    row_limits[p] = next_row_limit::<O>(strip, pair, row_limits[p], into);
+    column_limits[c] = next_column_limit::<O>(strip, pair, column_limits[c], into);
+}
+
+/// Takes a row and a column. They are offered to each other where their residue is within the limit of either.
+#[inline(always)]
+fn take_pair<O: Offers>(
+    strip: &Strip,
+    pair: Pair,
+    row_limits: &mut [i32],
+    column_limits: &mut [i32],
+    exacts: &mut [Option<Exact>],
+    into: &mut O::Into,
+)
+    requires row { pair.row < strip.now.end }
+    requires first { pair.row + strip.now.offset ≤ pair.column }
+    requires last { pair.column < pair.row + strip.now.offset + 32 }
+    requires apart { strip.now.block.row + O.least ≤ strip.now.block.column + strip.now.offset }
+    requires is_column { IsColumn strip.now.block pair.column }
+    requires residue { pair.residue ≡ residue_in strip.now.block pair.row pair.column }
+    requires exacts { AreExactsIn strip.now.block exacts.old }
+    requires fits { FitIn O.fits strip.now.block into.old }
+    requires limits { AreLimits strip.now.block (O.keeps_row into.old) (O.keeps_column into.old)
+        (first_row strip.now.offset pair.row) row_limits.old column_limits.old }
+    ensures scanned { AreScannedIn O.is_scanned strip.now.block
+        (only (strip.now.block.row + pair.row) (strip.now.block.column + pair.column)) into.old into.new }
+    ensures exacts { AreExactsIn strip.now.block exacts.new }
+    ensures limits { AreLimits strip.now.block (O.keeps_row into.new) (O.keeps_column into.new)
+        (first_row strip.now.offset pair.row) row_limits.new column_limits.new }
+{
+    if passes(
+        pair.residue,
+        row_limits[pair.row],
+        column_limits[pair.column],
+    ) {
+        offer_within::<O>(strip, pair, row_limits, column_limits, exacts, into);
+    }
+}
+
+/// The place of the least residue.
+fn least_place(residues: &[i32]) -> usize
+    requires { 1 ≤ length residues.now }
+    ensures { result < length residues.now }
+{
+    let mut least = 0;
+    for t in 1..residues.len() {
+        if residues[t] < residues[least] {
+            least = t;
+        }
+    }
+    least
+}
+
+/// The pair of a row and one of the strip's columns.
+#[inline]
+fn pair_at(strip: &Strip, row: &Row, t: usize) -> Pair
+    requires row { row.now.place < strip.now.end }
+    requires lane { t < length row.now.residues.now }
+    requires few { length row.now.residues.now ≤ 32 }
+    ensures row { result.row ≡ row.now.place }
+    ensures column { result.column ≡ row.now.place + strip.now.offset + t }
+    ensures residue { result.residue ≡ item row.now.residues.now t }
+{
+    Pair {
+        row: row.place,
+        column: row.place + strip.offset + t,
+        residue: row.residues[t],
+    }
+}
+
+/// Whether a column is another than the one that was taken first.
+#[inline]
+fn is_other(t: usize, first: usize) -> bool
+    ensures other { result ≡ true → t ≢ first }
+    ensures same { result ≡ false → t ≡ first }
+{
+    t != first
+}
+
+/// Takes a row and the strip's first columns, one for each residue. The one that seems nearest comes first, since it may
+/// bring the limits below the others.
+#[inline(never)]
+pub(crate) fn take_row<O: Offers>(
+    strip: &Strip,
+    row: &Row,
+    row_limits: &mut [i32],
+    column_limits: &mut [i32],
+    exacts: &mut [Option<Exact>],
+    into: &mut O::Into,
+)
+    requires row { row.now.place < strip.now.end }
+    requires some { 1 ≤ length row.now.residues.now }
+    requires few { length row.now.residues.now ≤ 32 }
+    requires are_columns { strip.now.block.column + (row.now.place + strip.now.offset) + length row.now.residues.now
+        ≤ windows_of strip.now.block.grid.m (series_of strip.now.block.grid.columns.now) }
+    requires apart { strip.now.block.row + O.least ≤ strip.now.block.column + strip.now.offset }
+    requires residues { (t : ℕ) → t < length row.now.residues.now
+        → item row.now.residues.now t ≡ residue_in strip.now.block row.now.place (row.now.place + strip.now.offset + t) }
+    requires exacts { AreExactsIn strip.now.block exacts.old }
+    requires fits { FitIn O.fits strip.now.block into.old }
+    requires limits { AreLimits strip.now.block (O.keeps_row into.old) (O.keeps_column into.old)
+        (first_row strip.now.offset row.now.place) row_limits.old column_limits.old }
+    ensures scanned { AreScannedIn O.is_scanned strip.now.block (in_row (strip.now.block.row + row.now.place)
+        (strip.now.block.column + (row.now.place + strip.now.offset))
+        (strip.now.block.column + (row.now.place + strip.now.offset) + length row.now.residues.now)) into.old into.new }
+    ensures exacts { AreExactsIn strip.now.block exacts.new }
+    ensures limits { AreLimits strip.now.block (O.keeps_row into.new) (O.keeps_column into.new)
+        (first_row strip.now.offset row.now.place) row_limits.new column_limits.new }
+{
+    let least = least_place(row.residues);
+    let nearest = pair_at(strip, row, least);
+    take_pair::<O>(strip, nearest, row_limits, column_limits, exacts, into);
+    for t in 0..row.residues.len() {
+        if is_other(t, least) {
+            let pair = pair_at(strip, row, t);
+            take_pair::<O>(strip, pair, row_limits, column_limits, exacts, into);
+        }
+    }
+}

@@ -1,0 +1,64 @@
+//! Rows in which no pair is within a limit, on thirty-two diagonals at once.
+
+ghost use Rattle.std.specs.Prelude.{◌≡◌, ℕ, ◌+◌, ◌<◌, ◌≤◌, length, FitsSigned};
+ghost use Rattle.std.specs.Int.{w32};
+ghost use Rattle.mp_sums.specs.Residues.{item};
+ghost use Rattle.mp_scans.specs.Lanes.{AreLanes};
+ghost use Rattle.mp_scans.specs.Blocks.{residue_in, AreResiduesAt, AreAbove};
+
+use crate::blocks::{Block, Strip};
+use crate::vectors::{LANES, is_within, step};
+use std::simd::prelude::*;
+
+/// From the residues of a row and of thirty-two columns to those of the next row and of the next columns.
+#[inline(always)]
+pub(crate) fn advance(block: &Block, k: usize, c: usize, residues: &mut i32x32)
+    requires row { k < length block.now.rows.differences.now }
+    requires columns { c + LANES ≤ length block.now.columns.differences.now }
+    requires residues { AreResiduesAt block.now k c residues.old }
+    ensures { AreResiduesAt block.now (k + 1) (c + 1) residues.new }
+{
+    step(
+        residues,
+        &block.rows.differences[k],
+        &block.rows.sums[k],
+        &block.columns.differences[c..c + LANES],
+        &block.columns.sums[c..c + LANES],
+    );
+}
+
+/// Goes on from one row to the first in which a residue is within the limit of the row or that of its column, and no
+/// further than to the last.
+///
+/// It stands apart, so that the residues stay in registers.
+#[inline(never)]
+pub(crate) fn run(
+    strip: &Strip,
+    from: usize,
+    row_limits: &[i32],
+    column_limits: &[i32],
+    residues: &mut i32x32,
+) -> usize
+    requires ordered { from ≤ strip.now.end }
+    requires row_limits { length row_limits.now ≡ length strip.now.block.rows.differences.now }
+    requires column_limits { length column_limits.now ≡ length strip.now.block.columns.differences.now }
+    requires column_fit { (q : ℕ) → q < length column_limits.now → FitsSigned w32 (item column_limits.now q) }
+    requires residues { AreResiduesAt strip.now.block from (from + strip.now.offset) residues.old }
+    ensures behind { from ≤ result }
+    ensures within { result ≤ strip.now.end }
+    ensures residues { AreResiduesAt strip.now.block result (result + strip.now.offset) residues.new }
+    ensures above { AreAbove strip.now.block strip.now.offset row_limits.now column_limits.now from result }
+{
+    let strip = *strip;
+    let mut next = *residues;
+    for q in from..strip.end {
+        let c = q + strip.offset;
+        if is_within(&next, &row_limits[q], &column_limits[c..c + LANES]) {
+            *residues = next;
+            return q;
+        }
+        advance(&strip.block, q, c, &mut next);
+    }
+    *residues = next;
+    strip.end
+}

@@ -1,0 +1,57 @@
+//! The scan of a tile.
+
+ghost use Rattle.std.specs.Prelude.{◌≤◌};
+ghost use Rattle.mp_defs.specs.Series.{series_of};
+ghost use Rattle.mp_defs.specs.Profile.{windows_of};
+ghost use Rattle.mp_scans.specs.Offering.{in_block};
+ghost use Rattle.mp_scans.specs.declared.sizes.TheConstants.{GROUP};
+
+use crate::groups::{Group, scan_group};
+use crate::offers::Offers;
+use crate::plans::{Plan, count_columns};
+use crate::sizes::GROUP;
+use crate::vectors::LANES;
+
+/// How many diagonals are scanned together behind so many that are done. Near ones are often the nearest, so they bring
+/// limits down first; and on the same diagonals only the first tie is offered to a column.
+#[inline]
+fn next_width(done: usize) -> usize
+    ensures some { 1 ≤ result }
+    ensures few { result ≤ GROUP }
+{
+    done.max(LANES).min(GROUP)
+}
+
+/// Offers the pairs of the rows from `top` on and before `bottom` and the columns that start from `first` on and before
+/// `end` behind them.
+pub fn scan<O: Offers>(
+    plan: &Plan,
+    first: usize,
+    end: usize,
+    top: usize,
+    bottom: usize,
+    into: &mut O::Into,
+)
+    requires apart { O.least ≤ first }
+    requires top { top ≤ bottom }
+    requires bottom { bottom ≤ windows_of plan.now.grid.m (series_of plan.now.grid.rows.now) }
+    requires fits { O.fits plan.now.grid.m (series_of plan.now.grid.rows.now) (series_of plan.now.grid.columns.now)
+        into.old }
+    ensures scanned { O.is_scanned plan.now.grid.m (series_of plan.now.grid.rows.now)
+        (series_of plan.now.grid.columns.now) (in_block first end top bottom) into.old into.new }
+{
+    // on the diagonals behind these every row from `top` on is past the last column
+    let columns = count_columns(&plan.grid).saturating_sub(top);
+    let stop = end.min(columns);
+    let mut start = first;
+    while start < stop {
+        let width = (stop - start).min(next_width(start - first));
+        let group = Group {
+            plan: *plan,
+            first: start,
+            width,
+        };
+        scan_group::<O>(&group, top, bottom, into);
+        start += width;
+    }
+}

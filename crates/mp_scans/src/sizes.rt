@@ -1,0 +1,13 @@
+//! How much is scanned at once.
+
+/// The most diagonals in a group.
+pub(crate) const GROUP: usize = 1_024;
+
+/// The most rows in a block. What its rows and columns are compared with stays in a small cache.
+pub(crate) const ROWS: usize = 1_024;
+
+/// The most columns in a block.
+pub(crate) const COLUMNS: usize = ROWS + GROUP;
+
+/// How many samples of a window are taken at once.
+pub(crate) const TAKEN: usize = 256;
