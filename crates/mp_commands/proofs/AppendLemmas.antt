@@ -3,7 +3,7 @@ use Rattle.std.proofs.Common.{◌≡◌, ℕ, ℤ, zero, suc, ◌+◌, ◌<◌, 
 use Rattle.std.proofs.Common.{length, map, get_or, set, replicate, refl, ap, ◌∙◌, sym, arith, subst, append_assoc}
 use Rattle.std.proofs.Common.{length-append, slice_index_or}
 use Rattle.std.specs.declared.alloc.Global.{Global}
-use Rattle.std.specs.Prelude.{All, Option, Some, None, Result, Ok, Err, IfErr, IsOk, is_ok, if◌then◌else◌}
+use Rattle.std.specs.Prelude.{All, Option, None, Result, Ok, Err, IfErr, IsOk, is_ok, if◌then◌else◌}
 use Rattle.std.specs.List.{range_with_len}
 use Rattle.std.proofs.lemmas.Bool.Decides.{nat_tests}
 use Rattle.std.proofs.lemmas.List.{get_or-map, length-map, map-append, map-set}
@@ -14,27 +14,24 @@ use Rattle.std.proofs.lemmas.List.Sums.{count_by-le-length}
 use Rattle.std.proofs.lemmas.Simd.{map-map}
 use Rattle.mp_bytes.specs.Values.{is_comma, values_in}
 use Rattle.mp_defs.specs.Series.{Series, reading_of, series_of}
-use Rattle.mp_nums.specs.Listed.{Listed}
 use Rattle.mp_nums.specs.declared.samples.Sample.{Sample}
 use Rattle.mp_text.specs.Rows.{Row, column_at, columns_of, onto}
 use Rattle.mp_text.specs.declared.refusal.SampleFault.{SampleFault}
 use Rattle.mp_replies.specs.AppendCommand.{append_conditions, bad_in, item_of, items_of, read_items, row_with, rows_in}
 use Rattle.mp_replies.specs.AppendCommand.{samples_of, value_of}
+use Rattle.mp_replies.specs.Answer.{AppendReport}
 use Rattle.mp_replies.specs.Change as change
 use Rattle.mp_replies.specs.Change.{extended}
 use Rattle.mp_replies.specs.Command as asked
-use Rattle.mp_replies.specs.Conditions.{first_of}
+use Rattle.mp_replies.specs.Conditions.{first_cause}
 use Rattle.mp_replies.specs.Line.{Asks}
-use Rattle.mp_replies.specs.Text.{ok_text}
-use Rattle.mp_replies.specs.State.{Files, channels_at, samples_in}
-use Rattle.mp_slots.specs.Slots as slots
-use Rattle.mp_slots.specs.Slots.{lists_in, slot_at, store_of, stores_of}
-use Rattle.mp_slots.specs.StoreLaws.{count_at}
+use Rattle.mp_replies.specs.State.{Files, State, channels_at, samples_in}
+use Rattle.mp_stores.specs.Stores.{lists_in}
 use Rattle.mp_commands.specs.declared.answers.Answer.TheVariants.{Accepted}
-use Rattle.mp_commands.specs.declared.context.Context.{Context}
 use Rattle.mp_commands.specs.declared.prepared.Prepared.{Prepared}
-use Rattle.mp_commands.specs.Preparing.{IsPrepared, changed_by, state_over}
-use Rattle.mp_commands.proofs.OpenLemmas.{channels_put}
+use Rattle.mp_commands.specs.declared.reports.Report.TheVariants as report
+use Rattle.mp_commands.specs.Preparing.{IsPrepared, changed_by}
+use Rattle.mp_commands.proofs.OpenLemmas.{channels_put, open_within}
 use Rattle.mp_commands.proofs.StepLemmas.{prepared_accepted}
 
 -- ---- the values of one item
@@ -376,11 +373,6 @@ added_even scale channels items added good is =
 
 -- ---- what is prepared
 
-slot_within : (held : List slots.Held) (slot : ℕ) → 0 < length (slice_index_or held slot []) → slot < length held
-slot_within [] slot some = absurd (omega (arith, some))
-slot_within (channels ∷ held) zero some = omega arith
-slot_within (channels ∷ held) (suc slot) some = let rest = slot_within held slot some in omega (arith, rest)
-
 samples_added : (channels : List Series) (rows : List Row) (count : ℕ) → length channels ≡ count → 0 < count
     → samples_in (extended channels (columns_of count rows)) ≡ samples_in channels + length rows
 samples_added [] rows count long some = absurd (omega (arith, long, some))
@@ -389,31 +381,26 @@ samples_added (channel ∷ channels) rows (suc count) long some =
     length-append channel (column_at rows 0)
     ∙ ap (λ (n : ℕ). length channel + n) (length-map rows (λ (values : Row). slice_index_or values 0 None))
 
-pub appended : (context : Context) (held : slots.Stored) (slot : ℕ) (items : List (List ℕ)) (files : Files)
-    (added : List (List Sample)) (samples : ℕ) (text : Listed ℕ) (prepared : Prepared)
-    → 0 < length (slot_at held slot)
-    → first_of (append_conditions context.settings.scale (stores_of held) slot items) ≡ None
-    → bad_in (read_items context.settings.scale (length (channels_at (stores_of held) slot)) items) ≡ None
+pub appended : (state : State) (slot : ℕ) (items : List (List ℕ)) (files : Files) (added : List (List Sample))
+    (samples : ℕ) (prepared : Prepared) → 0 < length (channels_at state.stores slot)
+    → first_cause (append_conditions state.scale state.stores slot items) ≡ None
+    → bad_in (read_items state.scale (length (channels_at state.stores slot)) items) ≡ None
     → map series_of added
-    ≡ columns_of (length (channels_at (stores_of held) slot))
-    (rows_in (read_items context.settings.scale (length (channels_at (stores_of held) slot)) items))
-    → samples ≡ samples_in (channels_at (stores_of held) slot) + length items
-    → text.items ≡ ok_text (context.lines + 1) (Some samples)
-    → prepared.answer ≡ Accepted text
+    ≡ columns_of (length (channels_at state.stores slot))
+    (rows_in (read_items state.scale (length (channels_at state.stores slot)) items))
+    → samples ≡ samples_in (channels_at state.stores slot) + length items
+    → prepared.answer ≡ Accepted (report.Append samples)
     → changed_by prepared.change ≡ change.AddSamples slot (map series_of added)
-    → IsPrepared (state_over context held) files (Asks (asked.Append slot items)) prepared
-appended context held slot items files added samples text prepared some fine good is long written answer put =
-    let stores = stores_of held in
+    → IsPrepared state files (Asks (asked.Append slot items)) prepared
+appended state slot items files added samples prepared some fine good is long answer put =
+    let stores = state.stores in
     let channels = channels_at stores slot in
-    let rows = rows_in (read_items context.settings.scale (length channels) items) in
+    let rows = rows_in (read_items state.scale (length channels) items) in
     let columns = columns_of (length channels) rows in
-    let within : slot < length stores =
-    omega (arith, length-map held.slots store_of, slot_within held.slots slot some) in
     let behind : samples_in (channels_at (change.changed stores (change.AddSamples slot columns)) slot) ≡ samples =
-    ap samples_in (channels_put stores slot (extended channels columns) within)
-    ∙ (samples_added channels rows (length channels) refl (omega (arith, some, count_at held slot))
-    ∙ (ap (λ (n : ℕ). samples_in channels + n) (good_rows context.settings.scale (length channels) items good)
-    ∙ sym long)) in
-    prepared_accepted (state_over context held) files (asked.Append slot items) text prepared fine refl answer
-    (written ∙ ap (λ (n : ℕ). ok_text (context.lines + 1) (Some n)) (sym behind))
+    ap samples_in (channels_put stores slot (extended channels columns) (open_within stores slot _ fine))
+    ∙ (samples_added channels rows (length channels) refl some
+    ∙ (ap (λ (n : ℕ). samples_in channels + n) (good_rows state.scale (length channels) items good) ∙ sym long)) in
+    prepared_accepted state files (asked.Append slot items) (report.Append samples) prepared fine refl answer
+    (ap AppendReport (sym behind))
     (put ∙ ap (change.AddSamples slot) is)

@@ -11,6 +11,10 @@ use Rattle.mp_defs.specs.NearestLaws.{entries_are_nearest}
 use Rattle.mp_defs.specs.Profile.{Columns, column, entry, left_entry, matrix_profile, right_entry, windows_of}
 use Rattle.mp_partial.specs.Profiled.{Profiled}
 use Rattle.mp_replies.specs.Profiles.{columns_in}
+use Rattle.mp_replies.specs.State.{Store, series_at}
+use Rattle.mp_replies.specs.declared.refs.Ref.{Ref}
+use Rattle.mp_stores.specs.StoreLaws.{series_stands}
+use Rattle.mp_stores.specs.Stores.{IsChannel, StandFor, Stored, channel_series}
 use Rattle.mp_defs.specs.Series.{Series}
 use Rattle.mp_defs.specs.Window.{is_allowed}
 
@@ -91,3 +95,10 @@ columns_of_profile m a profile left right is left_is right_is =
     let r : right ≡ (matrix_profile m a).right = right_is ∙ ap (λ (c : Columns). c.right) is in
     subst (λ ls. AreColumns ls right) (sym l)
     (subst (λ rs. AreColumns (matrix_profile m a).left rs) (sym r) (are_columns m a))
+
+-- the profile of a channel is that of its series in the stores
+pub profile_stands : (held : Stored) (stores : List Store) (at : Ref) (profile : Profiled) → StandFor held stores
+    → IsChannel held at → columns_in profile ≡ matrix_profile held.m (channel_series held at)
+    → columns_in profile ≡ matrix_profile held.m (series_at stores at)
+profile_stands held stores at profile stand there is =
+    is ∙ ap (matrix_profile held.m) (sym (series_stands held stores at stand there))

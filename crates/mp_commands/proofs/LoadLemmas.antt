@@ -11,82 +11,71 @@ use Rattle.std.proofs.lemmas.List.Splits.{length-slice_split}
 use Rattle.mp_bytes.specs.Values.{is_comma, values_in}
 use Rattle.mp_defs.specs.Limits.{max_samples}
 use Rattle.mp_defs.specs.Series.{Series, reading_of, series_of}
-use Rattle.mp_nums.specs.Listed.{Listed}
 use Rattle.mp_nums.specs.declared.samples.Sample.{Sample}
 use Rattle.mp_text.specs.Rows.{Row, columns_of, onto}
 use Rattle.mp_text.specs.Table.{Fault, TooManyRows, Fields, row_of, rows_of, table_of}
 use Rattle.mp_replies.specs.declared.causes.Cause.{Cause}
 use Rattle.mp_replies.specs.declared.causes.Cause.TheVariants as cause
+use Rattle.mp_replies.specs.Answer.{LoadReport}
 use Rattle.mp_replies.specs.Change as change
 use Rattle.mp_replies.specs.Command as asked
-use Rattle.mp_replies.specs.Conditions.{Condition, first_of, when}
+use Rattle.mp_replies.specs.Conditions.{Condition, first_cause, when}
 use Rattle.mp_replies.specs.Limits.{max_channels, max_file}
 use Rattle.mp_replies.specs.Line.{Asks}
 use Rattle.mp_replies.specs.LoadCommand.{channels_of, file_conditions, file_in, load_conditions, series_in, table_in}
 use Rattle.mp_replies.specs.Numbers.{all_some, column, columns, onto_some}
-use Rattle.mp_replies.specs.Text.{ok_text}
-use Rattle.mp_replies.specs.State.{Files, State, Store, channels_at, is_closed, samples_in, store_at}
-use Rattle.mp_slots.specs.Slots as slots
-use Rattle.mp_slots.specs.Slots.{AreChannels, HaveWindow, count_of, items_in}
+use Rattle.mp_replies.specs.State.{Files, State, Store, channels_at, samples_in}
+use Rattle.mp_stores.specs.Stores.{HaveWindow, count_of, items_in}
+use Rattle.mp_stream.specs.Streams.{Streamed}
 use Rattle.mp_commands.specs.declared.answers.Answer.TheVariants.{Accepted, Refused}
 use Rattle.mp_commands.specs.declared.prepared.Change.TheVariants.{Keep}
 use Rattle.mp_commands.specs.declared.prepared.Prepared.{Prepared}
+use Rattle.mp_commands.specs.declared.reports.Report.TheVariants as report
 use Rattle.mp_commands.specs.Preparing.{CanPut, IsPrepared, changed_by}
 use Rattle.mp_commands.proofs.AppendLemmas.{even_columns, joined_by, same_lengths}
-use Rattle.mp_commands.proofs.OpenLemmas.{channels_put}
+use Rattle.mp_commands.proofs.OpenLemmas.{channels_put, open_within}
 use Rattle.mp_commands.proofs.StepLemmas.{prepared_accepted, prepared_refused}
 
 -- ---- conditions behind others
 
 none_by : (holds : Bool) (word : Cause) (others more : List Condition)
-    → (if holds then Some word else first_of others) ≡ None
-    → (first_of others ≡ None → first_of (others ++ more) ≡ first_of more)
-    → (if holds then Some word else first_of (others ++ more)) ≡ first_of more
+    → (if holds then Some word else first_cause others) ≡ None
+    → (first_cause others ≡ None → first_cause (others ++ more) ≡ first_cause more)
+    → (if holds then Some word else first_cause (others ++ more)) ≡ first_cause more
 none_by true word others more h rest = absurd (cc h)
 none_by false word others more h rest = rest h
 
-first_behind : (conditions more : List Condition) → first_of conditions ≡ None
-    → first_of (conditions ++ more) ≡ first_of more
+first_behind : (conditions more : List Condition) → first_cause conditions ≡ None
+    → first_cause (conditions ++ more) ≡ first_cause more
 first_behind [] more h = refl
 first_behind (condition ∷ others) more h =
     none_by condition.holds condition.word others more h (first_behind others more)
 
 some_by : (holds : Bool) (word cause : Cause) (others more : List Condition)
-    → (if holds then Some word else first_of others) ≡ Some cause
-    → (first_of others ≡ Some cause → first_of (others ++ more) ≡ Some cause)
-    → (if holds then Some word else first_of (others ++ more)) ≡ Some cause
+    → (if holds then Some word else first_cause others) ≡ Some cause
+    → (first_cause others ≡ Some cause → first_cause (others ++ more) ≡ Some cause)
+    → (if holds then Some word else first_cause (others ++ more)) ≡ Some cause
 some_by true word cause others more h rest = h
 some_by false word cause others more h rest = rest h
 
-first_before : (conditions more : List Condition) (cause : Cause) → first_of conditions ≡ Some cause
-    → first_of (conditions ++ more) ≡ Some cause
+first_before : (conditions more : List Condition) (cause : Cause) → first_cause conditions ≡ Some cause
+    → first_cause (conditions ++ more) ≡ Some cause
 first_before [] more cause h = absurd (cc h)
 first_before (condition ∷ others) more cause h =
     some_by condition.holds condition.word cause others more h (first_before others more cause)
 
-closed_by : (closed : Bool) (others : Option Cause) → (if closed then Some cause.Slot else others) ≡ None
-    → closed ≡ false
-closed_by true others h = absurd (cc h)
-closed_by false others h = refl
-
-open_within : (stores : List Store) (slot : ℕ) → is_closed (store_at stores slot) ≡ false → slot < length stores
-open_within [] slot h = absurd (cc h)
-open_within (store ∷ stores) zero h = omega arith
-open_within (store ∷ stores) (suc slot) h = let rest = open_within stores slot h in omega (arith, rest)
-
 -- a slot that may be loaded is there
-load_within : (stores : List Store) (slot : ℕ) (cols : List ℕ) → first_of (load_conditions stores slot cols) ≡ None
+load_within : (stores : List Store) (slot : ℕ) (cols : List ℕ) → first_cause (load_conditions stores slot cols) ≡ None
     → slot < length stores
 load_within stores slot cols h =
-    open_within stores slot
-    (closed_by (is_closed (store_at stores slot))
-    (first_of (when (not (length cols == length (channels_at stores slot))) cause.Channel ∷ [])) h)
+    open_within stores slot (first_cause (when (not (length cols == length (channels_at stores slot))) cause.Channel ∷
+    [])) h
 
 -- ---- refusals
 
 pub load_refused : (state : State) (files : Files) (slot : ℕ) (file cols : List ℕ) (header : Bool) (cause : Cause)
     (prepared : Prepared)
-    → first_of (load_conditions state.stores slot cols) ≡ Some cause → prepared.answer ≡ Refused cause
+    → first_cause (load_conditions state.stores slot cols) ≡ Some cause → prepared.answer ≡ Refused cause
     → prepared.change ≡ Keep
     → IsPrepared state files (Asks (asked.Load slot file cols header)) prepared
 load_refused state files slot file cols header cause prepared h answer kept =
@@ -95,9 +84,22 @@ load_refused state files slot file cols header cause prepared h answer kept =
     (file_conditions state.scale cols header (file_in files file)) cause h)
     answer kept
 
+-- a refusal by the file
+pub file_refused : (state : State) (files : Files) (slot : ℕ) (file cols : List ℕ) (header : Bool) (cause : Cause)
+    (prepared : Prepared)
+    → first_cause (load_conditions state.stores slot cols) ≡ None
+    → first_cause (file_conditions state.scale cols header (file_in files file)) ≡ Some cause
+    → prepared.answer ≡ Refused cause → prepared.change ≡ Keep
+    → IsPrepared state files (Asks (asked.Load slot file cols header)) prepared
+file_refused state files slot file cols header cause prepared none some answer kept =
+    prepared_refused state files (asked.Load slot file cols header) cause prepared
+    (first_behind (load_conditions state.stores slot cols)
+    (file_conditions state.scale cols header (file_in files file)) none ∙ some)
+    answer kept
+
 pub good_file : (scale : ℕ) (cols : List ℕ) (header : Bool) (bytes : List ℕ) (series : List Series)
     → length bytes ≤ max_file
-    → table_in scale cols header bytes ≡ Ok series → first_of (file_conditions scale cols header (Some bytes)) ≡ None
+    → table_in scale cols header bytes ≡ Ok series → first_cause (file_conditions scale cols header (Some bytes)) ≡ None
 good_file scale cols header bytes series small is =
     let fits : nat_lt max_file (length bytes) ≡ false = grind (arith, nat_tests) in
     rw (fits, is) refl
@@ -201,7 +203,8 @@ count_first (samples ∷ bundle) count some all = All-head (λ (s : List Sample)
 
 -- ---- what is put
 
-pub can_put_table : (m slot : ℕ) (cols : List ℕ) (bundle : List (List Sample)) (channels : slots.Held) → slot < 8
+pub can_put_table : (m slot : ℕ) (cols : List ℕ) (bundle : List (List Sample)) (channels : List Streamed)
+    → slot < 8
     → 1 ≤ length cols → length cols ≤ 8
     → IsTable cols (map series_of bundle) → items_in channels ≡ bundle → HaveWindow m channels
     → CanPut m slot channels
@@ -212,14 +215,16 @@ can_put_table m slot cols bundle channels within some few t items window =
     let even = even_table cols bundle t in
     record {
       within = within;
-      some = omega (arith, some, long, count);
-      alike = rw items (record {
-        few = omega (arith, few, long);
-        same =
-            subst (λ (n : ℕ). All (λ samples. length samples ≡ n) bundle)
-            (sym (count_first bundle (length t.rows) (omega (arith, some, long)) even)) even;
-      });
-      window = window;
+      are = record {
+        some = omega (arith, some, long, count);
+        alike = rw items (record {
+          few = omega (arith, few, long);
+          same =
+              subst (λ (n : ℕ). All (λ samples. length samples ≡ n) bundle)
+              (sym (count_first bundle (length t.rows) (omega (arith, some, long)) even)) even;
+        });
+        window = window;
+      };
     }
 
 samples_first : (bundle : List (List Sample)) (first : List Sample) → slice_get bundle 0 ≡ Some first
@@ -229,29 +234,27 @@ samples_first (samples ∷ bundle) first h =
     let same : samples ≡ first = cc in length-map samples reading_of ∙ ap length same
 
 pub loaded : (state : State) (files : Files) (slot : ℕ) (file cols : List ℕ) (header : Bool) (bytes : List ℕ)
-    (bundle : List (List Sample)) (first : List Sample) (samples : ℕ) (text : Listed ℕ) (prepared : Prepared)
-    → first_of (load_conditions state.stores slot cols) ≡ None
+    (bundle : List (List Sample)) (first : List Sample) (samples : ℕ) (prepared : Prepared)
+    → first_cause (load_conditions state.stores slot cols) ≡ None
     → file_in files file ≡ Some bytes → length bytes ≤ max_file
     → table_in state.scale cols header bytes ≡ Ok (map series_of bundle) → slice_get bundle 0 ≡ Some first
     → samples ≡ length first
-    → text.items ≡ ok_text (state.lines + 1) (Some samples)
-    → prepared.answer ≡ Accepted text
+    → prepared.answer ≡ Accepted (report.Load samples)
     → changed_by prepared.change ≡ change.PutChannels slot (map series_of bundle)
     → IsPrepared state files (Asks (asked.Load slot file cols header)) prepared
-loaded state files slot file cols header bytes bundle first samples text prepared none found small table first_is
-    count written answer put =
+loaded state files slot file cols header bytes bundle first samples prepared none found small table first_is
+    count answer put =
     let channels : channels_of state.scale cols header (file_in files file) ≡ map series_of bundle =
     ap (channels_of state.scale cols header) found ∙ ap series_in table in
     let behind : samples_in (channels_of state.scale cols header (file_in files file)) ≡ samples =
     ap samples_in channels ∙ (samples_first bundle first first_is ∙ sym count) in
-    prepared_accepted state files (asked.Load slot file cols header) text prepared
+    prepared_accepted state files (asked.Load slot file cols header) (report.Load samples) prepared
     (first_behind (load_conditions state.stores slot cols)
     (file_conditions state.scale cols header (file_in files file)) none
-    ∙ (ap (λ found. first_of (file_conditions state.scale cols header found)) found
+    ∙ (ap (λ found. first_cause (file_conditions state.scale cols header found)) found
     ∙ good_file state.scale cols header bytes (map series_of bundle) small table))
     refl answer
-    (written
-    ∙ ap (λ (n : ℕ). ok_text (state.lines + 1) (Some n))
+    (ap LoadReport
     (sym (ap samples_in
     (channels_put state.stores slot (channels_of state.scale cols header (file_in files file))
     (load_within state.stores slot cols none))

@@ -1,17 +1,20 @@
 -- What an open prepares.
-use Rattle.std.proofs.Common.{◌≡◌, ℕ, ◌+◌, ◌<◌, List, [], ◌∷◌, length, replicate, refl, ap, ◌∙◌, sym, arith, zero, suc}
-use Rattle.std.specs.Prelude.{None, Some, slice_set}
-use Rattle.mp_nums.specs.Listed.{Listed}
+use Rattle.std.proofs.Common.{◌≡◌, ℕ, ◌<◌, List, [], ◌∷◌, length, replicate, refl, ap, sym, arith, zero, suc}
+use Rattle.std.proofs.Common.{Bool, true, false}
+use Rattle.std.specs.Prelude.{Option, None, Some, slice_set, if◌then◌else◌}
 use Rattle.mp_defs.specs.Series.{Series}
+use Rattle.mp_replies.specs.declared.causes.Cause.{Cause}
+use Rattle.mp_replies.specs.declared.causes.Cause.TheVariants.{Slot}
+use Rattle.mp_replies.specs.Answer.{OpenReport}
 use Rattle.mp_replies.specs.Change as change
 use Rattle.mp_replies.specs.Command as asked
-use Rattle.mp_replies.specs.Conditions.{first_of}
+use Rattle.mp_replies.specs.Conditions.{first_cause}
 use Rattle.mp_replies.specs.Line.{Asks}
 use Rattle.mp_replies.specs.OpenCommand.{open_conditions}
-use Rattle.mp_replies.specs.Text.{ok_text}
-use Rattle.mp_replies.specs.State.{Files, State, Store, Open, channels_at, samples_in}
+use Rattle.mp_replies.specs.State.{Files, State, Store, Open, channels_at, is_closed, samples_in, store_at}
 use Rattle.mp_commands.specs.declared.answers.Answer.TheVariants.{Accepted}
 use Rattle.mp_commands.specs.declared.prepared.Prepared.{Prepared}
+use Rattle.mp_commands.specs.declared.reports.Report.TheVariants as report
 use Rattle.mp_commands.specs.Preparing.{IsPrepared, changed_by}
 use Rattle.mp_commands.proofs.StepLemmas.{prepared_accepted}
 
@@ -20,6 +23,21 @@ pub channels_put : (stores : List Store) (slot : ℕ) (channels : List Series) �
 channels_put [] slot channels h = absurd (omega (arith, h))
 channels_put (store ∷ stores) zero channels h = refl
 channels_put (store ∷ stores) (suc slot) channels h = channels_put stores slot channels (omega (arith, h))
+
+not_closed : (closed : Bool) (others : Option Cause) → (if closed then Some Slot else others) ≡ None → closed ≡ false
+not_closed true others h = absurd (cc h)
+not_closed false others h = refl
+
+there_by : (stores : List Store) (slot : ℕ) → is_closed (store_at stores slot) ≡ false → slot < length stores
+there_by [] slot h = absurd (cc h)
+there_by (store ∷ stores) zero h = omega arith
+there_by (store ∷ stores) (suc slot) h = let rest = there_by stores slot h in omega (arith, rest)
+
+-- a slot that isn't refused is there
+pub open_within : (stores : List Store) (slot : ℕ) (others : Option Cause)
+    → (if is_closed (store_at stores slot) then Some Slot else others) ≡ None → slot < length stores
+open_within stores slot others h =
+    there_by stores slot (not_closed (is_closed (store_at stores slot)) others h)
 
 no_samples : (count : ℕ) → samples_in (replicate count []) ≡ 0
 no_samples zero = refl
@@ -32,11 +50,10 @@ none_put [] slot count = refl
 none_put (store ∷ stores) zero count = no_samples count
 none_put (store ∷ stores) (suc slot) count = none_put stores slot count
 
-pub opened : (state : State) (files : Files) (slot count : ℕ) (text : Listed ℕ) (prepared : Prepared)
-    → first_of (open_conditions slot count) ≡ None → prepared.answer ≡ Accepted text
-    → text.items ≡ ok_text (state.lines + 1) (Some 0)
+pub opened : (state : State) (files : Files) (slot count : ℕ) (prepared : Prepared)
+    → first_cause (open_conditions slot count) ≡ None → prepared.answer ≡ Accepted (report.Open 0)
     → changed_by prepared.change ≡ change.PutChannels slot (replicate count [])
     → IsPrepared state files (Asks (asked.OpenSlot slot count)) prepared
-opened state files slot count text prepared none answer written put =
-    prepared_accepted state files (asked.OpenSlot slot count) text prepared none refl answer
-    (written ∙ ap (λ (n : ℕ). ok_text (state.lines + 1) (Some n)) (sym (none_put state.stores slot count))) put
+opened state files slot count prepared none answer put =
+    prepared_accepted state files (asked.OpenSlot slot count) (report.Open 0) prepared none refl answer
+    (ap OpenReport (sym (none_put state.stores slot count))) put

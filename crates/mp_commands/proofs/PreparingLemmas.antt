@@ -1,98 +1,71 @@
 -- What was prepared for a command, told of the line that asks for it.
-use Rattle.std.proofs.Common.{◌≡◌, ◌∙◌, ℕ, List, Bool, true, refl, ap, sym, subst}
-use Rattle.std.specs.FinMap.{empty}
-use Rattle.std.specs.Prelude.{Result, Ok, Err, IfOk, Option, Some, None, is_err}
-use Rattle.mp_lines.specs.Lines.{asked_by}
-use Rattle.mp_lines.specs.declared.commands.Command as read
-use Rattle.mp_lines.specs.declared.commands.Command.TheVariants.{Blank, Session, Open, Load, Append}
+use Rattle.std.proofs.Common.{◌≡◌, ◌∙◌, ℕ, List, length, Bool, true, refl, ap, sym, subst, arith}
+use Rattle.std.specs.Prelude.{Result, Ok, Err, IfOk, Option, Some, None}
+use Rattle.mp_defs.specs.Series.{series_of}
 use Rattle.mp_replies.specs.declared.causes.Cause.{Cause}
+use Rattle.mp_replies.specs.declared.refs.Ref.{Ref}
 use Rattle.mp_replies.specs.Change as change
 use Rattle.mp_replies.specs.Command as asked
 use Rattle.mp_replies.specs.Command.{Command}
-use Rattle.mp_replies.specs.Conditions.{first_of}
+use Rattle.mp_replies.specs.Conditions.{first_cause}
 use Rattle.mp_replies.specs.LimitLaws.{limits_kept}
-use Rattle.mp_replies.specs.Line.{Asked, Nothing, Asks, Faulty, asked_of, ends, is_end}
+use Rattle.mp_replies.specs.Line.{Asked, Nothing, Asks, Faulty, asked_of, ends}
 use Rattle.mp_replies.specs.State.{Files, State}
 use Rattle.mp_replies.specs.Step.{change_in, conditions, verdict_by, verdict_of}
-use Rattle.mp_slots.specs.Slots.{Stored}
+use Rattle.mp_stores.specs.Stores.{StandAsBefore, Stored}
+use Rattle.mp_stores.specs.StoreLaws.{channel_lasts, items_last}
 use Rattle.mp_commands.specs.declared.answers.Answer.{Answer}
 use Rattle.mp_commands.specs.declared.context.Context.{Context}
-use Rattle.mp_commands.specs.declared.answers.Answer.TheVariants.{Refused}
+use Rattle.mp_commands.specs.declared.answers.Answer.TheVariants.{Silent, Refused, Accepted, Ended}
 use Rattle.mp_commands.specs.declared.prepared.Change.{Change}
 use Rattle.mp_commands.specs.declared.prepared.Change.TheVariants.{Keep}
 use Rattle.mp_commands.specs.declared.prepared.Prepared.{Prepared}
-use Rattle.mp_commands.specs.Answers.{is_ended, kind_by}
+use Rattle.mp_commands.specs.declared.reports.Report as reports
+use Rattle.mp_commands.specs.declared.reports.Report.TheVariants as report
+use Rattle.mp_commands.specs.declared.requests.Comparison.{Comparison}
+use Rattle.mp_commands.specs.declared.requests.Comparison.TheVariants.{Join, Mpdist}
+use Rattle.mp_commands.specs.declared.requests.ReportRequest.{ReportRequest}
+use Rattle.mp_commands.specs.declared.requests.ReportRequest.TheVariants.{Compare}
+use Rattle.mp_commands.specs.Answers.{AreNamed, NamesChannels, is_ended, kind_by}
 use Rattle.mp_commands.specs.Preparing.{AddsAsAsked, CanMake, IsAnswer, IsPrepared, IsReady, IsTaken, IsWithinLimits}
-use Rattle.mp_commands.specs.Preparing.{OnlyReports, changed_by, puts, state_over}
-use Rattle.mp_commands.specs.Reports.{IsReported}
+use Rattle.mp_commands.specs.Preparing.{IsPreparedBySome, changed_by, puts}
+use Rattle.mp_commands.specs.Requests.{compared_by, reported_in}
 use Rattle.mp_commands.proofs.EndLemmas.{ends_by}
-use Rattle.mp_commands.proofs.StepLemmas.{ended_answer}
+use Rattle.mp_commands.proofs.FileLemmas.{no_file}
+use Rattle.mp_replies.specs.State.{first_version}
 
 -- ---- the line
 
-pub limits_by : (line : List ℕ) (what : Asked) → what ≡ asked_of line → IsWithinLimits what
+pub limits_by : (line : List ℕ) (what : Asked) → what ≡ asked_of first_version line → IsWithinLimits what
 limits_by line Nothing is = tt
 limits_by line (Faulty cause) is = tt
-limits_by line (Asks command) is = limits_kept line command (sym is)
+limits_by line (Asks command) is = limits_kept first_version line command (sym is)
 
-pub no_files : Files
-no_files = empty
+-- ---- a request
 
--- an answer that is right with any files ends the run where what is asked does
-pub ended_as_answered : (state : State) (what : Asked) (answer : Answer)
-    → ((files : Files) → IsAnswer state files what answer) → is_ended (kind_by answer) ≡ is_end what
-ended_as_answered state what answer is = ended_answer state no_files what answer (is no_files)
+-- what is prepared for a request is what is prepared for its command
+pub taken_for : {E : Type 0} (told : Option Files) (context : Context) (what same : Asked) (held : Stored)
+    (result : Result Prepared E) → same ≡ what → IsTaken told context same held result
+    → IsTaken told context what held result
+taken_for told context what same held result is h = subst (λ w. IsTaken told context w held result) is h
 
--- ---- the command
+-- by some files it is prepared as the definitions say, where it is whatever files a shelf tells
+pub some_taken : {E : Type 0} (context : Context) (what : Asked) (held : Stored) (result : Result Prepared E)
+    → ((told : Option Files) → IsTaken told context what held result)
+    → IfOk result (IsPreparedBySome context what held)
+some_taken context what held (Ok prepared) h = record {
+  files = no_file;
+  is = λ stores stand. (h (Some no_file)).ok stores no_file stand (λ asks. refl);
+}
+some_taken context what held (Err error) h = tt
 
-pub session_reported : {E : Type 0} (context : Context) (command : read.Command) (version : ℕ) (held : Stored)
-    (result : Result Answer E) → command ≡ Session version
-    → IsReported context (Asks (asked.Session version)) held result
-    → IsReported context (asked_by command) held result
-session_reported context command version held result is h =
-    subst (λ c. IsReported context (asked_by c) held result) (sym is) h
-
--- what was prepared for what a command asks, whatever could have gone wrong
-pub taken_for : {E F : Type 0} (told : Option Files) (context : Context) (command : read.Command) (what : Asked)
-    (held : Stored) (prepared : Prepared) → asked_by command ≡ what
-    → ((files : Option Files) → IsTaken {E = E} files context what held (Ok prepared))
-    → IsTaken {E = F} told context (asked_by command) held (Ok prepared)
-taken_for {E} {F} told context command what held prepared is h =
-    subst (λ w. IsTaken {E = F} told context w held (Ok prepared)) (sym is) (record { ok = (h told).ok; stop = tt })
-
--- and what it lacked, whatever that is called further up
-pub stopped_for : {E F : Type 0} (told : Option Files) (context : Context) (command : read.Command) (what : Asked)
-    (held : Stored) (result : Result Prepared E) (passed : Result Prepared F) → asked_by command ≡ what
-    → ((files : Option Files) → IsTaken {E = E} files context what held result) → is_err result ≡ true
-    → is_err passed ≡ true → IsTaken {E = F} told context (asked_by command) held passed
-stopped_for told context command what held (Ok prepared) passed is h failed left = absurd (cc failed)
-stopped_for told context command what held (Err error) (Ok prepared) is h failed left = absurd (cc left)
-stopped_for {E} {F} told context command what held (Err error) (Err stop) is h failed left =
-    subst (λ w. IsTaken {E = F} told context w held (Err stop)) (sym is)
-    (record { ok = λ files tells. tt; stop = (h told).stop })
-
-pub ended_taken : {E : Type 0} (context : Context) (command : read.Command) (what : Asked) (held : Stored)
-    (prepared : Prepared) → asked_by command ≡ what
-    → ((files : Option Files) → IsTaken {E = E} files context what held (Ok prepared))
-    → is_ended (kind_by prepared.answer) ≡ is_end (asked_by command)
-ended_taken context command what held prepared is h =
-    ended_answer (state_over context held) no_files what prepared.answer
-    ((h (Some no_files)).ok no_files (λ fetches. refl)).answer_is
-    ∙ ap is_end (sym is)
-
-pub ready_for : (command : read.Command) (what : Asked) (held : Stored) (prepared : Prepared) → asked_by command ≡ what
-    → IsReady what held prepared → IsReady (asked_by command) held prepared
-ready_for command what held prepared is h = subst (λ w. IsReady w held prepared) (sym is) h
-
--- ---- commands that only report
+-- ---- requests of a report
 
 abbrev Keeps : Asked → Type 0
-Keeps Nothing = Unit {0}
-Keeps (Faulty cause) = Unit {0}
 Keeps (Asks (asked.OpenSlot slot channels)) = ⊥
 Keeps (Asks (asked.Load slot file columns header)) = ⊥
 Keeps (Asks (asked.Append slot items)) = ⊥
-Keeps (Asks other) = Unit {0}
+Keeps other = Unit {0}
 
 keep_by : (command : Command) (why : Option Cause) → change.Keep ≡ change_in (verdict_by command why change.Keep)
 keep_by command None = refl
@@ -105,22 +78,42 @@ keep_in state files (Faulty cause) h = refl
 keep_in state files (Asks (asked.OpenSlot slot channels)) h = absurd h
 keep_in state files (Asks (asked.Load slot file columns header)) h = absurd h
 keep_in state files (Asks (asked.Append slot items)) h = absurd h
-keep_in state files (Asks other) h = keep_by other (first_of (conditions state files other))
+keep_in state files (Asks other) h = keep_by other (first_cause (conditions state files other))
 
-reports_keep : (command : read.Command) → OnlyReports command → Keeps (asked_by command)
-reports_keep Blank h = absurd h
-reports_keep (Open slot channels) h = absurd h
-reports_keep (Load slot file columns header) h = absurd h
-reports_keep (Append slot items) h = absurd h
-reports_keep other h = tt
+compared_keeps : (by : Comparison) (a b : Ref) → Keeps (Asks (compared_by by a b))
+compared_keeps Join a b = tt
+compared_keeps Mpdist a b = tt
 
-pub prepared_report : (state : State) (files : Files) (command : read.Command) (prepared : Prepared) (answer : Answer)
-    → OnlyReports command → IsAnswer state files (asked_by command) answer → prepared.answer ≡ answer
-    → prepared.change ≡ Keep → IsPrepared state files (asked_by command) prepared
-prepared_report state files command prepared answer only is same kept = record {
-  answer_is = subst (λ a. IsAnswer state files (asked_by command) a) (sym same) is;
-  change_is = ap changed_by kept ∙ keep_in state files (asked_by command) (reports_keep command only);
+reports_keep : (request : ReportRequest) → Keeps (reported_in request)
+reports_keep (Compare pair) = compared_keeps pair.by pair.a pair.b
+reports_keep other = tt
+
+pub prepared_report : (state : State) (files : Files) (request : ReportRequest) (prepared : Prepared) (answer : Answer)
+    → IsAnswer state files (reported_in request) answer → prepared.answer ≡ answer → prepared.change ≡ Keep
+    → IsPrepared state files (reported_in request) prepared
+prepared_report state files request prepared answer is same kept = record {
+  answer_is = subst (λ a. IsAnswer state files (reported_in request) a) (sym same) is;
+  change_is = ap changed_by kept ∙ keep_in state files (reported_in request) (reports_keep request);
 }
+
+-- what a report names is still there where only reads and room were changed
+report_lasts : (old new : Stored) (report : reports.Report) → StandAsBefore old new → AreNamed old report
+    → AreNamed new report
+report_lasts old new (report.Profile at) last there = channel_lasts old new at last there
+report_lasts old new (report.Entry at start) last there = record {
+  channel = channel_lasts old new at last there.channel;
+  within =
+      let same = ap series_of (items_last old new at last) in
+      omega (arith, last.window_is, ap length same, there.within);
+}
+report_lasts old new other last there = tt
+
+pub names_last : (old new : Stored) (answer : Answer) → StandAsBefore old new → NamesChannels old answer
+    → NamesChannels new answer
+names_last old new Silent last there = tt
+names_last old new (Refused cause) last there = tt
+names_last old new (Accepted report) last there = report_lasts old new report last there
+names_last old new (Ended report) last there = report_lasts old new report last there
 
 -- ---- no change
 
@@ -133,14 +126,31 @@ keep_adds what ours same = subst (λ c. AddsAsAsked what c) (sym same) tt
 pub keep_puts : (ours : Change) (slot : ℕ) (renewed : Bool) → ours ≡ Keep → puts ours slot ≡ true → renewed ≡ true
 keep_puts ours slot renewed same put = absurd (cc (ap (λ c. puts c slot) same, put))
 
--- ---- a line that isn't read
+-- ---- a line that asks for nothing, or isn't read
+
+pub prepared_quiet : (context : Context) (held : Stored) (prepared : Prepared) → prepared.answer ≡ Silent
+    → prepared.change ≡ Keep → IsPreparedBySome context Nothing held prepared
+prepared_quiet context held prepared answer kept = record {
+  files = no_file;
+  is = λ stores stand. record { answer_is = rw answer refl; change_is = ap changed_by kept };
+}
+
+pub prepared_faulty : (context : Context) (what : Asked) (held : Stored) (prepared : Prepared) (cause why : Cause)
+    → prepared.answer ≡ Refused cause → cause ≡ why → prepared.change ≡ Keep → Faulty why ≡ what
+    → IsPreparedBySome context what held prepared
+prepared_faulty context what held prepared cause why answer same kept is =
+    subst (λ w. IsPreparedBySome context w held prepared) is
+    (record {
+      files = no_file;
+      is = λ stores stand. record { answer_is = rw (answer ∙ ap Refused same) refl; change_is = ap changed_by kept };
+    })
 
 pub refused_ends : (line : List ℕ) (answer : Answer) (cause why : Cause) → answer ≡ Refused cause
-    → Faulty why ≡ asked_of line → is_ended (kind_by answer) ≡ ends line
+    → Faulty why ≡ asked_of first_version line → is_ended (kind_by answer) ≡ ends line
 refused_ends line answer cause why same is = ap (λ a. is_ended (kind_by a)) same ∙ sym (ends_by line (Faulty why) is)
 
-pub ends_of : {E : Type 0} (result : Result Prepared E) (line : List ℕ) (what : Asked) → what ≡ asked_of line
-    → IfOk result (λ prepared. is_ended (kind_by prepared.answer) ≡ is_end what)
+pub ends_of : {E : Type 0} (result : Result Prepared E) (line : List ℕ) (what : Asked) (held : Stored)
+    → what ≡ asked_of first_version line → IfOk result (IsReady what held)
     → IfOk result (λ prepared. is_ended (kind_by prepared.answer) ≡ ends line)
-ends_of (Ok prepared) line what is h = h ∙ sym (ends_by line what is)
-ends_of (Err stop) line what is h = tt
+ends_of (Ok prepared) line what held is h = h.ends ∙ sym (ends_by line what is)
+ends_of (Err stop) line what held is h = tt

@@ -14,17 +14,13 @@ use Rattle.mp_replies.specs.declared.refs.Ref.{Ref}
 use Rattle.mp_replies.specs.ConsensusCommand.{consensus_fits}
 use Rattle.mp_replies.specs.Limits.{min_refs, slot_count}
 use Rattle.mp_replies.specs.Numbers.{all_some, onto_some, ref, refs}
-use Rattle.mp_replies.specs.State.{Store, channels_at, series_at}
-use Rattle.mp_slots.specs.Slots.{AreChannels, IsChannel, Stored, count_of, items_in, slot_at, stores_of}
-use Rattle.mp_slots.specs.StoreLaws.{channels_at-stores, count_at}
+use Rattle.mp_replies.specs.State.{Store, series_at}
+use Rattle.mp_stores.specs.Stores.{AreChannels, IsChannel, StandFor, Stored, channel_series, count_of, items_in}
+use Rattle.mp_stores.specs.Stores.{nothing}
+use Rattle.mp_stores.specs.Stores.{series_in, streams_at}
+use Rattle.mp_stores.specs.StoreLaws.{series_in_channel, series_stands}
 use Rattle.mp_stream.specs.Streams.{Streamed}
 use Rattle.mp_commands.specs.Reads.{refs_of}
-
--- the same stores have as many channels
-pub same_count : (old new : Stored) (slot : ℕ) → stores_of new ≡ stores_of old
-    → length (slot_at new slot) ≡ length (slot_at old slot)
-same_count old new slot same =
-    sym (count_at new slot) ∙ (ap (λ (ss : List Store). length (channels_at ss slot)) same ∙ count_at old slot)
 
 -- ---- copies
 
@@ -42,24 +38,30 @@ only_series (first ∷ others) samples series got one =
     let here : series_of first ≡ series = cc in
     ap series_of (sym same) ∙ here
 
+-- copies of some channels are their series in the stores
+pub series_of_refs : (held : Stored) (stores : List Store) (list : List Ref) → StandFor held stores
+    → All (IsChannel held) list → map (channel_series held) list ≡ map (series_at stores) list
+series_of_refs held stores [] stand there = refl
+series_of_refs held stores (at ∷ list) stand there =
+    ap (λ (s : Series). s ∷ map (channel_series held) list)
+    (sym (series_stands held stores at stand (All-head (IsChannel held) at list there)))
+    ∙ ap (λ (ss : List Series). series_at stores at ∷ ss)
+    (series_of_refs held stores list stand (All-tail (IsChannel held) at list there))
+
 -- ---- all channels of a slot
 
-pub named_channels : (held : Stored) (slot : ℕ)
-    → map (series_at (stores_of held)) (refs_of held slot) ≡ channels_at (stores_of held) slot
+named_channels : (held : Stored) (slot : ℕ)
+    → map (channel_series held) (refs_of held slot) ≡ series_in (streams_at held slot)
 named_channels held slot =
-    let list = channels_at (stores_of held) slot in
-    let count = length (slot_at held slot) in
-    map-map (series_at (stores_of held)) (λ (k : ℕ). record { slot = slot; channel = k }) (range_with_len 0 count)
-    ∙ sym (fill_by_all (λ (k : ℕ). slice_index_or list k []) list count [] (count_at held slot) (λ k below. refl))
-
-pub refs_long : (held : Stored) (slot : ℕ) → length (refs_of held slot) ≡ length (slot_at held slot)
-refs_long held slot =
-    length-map (range_with_len 0 (length (slot_at held slot))) (λ (k : ℕ). record { slot = slot; channel = k })
-    ∙ length-range_with_len 0 (length (slot_at held slot))
+    let channels = streams_at held slot in
+    let count = length channels in
+    map-map (channel_series held) (λ (k : ℕ). record { slot = slot; channel = k }) (range_with_len 0 count)
+    ∙ sym (fill_by_all (λ (k : ℕ). series_of (slice_index_or channels k nothing).items) (series_in channels) count []
+    (length-map channels (λ (c : Streamed). series_of c.items)) (λ k below. series_in_channel channels k))
 
 pub each_channel : (held : Stored) (slot : ℕ) → slot < slot_count → All (IsChannel held) (refs_of held slot)
 each_channel held slot within =
-    let count = length (slot_at held slot) in
+    let count = length (streams_at held slot) in
     All-map (IsChannel held) (λ (k : ℕ). record { slot = slot; channel = k }) (range_with_len 0 count)
     (λ k d below.
     let there : k < count = omega (arith, below, length-range_with_len 0 count) in
@@ -88,19 +90,25 @@ one_length n (x ∷ xs) all =
     subst (λ (k : ℕ). All (λ samples. length samples ≡ k) (x ∷ xs)) (sym here) all
 
 -- copies of all channels of a slot
-pub have_one_length : (held : Stored) (slot : ℕ) (bundle : List (List Sample)) → AreChannels (slot_at held slot)
-    → map series_of bundle ≡ channels_at (stores_of held) slot → HaveOneLength bundle
-have_one_length held slot bundle alike same =
-    let items = items_in (slot_at held slot) in
-    let shown : map series_of bundle ≡ map series_of items =
-    same ∙ (channels_at-stores held slot ∙ sym (map-map series_of (λ (c : Streamed). c.items) (slot_at held slot))) in
-    one_length (count_of items) bundle (same_lengths (count_of items) bundle items shown alike.same)
+pub have_one_length : (channels : List Streamed) (bundle : List (List Sample)) → AreChannels channels
+    → map series_of bundle ≡ series_in channels → HaveOneLength bundle
+have_one_length channels bundle alike same =
+    let items = items_in channels in
+    one_length (count_of items) bundle
+    (same_lengths (count_of items) bundle items
+    (same ∙ sym (map-map series_of (λ (c : Streamed). c.items) channels)) alike.same)
 
 pub copied_channels : (held : Stored) (slot : ℕ) (named read : List Ref) (bundle : List (List Sample))
-    → read ≡ named → named ≡ refs_of held slot → map series_of bundle ≡ map (series_at (stores_of held)) read
-    → map series_of bundle ≡ channels_at (stores_of held) slot
+    → read ≡ named → named ≡ refs_of held slot → map series_of bundle ≡ map (channel_series held) read
+    → map series_of bundle ≡ series_in (streams_at held slot)
 copied_channels held slot named read bundle lent all copied =
-    copied ∙ (ap (map (series_at (stores_of held))) (lent ∙ all) ∙ named_channels held slot)
+    copied ∙ (ap (map (channel_series held)) (lent ∙ all) ∙ named_channels held slot)
+
+-- there are as many
+pub copied_long : (channels : List Streamed) (bundle : List (List Sample)) → map series_of bundle ≡ series_in channels
+    → length bundle ≡ length channels
+copied_long channels bundle same =
+    copies_long bundle (series_in channels) same ∙ length-map channels (λ (c : Streamed). series_of c.items)
 
 -- ---- refs of a line
 

@@ -1,4 +1,5 @@
 pub mod Answers
 pub mod Reads
+pub mod Requests
 pub mod Preparing
 pub mod Reports

@@ -1,5 +1,5 @@
 -- What is prepared for a line before anything changes, and the change.
-use Rattle.std.specs.Prelude.{◌≡◌, ℕ, ◌+◌, ◌<◌, ◌≤◌, ◌==◌, Bool, true, false, List, [], All, length, map, unwrap_or}
+use Rattle.std.specs.Prelude.{◌≡◌, ℕ, ◌<◌, ◌==◌, Bool, true, false, List, [], All, length, map}
 use Rattle.std.specs.Prelude.{Option, Some, None, Result, IfOk, OnErr}
 use Rattle.mp_nums.specs.declared.samples.Sample.{Sample}
 use Rattle.mp_defs.specs.Series.{series_of}
@@ -10,38 +10,42 @@ use Rattle.mp_replies.specs.declared.causes.Cause.TheVariants as causes
 use Rattle.mp_replies.specs.Answer as replies
 use Rattle.mp_replies.specs.Change as change
 use Rattle.mp_replies.specs.Command as asked
-use Rattle.mp_replies.specs.Numbers.{columns}
-use Rattle.mp_replies.specs.Conditions.{first_of}
+use Rattle.mp_replies.specs.Conditions.{Condition, first_cause}
 use Rattle.mp_replies.specs.Laws.{IsWithin}
 use Rattle.mp_replies.specs.Limits.{slot_count}
-use Rattle.mp_replies.specs.Line.{Asked, Nothing, Asks, Faulty}
-use Rattle.mp_replies.specs.Report.{text_of}
-use Rattle.mp_replies.specs.State.{Files, State}
+use Rattle.mp_replies.specs.Line.{Asked, Nothing, Asks, Faulty, is_end}
+use Rattle.mp_replies.specs.State.{Files, State, Store, version_of}
 use Rattle.mp_replies.specs.Step.{after_by, answer_by, change_in, fetches_by, state_conditions, verdict_of}
 use Rattle.mp_outside.specs.Counts.{Rose}
 use Rattle.mp_outside.specs.declared.shelves.Shelf as shelves
-use Rattle.mp_lines.specs.declared.commands.Command.{Command}
-use Rattle.mp_lines.specs.declared.commands.Command.TheVariants.{Blank, Open, Load, Append}
-use Rattle.mp_slots.specs.Slots.{Held, Stored, AreChannels, AreEven, HaveRoom, HaveWindow, lists_in, series_in, slot_at}
-use Rattle.mp_slots.specs.Slots.{stores_of}
+use Rattle.mp_stores.specs.Stores.{Stored, AreEven, CanOpen, HaveRoom, StandFor, lists_in, series_in, streams_at}
 use Rattle.mp_commands.specs.declared.answers.Answer.{Answer}
 use Rattle.mp_commands.specs.declared.context.Context.{Context}
-use Rattle.mp_commands.specs.declared.load_command.Load as loads
 use Rattle.mp_commands.specs.declared.prepared.Change.{Change}
 use Rattle.mp_commands.specs.declared.prepared.Change.TheVariants.{Keep, PutChannels, AddSamples}
 use Rattle.mp_commands.specs.declared.prepared.Prepared.{Prepared}
-use Rattle.mp_commands.specs.Answers.{shown, kind_by, kind_of, is_accepted}
+use Rattle.mp_commands.specs.Answers.{NamesChannels, answered, kind_by, is_accepted, is_ended}
 use Rattle.mp_commands.specs.Reads.{renews}
 
--- the state that slots and what is known beside them stand for
-abbrev pub state_over : Context → Stored → State
-state_over context held = record {
+-- the state of these stores, for which slots stand, and of what is known beside the slots
+abbrev pub state_over : Context → Stored → List Store → State
+state_over context held stores = record {
   window = held.m;
   scale = context.settings.scale;
   lines = context.lines;
   begun = context.begun;
-  stores = stores_of held;
+  stores = stores;
 }
+
+-- the version of each of these states
+abbrev pub version_in : Context → ℕ
+version_in context = version_of (state_over context (record { m = 0; slots = [] }) [])
+
+-- ---- refusals
+
+-- whatever stores slots stand for, this is the word of the first of these conditions that holds, none where none does
+abbrev pub IsCause : Stored → (List Store → List Condition) → Option Cause → Type 0
+IsCause held conditions cause = (stores : List Store) → StandFor held stores → first_cause (conditions stores) ≡ cause
 
 -- ---- the answer
 
@@ -49,16 +53,16 @@ state_over context held = record {
 abbrev pub answer_in : State → Files → Asked → replies.Answer
 answer_in state files asked = answer_by (after_by state (verdict_of state files asked)) (verdict_of state files asked)
 
--- the program's answer is theirs, by its text and what becomes of the line
-pub record IsAnswer (state : State) (files : Files) (asked : Asked) (answer : Answer) : Type 0 where
-  pub text_is : shown (state.lines + 1) answer ≡ text_of (state.lines + 1) (answer_in state files asked)
-  pub kind_is : kind_by answer ≡ kind_of (answer_in state files asked)
+-- the program's answer is theirs, in the state before the line. The state behind it has the same channels where the
+-- answer names one, since such a line changes none
+abbrev pub IsAnswer : State → Files → Asked → Answer → Type 0
+IsAnswer state files asked answer = answered state answer ≡ answer_in state files asked
 
 -- a command that nothing refuses without a file
 abbrev pub IsUnrefused : State → Asked → Type 0
 IsUnrefused state Nothing = ⊥
 IsUnrefused state (Faulty cause) = ⊥
-IsUnrefused state (Asks command) = first_of (state_conditions state command) ≡ None
+IsUnrefused state (Asks command) = first_cause (state_conditions state command) ≡ None
 
 -- where a line asks for a file, the shelf tells these files
 abbrev pub ToldFor : Option Files → State → Asked → Files → Type 0
@@ -100,15 +104,6 @@ AddsAsAsked other (AddSamples slot added) = ⊥
 abbrev pub KeepsUnlessAccepted : Prepared → Type 0
 KeepsUnlessAccepted prepared = is_accepted (kind_by prepared.answer) ≡ false → prepared.change ≡ Keep
 
--- ---- commands that only report
-
-abbrev pub OnlyReports : Command → Type 0
-OnlyReports Blank = ⊥
-OnlyReports (Open slot channels) = ⊥
-OnlyReports (Load slot file columns header) = ⊥
-OnlyReports (Append slot items) = ⊥
-OnlyReports other = Unit {0}
-
 -- the numbers of a command lie within their limits
 abbrev pub IsWithinLimits : Asked → Type 0
 IsWithinLimits Nothing = Unit {0}
@@ -123,9 +118,6 @@ cause_by (BadField number column fault) = causes.Record number
 cause_by (NoField number column) = causes.Record number
 cause_by TooManyRows = causes.Rows
 
-abbrev pub asks_for : loads.Load → Asked
-asks_for load = Asks (asked.Load load.slot load.file.now (unwrap_or (columns load.columns.field.now) []) load.header)
-
 -- ---- what is there for the change
 
 -- channels without a sample, of which nothing was read
@@ -133,21 +125,19 @@ pub record IsEmpty (channel : Streamed) : Type 0 where
   pub items_are : channel.items ≡ []
   pub unread : channel.reads ≡ 0
 
-abbrev pub AreEmpty : Held → Type 0
+abbrev pub AreEmpty : List Streamed → Type 0
 AreEmpty channels = All IsEmpty channels
 
--- channels of the same length, with profiles at this window length
-pub record CanPut (m slot : ℕ) (channels : Held) : Type 0 where
+-- channels that a slot can be open with
+pub record CanPut (m slot : ℕ) (channels : List Streamed) : Type 0 where
   pub within : slot < slot_count
-  pub some : 1 ≤ length channels
-  pub alike : AreChannels channels
-  pub window : HaveWindow m channels
+  pub are : CanOpen m channels
 
 -- as many samples for each channel, for which there is room
 pub record CanAdd (held : Stored) (slot : ℕ) (added : List (List Sample)) : Type 0 where
   pub within : slot < slot_count
-  pub is_open : 0 < length (slot_at held slot)
-  pub room : HaveRoom (slot_at held slot) added
+  pub is_open : 0 < length (streams_at held slot)
+  pub room : HaveRoom (streams_at held slot) added
   pub even : AreEven added
 
 -- the change needs no memory
@@ -158,28 +148,43 @@ CanMake held (AddSamples slot added) = CanAdd held slot (lists_in added.items)
 
 -- ---- a line
 
--- it is prepared as the definitions say, by the files that the shelf tells, and what it lacks is wanting only where
--- nothing refuses it without a file
+-- whatever stores the slots stand for, it is prepared as the definitions say, by the files that the shelf tells, and
+-- what it lacks is wanting only where nothing refuses it without a file
 pub record IsTaken {E : Type 0} (told : Option Files) (context : Context) (what : Asked) (held : Stored)
     (result : Result Prepared E) : Type 0 where
-  pub ok : (files : Files) → ToldFor told (state_over context held) what files
-      → IfOk result (IsPrepared (state_over context held) files what)
-  pub stop : OnErr result (IsUnrefused (state_over context held) what)
+  pub ok : (stores : List Store) (files : Files) → StandFor held stores
+      → ToldFor told (state_over context held stores) what files
+      → IfOk result (IsPrepared (state_over context held stores) files what)
+  pub stop : (stores : List Store) → StandFor held stores
+      → OnErr result (IsUnrefused (state_over context held stores) what)
+
+-- by some files, which no shelf needs to tell, it is prepared as the definitions say, whatever stores the slots stand for
+pub record IsPreparedBySome (context : Context) (what : Asked) (held : Stored) (prepared : Prepared) : Type 0 where
+  pub files : Files
+  pub is : (stores : List Store) → StandFor held stores
+      → IsPrepared (state_over context held stores) files what prepared
 
 -- its change can be made in these slots, puts channels where the line asks for it alone, and is none where the line
--- isn't accepted
+-- isn't accepted, and its answer names channels of theirs, and ends the run where the line asks for that
 pub record IsReady (what : Asked) (held : Stored) (prepared : Prepared) : Type 0 where
   pub can : CanMake held prepared.change
   pub kept : KeepsUnlessAccepted prepared
   pub renewed : (slot : ℕ) → puts prepared.change slot ≡ true → renews what slot ≡ true
   pub adds : AddsAsAsked what prepared.change
+  pub names : NamesChannels held prepared.answer
+  pub ends : is_ended (kind_by prepared.answer) ≡ is_end what
 
--- the shelf tells the files that it told. Its faults rise exactly where it failed, and it is asked for a file where one
--- is wanted alone
-pub record IsAsked {H : Type 0} (shelf : shelves.Ghosts H) (wanted : Bool) (failed : Type 0) (old new : H)
-    : Type 0 where
+-- it asks for no file where the slots stand for some stores
+pub record NeedsNoFile (context : Context) (what : Asked) (held : Stored) : Type 0 where
+  pub stores : List Store
+  pub stand : StandFor held stores
+  pub none : fetches_by (state_over context held stores) what ≡ false
+
+-- the shelf tells the files that it told. Its faults rise exactly where it failed, and it isn't asked where no file is
+-- wanted
+pub record IsAsked {H : Type 0} (shelf : shelves.Ghosts H) (unwanted failed : Type 0) (old new : H) : Type 0 where
   pub files : shelf.files new ≡ shelf.files old
   pub fault : failed → Rose (shelf.faults old) (shelf.faults new)
   pub calm : ¬ failed → shelf.faults new ≡ shelf.faults old
-  pub unfetched : wanted ≡ false → new ≡ old
-  pub no_fault : wanted ≡ false → failed → ⊥
+  pub unfetched : unwanted → new ≡ old
+  pub no_fault : unwanted → failed → ⊥

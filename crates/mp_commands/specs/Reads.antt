@@ -6,12 +6,12 @@ use Rattle.mp_defs.specs.Window.{windows}
 use Rattle.mp_replies.specs.declared.refs.Ref.{Ref}
 use Rattle.mp_replies.specs.Command.{OpenSlot, Load, Append, Window, Join, Multi, Match, Motifs, Mpdist, Consensus}
 use Rattle.mp_replies.specs.Line.{Asked, Asks}
-use Rattle.mp_slots.specs.Slots.{Stored, count_in, lent_once, reads_in, slot_at, stores_of}
+use Rattle.mp_stores.specs.Stores.{StandAsBefore, Stored, count_in, lent_once, reads_at, streams_at}
 
 -- all channels of a slot
 abbrev pub refs_of : Stored → ℕ → List Ref
 refs_of held slot =
-    map (λ channel. record { slot = slot; channel = channel }) (range_with_len 0 (length (slot_at held slot)))
+    map (λ channel. record { slot = slot; channel = channel }) (range_with_len 0 (length (streams_at held slot)))
 
 -- the channels whose samples a line has lent once each, for each time that it names them
 abbrev pub lends : Stored → Asked → List Ref
@@ -31,7 +31,7 @@ lent_in held refs slot = sum_by (λ at. lent_once held at slot) refs
 -- the most reads of an append of so many items to each of a slot's channels
 abbrev pub append_reads : Stored → ℕ → ℕ → ℕ
 append_reads held slot items =
-    length (slot_at held slot) * (items * (4 * (windows (count_in (slot_at held slot) + items) held.m + held.m)))
+    length (streams_at held slot) * (items * (4 * (windows (count_in (streams_at held slot) + items) held.m + held.m)))
 
 -- the most reads of a slot's samples that are made before anything changes
 abbrev pub most_lent : Stored → Asked → ℕ → ℕ
@@ -52,9 +52,6 @@ renews (Asks (OpenSlot at channels)) slot = slot == at
 renews (Asks (Load at file columns header)) slot = slot == at
 renews other slot = false
 
-abbrev pub reads_at : Stored → ℕ → ℕ
-reads_at held slot = reads_in (slot_at held slot)
-
 -- no slot's count of reads was changed
 abbrev pub AreUnread : Stored → Stored → Type 0
 AreUnread old new = (slot : ℕ) → reads_at new slot ≡ reads_at old slot
@@ -66,8 +63,7 @@ pub record WereRead (most : ℕ → ℕ) (old new : Stored) : Type 0 where
 
 -- the slots hold what they held, and their samples were read no oftener than a line asks for before anything changes
 pub record IsKept (asked : Asked) (old new : Stored) : Type 0 where
-  pub stores : stores_of new ≡ stores_of old
-  pub m : new.m ≡ old.m
+  pub stands : StandAsBefore old new
   pub read : WereRead (most_lent old asked) old new
 
 -- a line that asks for nothing or is refused by itself, and one whose report stands in a profile or shows no samples

@@ -2,12 +2,14 @@
 
 ghost use Rattle.std.specs.Prelude.{◌≡◌, IfOk};
 ghost use Rattle.mp_commands.specs.Answers.{is_accepted as is_accepted_kind, is_ended as is_ended_kind};
-ghost use Rattle.mp_commands.specs.Answers.{is_refused as is_refused_kind, kind_by, shown};
+ghost use Rattle.mp_commands.specs.Answers.{is_refused as is_refused_kind, kind_by};
 
 use crate::replies::Reply;
-use mp_nums::{Memory, Text};
+use crate::reports::Report;
+use crate::written::answer_text;
+use mp_nums::Memory;
 use mp_replies::Cause;
-use mp_report::refused_text;
+use mp_stores::Stores;
 use std::alloc::Global;
 
 /// What became of a line.
@@ -53,18 +55,22 @@ impl ReplyKind {
     }
 }
 
-/// The answer to a line. A report stands there as it is written.
+/// The answer to a line.
 #[derive(Debug, Drop)]
 pub enum Answer {
     /// To a blank line or a comment.
     Silent,
     Refused(Cause),
-    Accepted(Text),
+    Accepted(Report),
     /// Accepted, and no line behind is run.
-    Ended(Text),
+    Ended(Report),
 }
 
 impl Answer {
+    ghost use Rattle.mp_replies.specs.Report.{text_of};
+    ghost use Rattle.mp_replies.specs.State.{State};
+    ghost use Rattle.mp_commands.specs.Answers.{AreSlotsOf, NamesChannels, answered};
+
     /// What becomes of the line.
     pub fn kind(&self) -> ReplyKind
         ensures { result ≡ kind_by self.now }
@@ -77,17 +83,15 @@ impl Answer {
         }
     }
 
-    /// The reply to the line of this number.
-    pub fn reply(self, alloc: Global, line: u64) -> Result<Reply, Memory>
-        ensures text { IfOk result (λ r. r.text.items ≡ shown line self) }
+    /// The reply to the line of this number. What the answer names is looked up in the slots.
+    pub fn reply(self, alloc: Global, line: u64, stores: &Stores) -> Result<Reply, Memory>
+        requires { NamesChannels stores.now self }
+        ensures text { (state : State) → AreSlotsOf state stores.now
+            → IfOk result (λ r. r.text.items ≡ text_of line (answered state self)) }
         ensures kind { IfOk result (λ r. r.kind ≡ kind_by self) }
     {
+        let text = answer_text(alloc, line, &self, stores)?;
         let kind = self.kind();
-        let text = match self {
-            Answer::Silent => Text::new(alloc),
-            Answer::Refused(cause) => refused_text(alloc, line, cause)?,
-            Answer::Accepted(text) | Answer::Ended(text) => text,
-        };
         Ok(Reply { text, kind })
     }
 }

@@ -1,63 +1,63 @@
 //! `append S ITEM ITEM ..`: samples behind those of each channel of a slot.
 
 ghost use Rattle.std.specs.Prelude.{◌≡◌, ◌+◌, ℕ, ◌<◌, ◌≤◌, ◌==◌, ◌∷◌, [], length, map, replicate, is_ok, true};
-ghost use Rattle.std.specs.Prelude.{Option, Ok, Some, None, IfOk, IfErr, OnOk};
+ghost use Rattle.std.specs.Prelude.{List, Option, Ok, Some, None, IfOk, IfErr, OnOk, IsErrOf};
 ghost use Rattle.mp_bytes.specs.Fields.{fields_in};
 ghost use Rattle.mp_defs.specs.Limits.{max_samples};
 ghost use Rattle.mp_defs.specs.Series.{series_of};
 ghost use Rattle.mp_replies.specs.AppendCommand.{append_conditions, bad_in, item_of, read_items as items_read, rows_in};
 ghost use Rattle.mp_replies.specs.Change.{extended};
 ghost use Rattle.mp_replies.specs.Command as asked;
-ghost use Rattle.mp_replies.specs.Conditions.{first_of};
 ghost use Rattle.mp_replies.specs.Limits.{max_scale};
 ghost use Rattle.mp_replies.specs.Line.{Asks};
-ghost use Rattle.mp_replies.specs.State.{Files, channels_at, is_closed, samples_in, store_at};
-ghost use Rattle.mp_commands.specs.Preparing.{IsReady, IsTaken};
+ghost use Rattle.mp_replies.specs.State.{Files, Store, channels_at, is_closed, store_at};
+ghost use Rattle.mp_commands.specs.Preparing.{IsCause, IsReady, IsTaken};
 ghost use Rattle.mp_commands.specs.Reads.{AreUnread};
-ghost use Rattle.mp_slots.specs.Slots.{lists_in, stores_of};
+ghost use Rattle.mp_stores.specs.Stores.{StandAsBefore, StandFor, count_in, lists_in, streams_at};
 ghost use Rattle.mp_text.specs.Rows.{Row, columns_of};
 
 use crate::answers::Answer;
 use crate::context::Context;
 use crate::prepared::{Change, Prepared};
+use crate::replies::Stop;
+use crate::reports::Report;
+use crate::requests::Appending;
 use mp_bytes::{Fields, Values};
 use mp_nums::{Memory, Sample};
 use mp_replies::Cause;
-use mp_report::ok_text;
 use mp_series::MAX_SAMPLES;
-use mp_slots::Slots;
+use mp_stores::Stores;
 use mp_text::read_sample;
 use std::alloc::Global;
 
 /// Takes the room for the items and reads them, where none is bad and all fit. Want of memory comes only where nothing
 /// refuses the line.
 pub(crate) fn prepare_append(
-    alloc: Global,
-    slots: &mut Slots,
+    stores: &mut Stores,
     context: Context,
-    slot: u64,
-    items: &[u8],
-) -> Result<Prepared, Memory>
+    more: Appending<'_>,
+) -> Result<Prepared, Stop>
     ensures prepared { (told : Option Files)
-        → IsTaken told context (Asks (asked.Append slot (fields_in items.now))) slots.old result }
-    ensures ready { IfOk result (IsReady (Asks (asked.Append slot (fields_in items.now))) slots.new) }
-    ensures stores { stores_of slots.new ≡ stores_of slots.old }
-    ensures m { slots.new.m ≡ slots.old.m }
-    ensures unread { AreUnread slots.old slots.new }
+        → IsTaken told context (Asks (asked.Append more.entry.slot (fields_in more.entry.items.now))) stores.old result }
+    ensures ready { IfOk result (IsReady (Asks (asked.Append more.entry.slot (fields_in more.entry.items.now))) stores.new) }
+    ensures calm { IsErrOf result Stop.ShelfFault → ⊥ }
+    ensures stands { StandAsBefore stores.old stores.new }
+    ensures unread { AreUnread stores.old stores.new }
 {
+    let Appending { slot, items } = more;
     let form = Form {
         scale: context.settings.scale(),
-        channels: slots.count(slot),
+        channels: stores.count(slot),
     };
-    let more = match count_items(slots, form, slot, items) {
-        Ok(more) => more,
+    let count = match count_items(stores, form, slot, items) {
+        Ok(count) => count,
         Err(cause) => return Ok(Prepared::refused(cause)),
     };
-    slots.reserve(slot, more)?;
-    let text = ok_text(alloc, context.line(), Some(slots.len(slot) + more))?;
-    let added = read_items(alloc, items, form, more)?;
+    stores.reserve(slot, count)?;
+    let samples = stores.len(slot) + count;
+    let added = read_items(context.alloc, items, form, count)?;
     Ok(Prepared {
-        answer: Answer::Accepted(text),
+        answer: Answer::Accepted(Report::Append { samples }),
         change: Change::AddSamples { slot, added },
     })
 }
@@ -73,17 +73,19 @@ struct Form {
 /// How many items there are, where none is bad and all fit behind the samples of the slot, or why the line is refused.
 /// It takes no memory.
 #[tactic(auto, using(mp_bytes::specs::FieldLaws::fields_within))]
-fn count_items(slots: &Slots, form: Form, slot: u64, items: &[u8]) -> Result<u64, Cause>
+fn count_items(stores: &Stores, form: Form, slot: u64, items: &[u8]) -> Result<u64, Cause>
     requires places { form.scale ≤ max_scale }
-    requires channels { form.channels ≡ length (channels_at (stores_of slots.now) slot) }
-    requires closed { is_closed (store_at (stores_of slots.now) slot) ≡ (form.channels == 0) }
-    ensures refused { IfErr result (λ cause. first_of
-        (append_conditions form.scale (stores_of slots.now) slot (fields_in items.now)) ≡ Some cause) }
-    ensures fine { OnOk result (first_of
-        (append_conditions form.scale (stores_of slots.now) slot (fields_in items.now)) ≡ None) }
+    requires channels { (stands : List Store) → StandFor stores.now stands
+        → form.channels ≡ length (channels_at stands slot) }
+    requires closed { (stands : List Store) → StandFor stores.now stands
+        → is_closed (store_at stands slot) ≡ (form.channels == 0) }
+    ensures refused { IfErr result (λ cause. IsCause stores.now
+        (λ stands. append_conditions form.scale stands slot (fields_in items.now)) (Some cause)) }
+    ensures fine { OnOk result (IsCause stores.now
+        (λ stands. append_conditions form.scale stands slot (fields_in items.now)) None) }
     ensures good { OnOk result (bad_in (items_read form.scale form.channels (fields_in items.now)) ≡ None) }
     ensures count { IfOk result (λ count. count ≡ length (fields_in items.now)) }
-    ensures fits { IfOk result (λ count. samples_in (channels_at (stores_of slots.now) slot) + count ≤ max_samples) }
+    ensures fits { IfOk result (λ count. count_in (streams_at stores.now slot) + count ≤ max_samples) }
     ensures open { OnOk result (0 < form.channels) }
 {
     if form.channels == 0 {
@@ -96,7 +98,7 @@ fn count_items(slots: &Slots, form: Form, slot: u64, items: &[u8]) -> Result<u64
         }
         count += 1;
     }
-    if MAX_SAMPLES - slots.len(slot) < count {
+    if MAX_SAMPLES - stores.len(slot) < count {
         return Err(Cause::Full);
     }
     Ok(count)

@@ -7,47 +7,37 @@ ghost use Rattle.mp_commands.specs.Reports.{IsReported};
 use crate::answers::Answer;
 use crate::conditions::{ref_cause, window_cause};
 use crate::context::Context;
-use mp_chains::{all_chains, anchored, longest};
+use crate::reports::Report;
+use mp_chains::{all_chains, anchored};
 use mp_nums::Memory;
 use mp_replies::Ref;
-use mp_report::{chain_text, chains_text};
-use mp_slots::Slots;
-use std::alloc::Global;
+use mp_stores::Stores;
 
 /// It reads no sample.
 pub(crate) fn report_chain(
-    alloc: Global,
-    slots: &Slots,
+    stores: &Stores,
     context: Context,
     at: Ref,
     start: u64,
 ) -> Result<Answer, Memory>
-    ensures { IsReported context (Asks (asked.Chain at start)) slots.now result }
+    ensures { IsReported context (Asks (asked.Chain at start)) stores.now result }
 {
-    if let Some(cause) = window_cause(slots, at, start) {
+    if let Some(cause) = window_cause(stores, at, start) {
         return Ok(Answer::Refused(cause));
     }
-    let profile = slots.profile(at);
-    let chain = anchored(alloc, profile.left(), profile.right(), start)?;
-    let text = chain_text(alloc, context.line(), chain.as_slice())?;
-    Ok(Answer::Accepted(text))
+    let profile = stores.profile(at);
+    let chain = anchored(context.alloc, profile.left(), profile.right(), start)?;
+    Ok(Answer::Accepted(Report::Chain(chain)))
 }
 
 /// It reads no sample.
-pub(crate) fn report_chains(
-    alloc: Global,
-    slots: &Slots,
-    context: Context,
-    at: Ref,
-) -> Result<Answer, Memory>
-    ensures { IsReported context (Asks (asked.Chains at)) slots.now result }
+pub(crate) fn report_chains(stores: &Stores, context: Context, at: Ref) -> Result<Answer, Memory>
+    ensures { IsReported context (Asks (asked.Chains at)) stores.now result }
 {
-    if let Some(cause) = ref_cause(slots, at) {
+    if let Some(cause) = ref_cause(stores, at) {
         return Ok(Answer::Refused(cause));
     }
-    let profile = slots.profile(at);
-    let chains = all_chains(alloc, profile.left(), profile.right())?;
-    let place = longest(chains.as_slice());
-    let text = chains_text(alloc, context.line(), chains.as_slice(), place)?;
-    Ok(Answer::Accepted(text))
+    let profile = stores.profile(at);
+    let chains = all_chains(context.alloc, profile.left(), profile.right())?;
+    Ok(Answer::Accepted(Report::Chains(chains)))
 }

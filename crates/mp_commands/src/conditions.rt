@@ -1,25 +1,26 @@
 //! Why a command is refused, without a file.
 
-ghost use Rattle.std.specs.Prelude.{◌≡◌, ◌+◌, ◌≤◌, ◌<◌, ◌∷◌, [], All, length, unwrap_or, IfNone};
+ghost use Rattle.std.specs.Prelude.{◌≡◌, ◌+◌, ◌≤◌, ◌<◌, List, ◌∷◌, [], All, length, unwrap_or, IfNone};
 ghost use Rattle.std.specs.Bool.{OnFalse};
-ghost use Rattle.mp_replies.specs.Conditions.{first_of, no_channel, no_channels, no_slot, no_slots, no_window};
+ghost use Rattle.mp_replies.specs.Conditions.{first_cause, no_channel, no_channels, no_slot, no_slots, no_window};
 ghost use Rattle.mp_replies.specs.Conditions.{some_absent, some_closed};
 ghost use Rattle.mp_replies.specs.LoadCommand.{load_conditions};
 ghost use Rattle.mp_replies.specs.MatchCommand.{match_conditions};
 ghost use Rattle.mp_replies.specs.MultiCommand.{multi_conditions};
 ghost use Rattle.mp_replies.specs.Numbers.{columns};
 ghost use Rattle.mp_replies.specs.OpenCommand.{open_conditions};
-ghost use Rattle.mp_replies.specs.State.{series_at};
-ghost use Rattle.mp_slots.specs.Slots.{AreChannels, IsChannel, slot_at, stores_of};
+ghost use Rattle.mp_replies.specs.State.{Store};
+ghost use Rattle.mp_commands.specs.Preparing.{IsCause};
+ghost use Rattle.mp_stores.specs.Stores.{AreChannels, IsChannel, StandFor, channel_series, streams_at};
 
 use mp_lines::Columns;
 use mp_replies::{Cause, Ref};
 use mp_series::windows;
-use mp_slots::{MAX_CHANNELS, SLOTS, Slots};
+use mp_stores::{MAX_CHANNELS, SLOTS, Stores};
 
 /// Why a slot can't be opened with so many channels, if it can't.
 pub(crate) fn open_cause(slot: u64, channels: u64) -> Option<Cause>
-    ensures cause { result ≡ first_of (open_conditions slot channels) }
+    ensures cause { result ≡ first_cause (open_conditions slot channels) }
     ensures slot { IfNone result (slot < SLOTS) }
     ensures some { IfNone result (1 ≤ channels) }
     ensures few { IfNone result (channels ≤ MAX_CHANNELS) }
@@ -34,13 +35,13 @@ pub(crate) fn open_cause(slot: u64, channels: u64) -> Option<Cause>
 }
 
 /// Why a slot can't be loaded with these columns, if it can't.
-pub(crate) fn load_cause(slots: &Slots, slot: u64, names: Columns<'_>) -> Option<Cause>
-    ensures cause { result ≡ first_of
-        (load_conditions (stores_of slots.now) slot (unwrap_or (columns names.entry.field.now) [])) }
+pub(crate) fn load_cause(stores: &Stores, slot: u64, names: Columns<'_>) -> Option<Cause>
+    ensures cause { IsCause stores.now
+        (λ stands. load_conditions stands slot (unwrap_or (columns names.entry.field.now) [])) result }
     ensures slot { IfNone result (slot < SLOTS) }
-    ensures some { IfNone result (0 < length (slot_at slots.now slot)) }
+    ensures some { IfNone result (0 < length (streams_at stores.now slot)) }
 {
-    let count = slots.count(slot);
+    let count = stores.count(slot);
     if count == 0 {
         Some(Cause::Slot)
     } else if names.count() == count {
@@ -51,13 +52,11 @@ pub(crate) fn load_cause(slots: &Slots, slot: u64, names: Columns<'_>) -> Option
 }
 
 /// Why a ref names no channel, if it doesn't.
-pub(crate) fn ref_cause(slots: &Slots, at: Ref) -> Option<Cause>
-    ensures cause { result ≡ first_of
-        (no_slot (stores_of slots.now) at.slot ∷ no_channel (stores_of slots.now) at ∷ []) }
-    ensures slot { IfNone result (at.slot < SLOTS) }
-    ensures channel { IfNone result (at.channel < length (slot_at slots.now at.slot)) }
+pub(crate) fn ref_cause(stores: &Stores, at: Ref) -> Option<Cause>
+    ensures cause { IsCause stores.now (λ stands. no_slot stands at.slot ∷ no_channel stands at ∷ []) result }
+    ensures channel { IfNone result (IsChannel stores.now at) }
 {
-    let count = slots.count(at.slot);
+    let count = stores.count(at.slot);
     if count == 0 {
         Some(Cause::Slot)
     } else if count <= at.channel {
@@ -67,36 +66,27 @@ pub(crate) fn ref_cause(slots: &Slots, at: Ref) -> Option<Cause>
     }
 }
 
-/// Why one of two refs names no channel, if one doesn't.
-pub(crate) fn pair_cause(slots: &Slots, a: Ref, b: Ref) -> Option<Cause>
-    ensures cause { result ≡ first_of
-        (no_slots (stores_of slots.now) (a ∷ b ∷ []) ∷ no_channels (stores_of slots.now) (a ∷ b ∷ []) ∷ []) }
-    ensures channels { IfNone result (All (IsChannel slots.now) (a ∷ b ∷ [])) }
-{
-    refs_cause(slots, &[a, b])
-}
-
 /// Why some refs name no channels, if they don't: one of them no open slot, or else one of them no channel of its slot.
-pub(crate) fn refs_cause(slots: &Slots, refs: &[Ref]) -> Option<Cause>
-    ensures cause { result ≡ first_of
-        (no_slots (stores_of slots.now) refs.now ∷ no_channels (stores_of slots.now) refs.now ∷ []) }
-    ensures channels { IfNone result (All (IsChannel slots.now) refs.now) }
+pub(crate) fn refs_cause(stores: &Stores, refs: &[Ref]) -> Option<Cause>
+    ensures cause { IsCause stores.now
+        (λ stands. no_slots stands refs.now ∷ no_channels stands refs.now ∷ []) result }
+    ensures channels { IfNone result (All (IsChannel stores.now) refs.now) }
 {
-    if is_some_closed(slots, refs) {
+    if is_some_closed(stores, refs) {
         return Some(Cause::Slot);
     }
-    if is_some_absent(slots, refs) {
+    if is_some_absent(stores, refs) {
         return Some(Cause::Channel);
     }
     None
 }
 
 /// Whether the slot of one of them isn't open.
-fn is_some_closed(slots: &Slots, refs: &[Ref]) -> bool
-    ensures { result ≡ some_closed (stores_of slots.now) refs.now }
+fn is_some_closed(stores: &Stores, refs: &[Ref]) -> bool
+    ensures { (stands : List Store) → StandFor stores.now stands → result ≡ some_closed stands refs.now }
 {
     for at in refs {
-        if slots.count(at.slot) == 0 {
+        if stores.count(at.slot) == 0 {
             return true;
         }
     }
@@ -104,12 +94,12 @@ fn is_some_closed(slots: &Slots, refs: &[Ref]) -> bool
 }
 
 /// Whether one of them names a channel that its slot hasn't.
-fn is_some_absent(slots: &Slots, refs: &[Ref]) -> bool
-    ensures absent { result ≡ some_absent (stores_of slots.now) refs.now }
-    ensures channels { OnFalse result (All (IsChannel slots.now) refs.now) }
+fn is_some_absent(stores: &Stores, refs: &[Ref]) -> bool
+    ensures absent { (stands : List Store) → StandFor stores.now stands → result ≡ some_absent stands refs.now }
+    ensures channels { OnFalse result (All (IsChannel stores.now) refs.now) }
 {
     for at in refs {
-        if slots.count(at.slot) <= at.channel {
+        if stores.count(at.slot) <= at.channel {
             return true;
         }
     }
@@ -117,18 +107,16 @@ fn is_some_absent(slots: &Slots, refs: &[Ref]) -> bool
 }
 
 /// Why a ref and a start name no window, if they don't.
-pub(crate) fn window_cause(slots: &Slots, at: Ref, start: u64) -> Option<Cause>
-    ensures cause { result ≡ first_of
-        (no_slot (stores_of slots.now) at.slot ∷ no_channel (stores_of slots.now) at
-        ∷ no_window slots.now.m (stores_of slots.now) at start ∷ []) }
-    ensures slot { IfNone result (at.slot < SLOTS) }
-    ensures channel { IfNone result (at.channel < length (slot_at slots.now at.slot)) }
-    ensures window { IfNone result (start + slots.now.m ≤ length (series_at (stores_of slots.now) at)) }
+pub(crate) fn window_cause(stores: &Stores, at: Ref, start: u64) -> Option<Cause>
+    ensures cause { IsCause stores.now (λ stands.
+        no_slot stands at.slot ∷ no_channel stands at ∷ no_window stores.now.m stands at start ∷ []) result }
+    ensures channel { IfNone result (IsChannel stores.now at) }
+    ensures window { IfNone result (start + stores.now.m ≤ length (channel_series stores.now at)) }
 {
-    if let Some(cause) = ref_cause(slots, at) {
+    if let Some(cause) = ref_cause(stores, at) {
         return Some(cause);
     }
-    if windows(slots.channel_len(at), slots.window_len()) <= start {
+    if windows(stores.channel_len(at), stores.window_len()) <= start {
         Some(Cause::Index)
     } else {
         None
@@ -136,17 +124,17 @@ pub(crate) fn window_cause(slots: &Slots, at: Ref, start: u64) -> Option<Cause>
 }
 
 /// Why a match is refused, if it is: its refs, the start of the pattern's window, or a sample that this window lacks.
-pub(crate) fn match_cause(slots: &Slots, at: Ref, query: Ref, start: u64) -> Option<Cause>
-    ensures cause { result ≡ first_of (match_conditions slots.now.m (stores_of slots.now) at query start) }
-    ensures channels { IfNone result (All (IsChannel slots.now) (at ∷ query ∷ [])) }
-    ensures window { IfNone result (start + slots.now.m ≤ length (series_at (stores_of slots.now) query)) }
+pub(crate) fn match_cause(stores: &Stores, at: Ref, query: Ref, start: u64) -> Option<Cause>
+    ensures cause { IsCause stores.now (λ stands. match_conditions stores.now.m stands at query start) result }
+    ensures channels { IfNone result (All (IsChannel stores.now) (at ∷ query ∷ [])) }
+    ensures window { IfNone result (start + stores.now.m ≤ length (channel_series stores.now query)) }
 {
-    if let Some(cause) = pair_cause(slots, at, query) {
+    if let Some(cause) = refs_cause(stores, &[at, query]) {
         return Some(cause);
     }
-    if windows(slots.channel_len(query), slots.window_len()) <= start {
+    if windows(stores.channel_len(query), stores.window_len()) <= start {
         Some(Cause::Index)
-    } else if slots.is_free(query, start) {
+    } else if stores.is_free(query, start) {
         None
     } else {
         Some(Cause::Missing)
@@ -154,15 +142,15 @@ pub(crate) fn match_cause(slots: &Slots, at: Ref, query: Ref, start: u64) -> Opt
 }
 
 /// Why so many of a slot's channels aren't compared together, if they aren't.
-pub(crate) fn multi_cause(slots: &Slots, slot: u64, k: u64) -> Option<Cause>
-    ensures cause { result ≡ first_of (multi_conditions (stores_of slots.now) slot k) }
+pub(crate) fn multi_cause(stores: &Stores, slot: u64, k: u64) -> Option<Cause>
+    ensures cause { IsCause stores.now (λ stands. multi_conditions stands slot k) result }
     ensures slot { IfNone result (slot < SLOTS) }
-    ensures open { IfNone result (0 < length (slot_at slots.now slot)) }
+    ensures open { IfNone result (0 < length (streams_at stores.now slot)) }
     ensures some { IfNone result (1 ≤ k) }
-    ensures present { IfNone result (k ≤ length (slot_at slots.now slot)) }
-    ensures alike { IfNone result (AreChannels (slot_at slots.now slot)) }
+    ensures present { IfNone result (k ≤ length (streams_at stores.now slot)) }
+    ensures alike { IfNone result (AreChannels (streams_at stores.now slot)) }
 {
-    let count = slots.count(slot);
+    let count = stores.count(slot);
     if count == 0 {
         Some(Cause::Slot)
     } else if (1..=count).contains(&k) {

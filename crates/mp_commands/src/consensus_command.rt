@@ -5,33 +5,33 @@ ghost use Rattle.mp_results.specs.Consensus.{central, centre_of};
 ghost use Rattle.mp_defs.specs.Limits.{max_samples};
 ghost use Rattle.mp_defs.specs.Series.{series_of};
 ghost use Rattle.mp_replies.specs.Limits.{max_refs, min_refs};
-ghost use Rattle.mp_commands.specs.Reports.{IsReported, OnlyReads, asks_consensus};
+ghost use Rattle.mp_commands.specs.Reports.{IsReported, OnlyReads};
+ghost use Rattle.mp_commands.specs.Requests.{asks_consensus};
 
 use crate::answers::Answer;
 use crate::conditions::refs_cause;
 use crate::context::Context;
+use crate::reports::Report;
 use mp_consensus::consensus;
 use mp_lines::{MAX_REFS, Refs};
 use mp_nums::{Centre, Memory};
 use mp_outside::Gate;
 use mp_replies::Ref;
-use mp_report::consensus_text;
 use mp_series::Bundle;
-use mp_slots::{Plan, Slots};
+use mp_stores::{Plan, Stores};
 use std::alloc::Global;
 use std::thread::Threads;
 
 /// A channel may be named more than once.
 pub(crate) fn report_consensus<R: Threads + Sync, G: Gate>(
     rt: &R,
-    alloc: Global,
-    slots: &mut Slots,
+    stores: &mut Stores,
     context: Context,
     refs: Refs<'_>,
     gate: &G,
 ) -> Result<Answer, Memory>
-    ensures report { IsReported context (asks_consensus refs.entry) slots.old result }
-    ensures slots { OnlyReads (asks_consensus refs.entry) slots.old slots.new result }
+    ensures report { IsReported context (asks_consensus refs.entry) stores.old result }
+    ensures stores { OnlyReads (asks_consensus refs.entry) stores.old stores.new result }
 {
     let mut room = [Ref {
         slot: 0,
@@ -39,13 +39,13 @@ pub(crate) fn report_consensus<R: Threads + Sync, G: Gate>(
     }; MAX_REFS];
     let count = refs.gather(&mut room);
     let named = &room[..count];
-    if let Some(cause) = refs_cause(slots, named) {
+    if let Some(cause) = refs_cause(stores, named) {
         return Ok(Answer::Refused(cause));
     }
-    let list = slots.copies(alloc, named)?;
-    let centre = centre_of(rt, alloc, &list, context.plan(slots.window_len()), gate)?;
-    let text = consensus_text(alloc, context.line(), centre.as_ref())?;
-    Ok(Answer::Accepted(text))
+    let list = stores.copies(context.alloc, named)?;
+    let plan = context.plan(stores.window_len());
+    let centre = centre_of(rt, context.alloc, &list, plan, gate)?;
+    Ok(Answer::Accepted(Report::Consensus(centre)))
 }
 
 /// Their centre.

@@ -1,14 +1,16 @@
 //! What a command is carried out over, beside the slots.
 
-ghost use Rattle.std.specs.Prelude.{◌≡◌, ◌+◌, ◌-◌, ◌^◌, ◌<◌, ◌≤◌};
+ghost use Rattle.std.specs.Prelude.{◌≡◌, ◌-◌, ◌^◌, ◌<◌, ◌≤◌};
 ghost use Rattle.mp_defs.specs.Limits.{max_window, min_window};
 
-use mp_slots::Plan;
+use mp_stores::Plan;
 use mp_words::Settings;
+use std::alloc::Global;
 
-/// What is known of a session beside its slots.
+/// What is known of a session beside its slots, and where its memory is from.
 #[derive(Clone, Copy, Debug)]
 pub struct Context {
+    pub alloc: Global,
     pub settings: Settings,
     /// How many lines were run before.
     pub lines: u64,
@@ -18,13 +20,6 @@ pub struct Context {
 }
 
 impl Context {
-    /// The number of the line, counted from 1.
-    pub(crate) fn line(&self) -> u64
-        ensures { result ≡ self.now.lines + 1 }
-    {
-        self.lines + 1
-    }
-
     /// How profiles of windows of `m` samples are computed.
     pub(crate) fn plan(&self, m: u32) -> Plan
         requires shortest { min_window ≤ m }

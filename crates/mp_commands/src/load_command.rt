@@ -1,31 +1,30 @@
 //! `load S FILE COL,COL`, or with `header` behind: columns of a file in place of what stood in a slot.
 
-ghost use Rattle.std.specs.Prelude.{◌≡◌, ◌<◌, ◌≤◌, [], All, length, false};
+ghost use Rattle.std.specs.Prelude.{◌≡◌, ◌<◌, ◌≤◌, List, [], All, length};
 ghost use Rattle.std.specs.Prelude.{option_map, unwrap_or, Some, None, IfOk, IsErrOf};
 ghost use Rattle.mp_defs.specs.Limits.{max_samples};
-ghost use Rattle.mp_replies.specs.Conditions.{first_of};
 ghost use Rattle.mp_replies.specs.Limits.{max_file, slot_count};
 ghost use Rattle.mp_replies.specs.LoadCommand.{file_in, load_conditions};
 ghost use Rattle.mp_replies.specs.Numbers.{columns as columns_of};
-ghost use Rattle.mp_replies.specs.State.{Files};
-ghost use Rattle.mp_replies.specs.Step.{fetches_by};
-ghost use Rattle.mp_commands.specs.Answers.{is_ended, kind_by};
-ghost use Rattle.mp_commands.specs.Preparing.{IsAsked, IsPrepared, IsReady, IsTaken, asks_for, cause_by, state_over};
+ghost use Rattle.mp_replies.specs.State.{Files, Store};
+ghost use Rattle.mp_commands.specs.Preparing.{IsAsked, IsCause, IsPrepared, IsPreparedBySome, IsReady, IsTaken};
+ghost use Rattle.mp_commands.specs.Preparing.{NeedsNoFile, cause_by, state_over};
+ghost use Rattle.mp_commands.specs.Requests.{asks_for};
 ghost use Rattle.mp_text.specs.Table.{told};
-ghost use Rattle.mp_slots.specs.Slots.{HaveWindow, items_in, stores_of};
+ghost use Rattle.mp_stores.specs.Stores.{HaveWindow, StandFor, items_in};
 
 use crate::answers::Answer;
 use crate::conditions::load_cause;
 use crate::context::Context;
 use crate::prepared::{Change, Prepared};
 use crate::replies::Stop;
-use mp_lines::Columns;
+use crate::reports::Report;
+use crate::requests::Load;
 use mp_nums::Memory;
 use mp_outside::{Gate, Shelf, ShelfAnswer};
 use mp_replies::Cause;
-use mp_report::ok_text;
 use mp_series::Bundle;
-use mp_slots::{Channel, Plan, Slots};
+use mp_stores::{Channel, Plan, Stores};
 use mp_text::{TableFault, read_table};
 use std::alloc::Global;
 use std::thread::Threads;
@@ -33,37 +32,27 @@ use std::thread::Threads;
 /// The most bytes of a file.
 const MAX_FILE: u64 = 67_108_864;
 
-/// What a load asks for.
-#[derive(Clone, Copy, Debug)]
-pub(crate) struct Load<'a> {
-    pub(crate) slot: u64,
-    pub(crate) file: &'a [u8],
-    pub(crate) columns: Columns<'a>,
-    pub(crate) header: bool,
-}
-
 /// Fetches the file and makes its columns into channels, where the line isn't refused. The file is fetched once, and
 /// only where nothing refuses the line without it.
 pub(crate) fn prepare_load<R: Threads + Sync, H: Shelf, G: Gate>(
     rt: &R,
-    alloc: Global,
-    slots: &Slots,
+    stores: &Stores,
     context: Context,
     load: Load<'_>,
     shelf: &mut H,
     gate: &G,
 ) -> Result<Prepared, Stop>
-    ensures prepared { IsTaken (H.files shelf.old) context (asks_for load.entry) slots.now result }
-    ensures ready { IfOk result (IsReady (asks_for load.entry) slots.now) }
-    ensures goes_on { IfOk result (λ prepared. is_ended (kind_by prepared.answer) ≡ false) }
-    ensures shelf { IsAsked H.Shelf (fetches_by (state_over context slots.now) (asks_for load.entry))
+    ensures prepared { IsTaken (H.files shelf.old) context (asks_for load.entry) stores.now result }
+    ensures some_files { IfOk result (IsPreparedBySome context (asks_for load.entry) stores.now) }
+    ensures ready { IfOk result (IsReady (asks_for load.entry) stores.now) }
+    ensures shelf { IsAsked H.Shelf (NeedsNoFile context (asks_for load.entry) stores.now)
         (IsErrOf result Stop.ShelfFault) shelf.old shelf.new }
 {
-    if let Some(cause) = load_cause(slots, load.slot, load.columns) {
+    if let Some(cause) = load_cause(stores, load.slot, load.columns) {
         return Ok(Prepared::refused(cause));
     }
-    match shelf.fetch(alloc, load.file, MAX_FILE) {
-        Ok(bytes) => prepare_table(rt, alloc, slots, context, load, bytes.as_slice(), gate),
+    match shelf.fetch(context.alloc, load.file, MAX_FILE) {
+        Ok(bytes) => prepare_table(rt, stores, context, load, bytes.as_slice(), gate),
         Err(ShelfAnswer::Absent) => Ok(Prepared::refused(Cause::File)),
         Err(ShelfAnswer::TooLarge) => Ok(Prepared::refused(Cause::FileSize)),
         Err(ShelfAnswer::Failed) => Err(Stop::ShelfFault),
@@ -74,8 +63,7 @@ pub(crate) fn prepare_load<R: Threads + Sync, H: Shelf, G: Gate>(
 /// Makes the columns of a file's bytes into channels, where none of its records is bad.
 fn prepare_table<R: Threads + Sync, G: Gate>(
     rt: &R,
-    alloc: Global,
-    slots: &Slots,
+    stores: &Stores,
     context: Context,
     load: Load<'_>,
     bytes: &[u8],
@@ -83,14 +71,15 @@ fn prepare_table<R: Threads + Sync, G: Gate>(
 ) -> Result<Prepared, Stop>
     requires slot { load.slot < slot_count }
     requires within { length bytes.now ≤ max_file }
-    requires unrefused { first_of (load_conditions (stores_of slots.now) load.slot
-        (unwrap_or (columns_of load.columns.field.now) [])) ≡ None }
-    ensures ok { (files : Files) → file_in files load.entry.file.now ≡ Some bytes.now
-        → IfOk result (IsPrepared (state_over context slots.now) files (asks_for load.entry)) }
-    ensures ready { IfOk result (IsReady (asks_for load.entry) slots.now) }
-    ensures goes_on { IfOk result (λ prepared. is_ended (kind_by prepared.answer) ≡ false) }
+    requires unrefused { IsCause stores.now
+        (λ stands. load_conditions stands load.slot (unwrap_or (columns_of load.columns.field.now) [])) None }
+    ensures ok { (stands : List Store) (files : Files) → StandFor stores.now stands
+        → file_in files load.entry.file.now ≡ Some bytes.now
+        → IfOk result (IsPrepared (state_over context stores.now stands) files (asks_for load.entry)) }
+    ensures ready { IfOk result (IsReady (asks_for load.entry) stores.now) }
     ensures calm { IsErrOf result Stop.ShelfFault → ⊥ }
 {
+    let alloc = context.alloc;
     let columns = load.columns.read(alloc)?;
     let scale = context.settings.scale();
     let bundle = match read_table(alloc, bytes, columns.as_slice(), load.header, scale) {
@@ -102,10 +91,10 @@ fn prepare_table<R: Threads + Sync, G: Gate>(
             };
         }
     };
-    let channels = channels_of(rt, alloc, &bundle, context.plan(slots.window_len()), gate)?;
-    let text = ok_text(alloc, context.line(), Some(bundle.series(0).len() as u64))?;
+    let channels = channels_of(rt, alloc, &bundle, context.plan(stores.window_len()), gate)?;
+    let samples = bundle.series(0).len() as u64;
     Ok(Prepared {
-        answer: Answer::Accepted(text),
+        answer: Answer::Accepted(Report::Load { samples }),
         change: Change::PutChannels {
             slot: load.slot,
             channels,

@@ -1,47 +1,43 @@
 //! `motifs R COUNT CUTOFF RADIUS NEIGHBOURS MATCHES`: the repeated patterns of a channel.
 
-ghost use Rattle.mp_commands.specs.Reports.{IsReported, OnlyReads, asks_motifs};
+ghost use Rattle.mp_commands.specs.Reports.{IsReported, OnlyReads};
+ghost use Rattle.mp_commands.specs.Requests.{asks_motifs};
 
 use crate::answers::Answer;
 use crate::conditions::ref_cause;
 use crate::context::Context;
-use crate::queries::Query;
+use crate::reports::Report;
+use crate::requests::Repeats;
 use mp_motifs::motifs;
 use mp_nums::{Memory, Sq};
-use mp_replies::Ref;
-use mp_report::motifs_text;
-use mp_slots::Slots;
-use std::alloc::Global;
+use mp_stores::Stores;
 use std::thread::Threads;
 
 /// The profile is the one that is kept.
 pub(crate) fn report_motifs(
     rt: &(impl Threads + Sync),
-    alloc: Global,
-    slots: &mut Slots,
+    stores: &mut Stores,
     context: Context,
-    at: Ref,
-    query: Query,
+    repeats: Repeats,
 ) -> Result<Answer, Memory>
-    ensures report { IsReported context (asks_motifs at query) slots.old result }
-    ensures slots { OnlyReads (asks_motifs at query) slots.old slots.new result }
+    ensures report { IsReported context (asks_motifs repeats) stores.old result }
+    ensures stores { OnlyReads (asks_motifs repeats) stores.old stores.new result }
 {
-    if let Some(cause) = ref_cause(slots, at) {
+    if let Some(cause) = ref_cause(stores, repeats.at) {
         return Ok(Answer::Refused(cause));
     }
-    let list = slots.copies(alloc, &[at])?;
+    let list = stores.copies(context.alloc, &[repeats.at])?;
     let found = motifs(
         rt,
-        alloc,
+        context.alloc,
         list.series(0),
-        slots.profile(at).all(),
-        slots.window_len(),
-        Sq(query.cutoff),
-        Sq(query.radius),
-        query.neighbours,
-        query.matches,
-        query.count,
+        stores.profile(repeats.at).all(),
+        stores.window_len(),
+        Sq(repeats.cutoff),
+        Sq(repeats.radius),
+        repeats.neighbours,
+        repeats.matches,
+        repeats.count,
     )?;
-    let text = motifs_text(alloc, context.line(), found.as_slice())?;
-    Ok(Answer::Accepted(text))
+    Ok(Answer::Accepted(Report::Motifs(found)))
 }

@@ -1,43 +1,44 @@
 //! `open S C`: empty channels in place of what stood in a slot.
 
-ghost use Rattle.std.specs.Prelude.{◌≡◌, ◌≤◌, Option, vec_len, IfOk};
+ghost use Rattle.std.specs.Prelude.{◌≡◌, ◌≤◌, Option, vec_len, IfOk, IsErrOf};
 ghost use Rattle.mp_defs.specs.Limits.{max_window, min_window};
 ghost use Rattle.mp_replies.specs.Command as asked;
 ghost use Rattle.mp_replies.specs.Line.{Asks};
 ghost use Rattle.mp_replies.specs.State.{Files};
 ghost use Rattle.mp_commands.specs.Preparing.{AreEmpty, IsReady, IsTaken};
-ghost use Rattle.mp_slots.specs.Slots.{HaveWindow};
+ghost use Rattle.mp_stores.specs.Stores.{HaveWindow};
 
 use crate::answers::Answer;
 use crate::conditions::open_cause;
 use crate::context::Context;
 use crate::prepared::{Change, Prepared};
+use crate::replies::Stop;
+use crate::reports::Report;
+use crate::requests::Opening;
 use mp_nums::Memory;
-use mp_report::ok_text;
-use mp_slots::{Channel, Slots};
+use mp_stores::{Channel, Stores};
 use std::alloc::Global;
 use std::thread::Threads;
 
 /// Takes the memory for the channels, where the line isn't refused.
 pub(crate) fn prepare_open<R: Threads + Sync>(
     rt: &R,
-    alloc: Global,
-    slots: &Slots,
+    stores: &Stores,
     context: Context,
-    slot: u64,
-    channels: u64,
-) -> Result<Prepared, Memory>
+    opening: Opening,
+) -> Result<Prepared, Stop>
     ensures prepared { (told : Option Files)
-        → IsTaken told context (Asks (asked.OpenSlot slot channels)) slots.now result }
-    ensures ready { IfOk result (IsReady (Asks (asked.OpenSlot slot channels)) slots.now) }
+        → IsTaken told context (Asks (asked.OpenSlot opening.slot opening.channels)) stores.now result }
+    ensures ready { IfOk result (IsReady (Asks (asked.OpenSlot opening.slot opening.channels)) stores.now) }
+    ensures calm { IsErrOf result Stop.ShelfFault → ⊥ }
 {
-    if let Some(cause) = open_cause(slot, channels) {
+    let slot = opening.slot;
+    if let Some(cause) = open_cause(slot, opening.channels) {
         return Ok(Prepared::refused(cause));
     }
-    let channels = empty_channels(rt, alloc, slots.window_len(), channels)?;
-    let text = ok_text(alloc, context.line(), Some(0))?;
+    let channels = empty_channels(rt, context.alloc, stores.window_len(), opening.channels)?;
     Ok(Prepared {
-        answer: Answer::Accepted(text),
+        answer: Answer::Accepted(Report::Open { samples: 0 }),
         change: Change::PutChannels { slot, channels },
     })
 }

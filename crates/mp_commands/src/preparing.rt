@@ -2,101 +2,111 @@
 
 ghost use Rattle.std.specs.Prelude.{◌≡◌, IfOk, IsErrOf, false};
 ghost use Rattle.mp_lines.specs.Lines.{asked_by, cause_of as cause_of_fault};
-ghost use Rattle.mp_replies.specs.Line.{asked_of, ends, is_end};
-ghost use Rattle.mp_replies.specs.Step.{fetches_by};
+ghost use Rattle.mp_replies.specs.Line.{asked_of, ends};
 ghost use Rattle.mp_commands.specs.Answers.{is_accepted, is_ended, kind_by};
-ghost use Rattle.mp_commands.specs.Preparing.{IsAsked, IsReady, IsTaken, IsWithinLimits, state_over};
+ghost use Rattle.mp_commands.specs.Preparing.{version_in};
+ghost use Rattle.mp_commands.specs.Preparing.{IsAsked, IsPreparedBySome, IsReady, IsTaken, IsWithinLimits, NeedsNoFile};
 ghost use Rattle.mp_commands.specs.Reads.{AreUnread, IsKept};
+ghost use Rattle.mp_commands.specs.Requests.{changed_in};
+ghost use Rattle.mp_stores.specs.Stores.{StandAsBefore};
 
 use crate::answers::Answer;
 use crate::append_command::prepare_append;
 use crate::context::Context;
-use crate::load_command::{Load, prepare_load};
+use crate::load_command::prepare_load;
 use crate::open_command::prepare_open;
 use crate::prepared::Prepared;
 use crate::replies::Stop;
 use crate::report::report;
+use crate::requests::{ChangeRequest, Request};
 use mp_lines::{Command, LineFault, parse_line};
 use mp_outside::{Gate, Shelf};
 use mp_replies::Cause;
-use mp_slots::Slots;
-use std::alloc::Global;
+use mp_stores::Stores;
 use std::thread::Threads;
 
 /// Takes all that a line needs, its report included, before anything is changed but reads and room: the answer, and the
 /// change, for which all memory is then there. Want of memory comes only where nothing refuses the line without a file.
 pub fn prepare<R: Threads + Sync, H: Shelf, G: Gate>(
     rt: &R,
-    alloc: Global,
-    slots: &mut Slots,
+    stores: &mut Stores,
     context: Context,
     line: &[u8],
     shelf: &mut H,
     gate: &G,
 ) -> Result<Prepared, Stop>
-    ensures prepared { IsTaken (H.files shelf.old) context (asked_of line.now) slots.old result }
+    ensures prepared { IsTaken (H.files shelf.old) context (asked_of (version_in context) line.now) stores.old result }
+    ensures some_files { IfOk result (IsPreparedBySome context (asked_of (version_in context) line.now) stores.old) }
     ensures ends { IfOk result (λ prepared. is_ended (kind_by prepared.answer) ≡ ends line.now) }
-    ensures ready { IfOk result (IsReady (asked_of line.now) slots.new) }
+    ensures ready { IfOk result (IsReady (asked_of (version_in context) line.now) stores.new) }
 
     // The slots, before the change is made.
-    ensures slots { IsKept (asked_of line.now) slots.old slots.new }
+    ensures stores { IsKept (asked_of (version_in context) line.now) stores.old stores.new }
     ensures unread { IfOk result (λ prepared. is_accepted (kind_by prepared.answer) ≡ false
-        → AreUnread slots.old slots.new) }
+        → AreUnread stores.old stores.new) }
 
-    ensures shelf { IsAsked H.Shelf (fetches_by (state_over context slots.old) (asked_of line.now))
+    ensures shelf { IsAsked H.Shelf (NeedsNoFile context (asked_of (version_in context) line.now) stores.old)
         (IsErrOf result Stop.ShelfFault) shelf.old shelf.new }
 {
     let command = match parse_line(line) {
         Err(fault) => return Ok(Prepared::refused(cause_of(fault))),
         Ok(command) => command,
     };
-    prepare_command(rt, alloc, slots, context, command, shelf, gate)
+    prepare_command(rt, stores, context, command, shelf, gate)
 }
 
 /// The same for a command that was read.
 fn prepare_command<R: Threads + Sync, H: Shelf, G: Gate>(
     rt: &R,
-    alloc: Global,
-    slots: &mut Slots,
+    stores: &mut Stores,
     context: Context,
     command: Command<'_>,
     shelf: &mut H,
     gate: &G,
 ) -> Result<Prepared, Stop>
     requires { IsWithinLimits (asked_by command) }
-    ensures prepared { IsTaken (H.files shelf.old) context (asked_by command.entry) slots.old result }
-    ensures ends { IfOk result (λ prepared. is_ended (kind_by prepared.answer) ≡ is_end (asked_by command.entry)) }
-    ensures ready { IfOk result (IsReady (asked_by command.entry) slots.new) }
+    ensures prepared { IsTaken (H.files shelf.old) context (asked_by command.entry) stores.old result }
+    ensures some_files { IfOk result (IsPreparedBySome context (asked_by command.entry) stores.old) }
+    ensures ready { IfOk result (IsReady (asked_by command.entry) stores.new) }
 
     // The slots, before the change is made.
-    ensures slots { IsKept (asked_by command.entry) slots.old slots.new }
+    ensures stores { IsKept (asked_by command.entry) stores.old stores.new }
     ensures unread { IfOk result (λ prepared. is_accepted (kind_by prepared.answer) ≡ false
-        → AreUnread slots.old slots.new) }
+        → AreUnread stores.old stores.new) }
 
-    ensures shelf { IsAsked H.Shelf (fetches_by (state_over context slots.old) (asked_by command.entry))
+    ensures shelf { IsAsked H.Shelf (NeedsNoFile context (asked_by command.entry) stores.old)
         (IsErrOf result Stop.ShelfFault) shelf.old shelf.new }
 {
-    match command {
-        Command::Blank => Ok(Prepared::keeping(Answer::Silent)),
-        Command::Open { slot, channels } => {
-            Ok(prepare_open(rt, alloc, slots, context, slot, channels)?)
+    match Request::of(command) {
+        Request::Blank => Ok(Prepared::keeping(Answer::Silent)),
+        Request::Change(request) => prepare_change(rt, stores, context, request, shelf, gate),
+        Request::Report(request) => {
+            Ok(Prepared::keeping(report(rt, stores, context, request, gate)?))
         }
-        Command::Load {
-            slot,
-            file,
-            columns,
-            header,
-        } => {
-            let load = Load {
-                slot,
-                file,
-                columns,
-                header,
-            };
-            prepare_load(rt, alloc, slots, context, load, shelf, gate)
-        }
-        Command::Append { slot, items } => Ok(prepare_append(alloc, slots, context, slot, items)?),
-        _ => Ok(Prepared::keeping(report(rt, alloc, slots, context, command, gate)?)),
+    }
+}
+
+/// The same for a change of a slot.
+fn prepare_change<R: Threads + Sync, H: Shelf, G: Gate>(
+    rt: &R,
+    stores: &mut Stores,
+    context: Context,
+    request: ChangeRequest<'_>,
+    shelf: &mut H,
+    gate: &G,
+) -> Result<Prepared, Stop>
+    ensures prepared { IsTaken (H.files shelf.old) context (changed_in request.entry) stores.old result }
+    ensures some_files { IfOk result (IsPreparedBySome context (changed_in request.entry) stores.old) }
+    ensures ready { IfOk result (IsReady (changed_in request.entry) stores.new) }
+    ensures stands { StandAsBefore stores.old stores.new }
+    ensures unread { AreUnread stores.old stores.new }
+    ensures shelf { IsAsked H.Shelf (NeedsNoFile context (changed_in request.entry) stores.old)
+        (IsErrOf result Stop.ShelfFault) shelf.old shelf.new }
+{
+    match request {
+        ChangeRequest::Open(opening) => prepare_open(rt, stores, context, opening),
+        ChangeRequest::Load(load) => prepare_load(rt, stores, context, load, shelf, gate),
+        ChangeRequest::Append(more) => prepare_append(stores, context, more),
     }
 }
 

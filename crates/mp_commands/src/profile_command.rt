@@ -2,46 +2,31 @@
 
 ghost use Rattle.mp_replies.specs.Command as asked;
 ghost use Rattle.mp_replies.specs.Line.{Asks};
-ghost use Rattle.mp_commands.specs.Reports.{IsReported};
+ghost use Rattle.mp_commands.specs.Reports.{IsAnswered};
 
 use crate::answers::Answer;
 use crate::conditions::{ref_cause, window_cause};
 use crate::context::Context;
-use mp_nums::Memory;
+use crate::reports::Report;
 use mp_replies::Ref;
-use mp_report::{entry_text, profile_text};
-use mp_slots::Slots;
-use std::alloc::Global;
+use mp_stores::Stores;
 
-/// It reads no sample.
-pub(crate) fn report_profile(
-    alloc: Global,
-    slots: &Slots,
-    context: Context,
-    at: Ref,
-) -> Result<Answer, Memory>
-    ensures { IsReported context (Asks (asked.Profile at)) slots.now result }
+/// The profile is kept, so the report names its channel, and no sample is read.
+pub(crate) fn report_profile(stores: &Stores, context: Context, at: Ref) -> Answer
+    ensures { IsAnswered context (Asks (asked.Profile at)) stores.now result }
 {
-    if let Some(cause) = ref_cause(slots, at) {
-        return Ok(Answer::Refused(cause));
+    match ref_cause(stores, at) {
+        Some(cause) => Answer::Refused(cause),
+        None => Answer::Accepted(Report::Profile(at)),
     }
-    let text = profile_text(alloc, context.line(), slots.profile(at))?;
-    Ok(Answer::Accepted(text))
 }
 
 /// It reads no sample.
-pub(crate) fn report_entry(
-    alloc: Global,
-    slots: &Slots,
-    context: Context,
-    at: Ref,
-    start: u64,
-) -> Result<Answer, Memory>
-    ensures { IsReported context (Asks (asked.Entry at start)) slots.now result }
+pub(crate) fn report_entry(stores: &Stores, context: Context, at: Ref, start: u64) -> Answer
+    ensures { IsAnswered context (Asks (asked.Entry at start)) stores.now result }
 {
-    if let Some(cause) = window_cause(slots, at, start) {
-        return Ok(Answer::Refused(cause));
+    match window_cause(stores, at, start) {
+        Some(cause) => Answer::Refused(cause),
+        None => Answer::Accepted(Report::Entry { at, start }),
     }
-    let text = entry_text(alloc, context.line(), slots.profile(at), start)?;
-    Ok(Answer::Accepted(text))
 }

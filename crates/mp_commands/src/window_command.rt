@@ -7,27 +7,28 @@ ghost use Rattle.mp_commands.specs.Reports.{IsReported, OnlyReads};
 use crate::answers::Answer;
 use crate::conditions::window_cause;
 use crate::context::Context;
+use crate::reports::{Report, Window};
 use mp_nums::Memory;
 use mp_replies::Ref;
-use mp_report::window_text;
-use mp_slots::Slots;
-use std::alloc::Global;
+use mp_stores::Stores;
 
 pub(crate) fn report_window(
-    alloc: Global,
-    slots: &mut Slots,
+    stores: &mut Stores,
     context: Context,
     at: Ref,
     start: u64,
 ) -> Result<Answer, Memory>
-    ensures report { IsReported context (Asks (asked.Window at start)) slots.old result }
-    ensures slots { OnlyReads (Asks (asked.Window at start)) slots.old slots.new result }
+    ensures report { IsReported context (Asks (asked.Window at start)) stores.old result }
+    ensures stores { OnlyReads (Asks (asked.Window at start)) stores.old stores.new result }
 {
-    if let Some(cause) = window_cause(slots, at, start) {
+    if let Some(cause) = window_cause(stores, at, start) {
         return Ok(Answer::Refused(cause));
     }
-    let samples = slots.window(alloc, at, start)?;
+    let samples = stores.window(context.alloc, at, start)?;
     let scale = context.settings.scale();
-    let text = window_text(alloc, context.line(), start, samples.as_slice(), scale)?;
-    Ok(Answer::Accepted(text))
+    Ok(Answer::Accepted(Report::Window(Window {
+        start,
+        samples,
+        scale,
+    })))
 }

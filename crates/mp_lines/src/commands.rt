@@ -3,6 +3,7 @@
 ghost use Rattle.std.specs.Prelude.{◌≡◌};
 ghost use Rattle.mp_bytes.specs.Fields.{fields_in};
 ghost use Rattle.mp_replies.specs.Line.{asked_of, asks, command_in, forms};
+ghost use Rattle.mp_replies.specs.State.{first_version};
 ghost use Rattle.mp_lines.specs.Lines.{read_as};
 
 use crate::numbers::Columns;
@@ -136,7 +137,7 @@ pub enum LineFault {
 /// Reads a line without its LF. It takes no memory.
 #[tactic(auto, unfolding(mp_replies::specs::Line::asked_of))]
 pub fn parse_line(line: &[u8]) -> Result<Command<'_>, LineFault>
-    ensures { read_as result ≡ asked_of line.now }
+    ensures { read_as result ≡ asked_of first_version line.now }
 {
     if line.len() > MAX_LINE {
         return Err(LineFault::Long);
@@ -153,7 +154,7 @@ pub fn parse_line(line: &[u8]) -> Result<Command<'_>, LineFault>
 
 /// Reads the fields behind a command word, each word's by its row of the table of commands.
 fn parse_command<'a>(word: &[u8], fields: Fields<'a>) -> Result<Command<'a>, LineFault>
-    ensures { read_as result ≡ asks (command_in forms word.now (fields_in fields.entry.text.now)) }
+    ensures { read_as result ≡ asks (command_in (forms first_version) word.now (fields_in fields.entry.text.now)) }
 {
     if same_text(word, b"session") {
         session(fields)

@@ -6,7 +6,7 @@ use Rattle.std.specs.Prelude.{nat_le, nat_lt, if◌then◌else◌}
 use Rattle.std.proofs.lemmas.List.Elements.{All-from_recursion, All-get_or, All-weaker}
 use Rattle.std.proofs.lemmas.Bool.{cases_lt}
 use Rattle.std.proofs.lemmas.Bool.Decides.{nat_tests}
-use Rattle.mp_results.specs.Mpdist.{inserted, in_rising_order}
+use Rattle.mp_results.specs.Mpdist.{put_in_order, in_rising_order}
 use Rattle.mp_mpdist.proofs.Counts.{tally, count_by-cons, count_by-none}
 
 abbrev pub AllFrom : ℕ → List ℕ → Type 0
@@ -20,43 +20,45 @@ AllFrom-weaker : (x d : ℕ) (ds : List ℕ) → x ≤ d → AllFrom d ds → Al
 AllFrom-weaker x d [] le all = tt
 AllFrom-weaker x d (e ∷ es) le all = (omega (arith, all.0), AllFrom-weaker x d es le all.1)
 
-AllFrom-inserted : (x d : ℕ) (ds : List ℕ) → x ≤ d → AllFrom x ds → AllFrom x (inserted d ds)
-AllFrom-inserted x d [] le all = (le, tt)
-AllFrom-inserted x d (e ∷ es) le all =
-    elim (nat_le d e) as (λ b. AllFrom x (if b then d ∷ e ∷ es else e ∷ inserted d es)) [
+AllFrom-put_in_order : (x d : ℕ) (ds : List ℕ) → x ≤ d → AllFrom x ds → AllFrom x (put_in_order d ds)
+AllFrom-put_in_order x d [] le all = (le, tt)
+AllFrom-put_in_order x d (e ∷ es) le all =
+    elim (nat_le d e) as (λ b. AllFrom x (if b then d ∷ e ∷ es else e ∷ put_in_order d es)) [
       | true ↦ (le, all)
-      | false ↦ (all.0, AllFrom-inserted x d es le all.1)
+      | false ↦ (all.0, AllFrom-put_in_order x d es le all.1)
     ]
 
-IsRising-placed : (d e : ℕ) (es : List ℕ) → IsRising (e ∷ es) → IsRising (inserted d es)
-    → (b : Bool) → nat_le d e ≡ b → IsRising (if b then d ∷ e ∷ es else e ∷ inserted d es)
+IsRising-placed : (d e : ℕ) (es : List ℕ) → IsRising (e ∷ es) → IsRising (put_in_order d es)
+    → (b : Bool) → nat_le d e ≡ b → IsRising (if b then d ∷ e ∷ es else e ∷ put_in_order d es)
 IsRising-placed d e es rising rest true is =
     let le : d ≤ e = grind (arith, nat_tests) in
     ((le, AllFrom-weaker d e es le rising.0), rising)
 IsRising-placed d e es rising rest false is =
     let le : e ≤ d = grind (arith, nat_tests) in
-    (AllFrom-inserted e d es le rising.0, rest)
+    (AllFrom-put_in_order e d es le rising.0, rest)
 
-IsRising-inserted : (d : ℕ) (ds : List ℕ) → IsRising ds → IsRising (inserted d ds)
-IsRising-inserted d [] rising = (tt, tt)
-IsRising-inserted d (e ∷ es) rising = IsRising-placed d e es rising (IsRising-inserted d es rising.1) (nat_le d e) refl
+IsRising-put_in_order : (d : ℕ) (ds : List ℕ) → IsRising ds → IsRising (put_in_order d ds)
+IsRising-put_in_order d [] rising = (tt, tt)
+IsRising-put_in_order d (e ∷ es) rising =
+    IsRising-placed d e es rising (IsRising-put_in_order d es rising.1) (nat_le d e) refl
 
 pub IsRising-in_rising_order : (ds : List ℕ) → IsRising (in_rising_order ds)
 unfolding in_rising_order
 IsRising-in_rising_order [] = tt
-IsRising-in_rising_order (d ∷ ds) = IsRising-inserted d (in_rising_order ds) (IsRising-in_rising_order ds)
+IsRising-in_rising_order (d ∷ ds) = IsRising-put_in_order d (in_rising_order ds) (IsRising-in_rising_order ds)
 
-count_by-placed : (p : ℕ → Bool) (d e : ℕ) (es : List ℕ) (b : Bool) → count_by p (inserted d es) ≡ count_by p (d ∷ es)
-    → count_by p (if b then d ∷ e ∷ es else e ∷ inserted d es) ≡ count_by p (d ∷ e ∷ es)
+count_by-placed : (p : ℕ → Bool) (d e : ℕ) (es : List ℕ) (b : Bool)
+    → count_by p (put_in_order d es) ≡ count_by p (d ∷ es)
+    → count_by p (if b then d ∷ e ∷ es else e ∷ put_in_order d es) ≡ count_by p (d ∷ e ∷ es)
 count_by-placed p d e es true rest = refl
 count_by-placed p d e es false rest =
-    let before = count_by-cons p e (inserted d es) in
+    let before = count_by-cons p e (put_in_order d es) in
     let after = count_by-cons p d (e ∷ es) in
     omega (arith, rest, before, after, count_by-cons p d es, count_by-cons p e es)
 
-count_by-inserted : (p : ℕ → Bool) (d : ℕ) (ds : List ℕ) → count_by p (inserted d ds) ≡ count_by p (d ∷ ds)
-count_by-inserted p d [] = refl
-count_by-inserted p d (e ∷ es) = count_by-placed p d e es (nat_le d e) (count_by-inserted p d es)
+count_by-put_in_order : (p : ℕ → Bool) (d : ℕ) (ds : List ℕ) → count_by p (put_in_order d ds) ≡ count_by p (d ∷ ds)
+count_by-put_in_order p d [] = refl
+count_by-put_in_order p d (e ∷ es) = count_by-placed p d e es (nat_le d e) (count_by-put_in_order p d es)
 
 pub count_by-in_rising_order : (p : ℕ → Bool) (ds : List ℕ) → count_by p (in_rising_order ds) ≡ count_by p ds
 unfolding in_rising_order
@@ -64,21 +66,21 @@ count_by-in_rising_order p [] = refl
 count_by-in_rising_order p (d ∷ ds) =
     let rising = in_rising_order ds in
     let first = count_by-cons p d ds in
-    omega (arith, first, count_by-inserted p d rising, count_by-cons p d rising, count_by-in_rising_order p ds)
+    omega (arith, first, count_by-put_in_order p d rising, count_by-cons p d rising, count_by-in_rising_order p ds)
 
-length-placed : (d e : ℕ) (es : List ℕ) (b : Bool) → length (inserted d es) ≡ suc (length es)
-    → length (if b then d ∷ e ∷ es else e ∷ inserted d es) ≡ suc (suc (length es))
+length-placed : (d e : ℕ) (es : List ℕ) (b : Bool) → length (put_in_order d es) ≡ suc (length es)
+    → length (if b then d ∷ e ∷ es else e ∷ put_in_order d es) ≡ suc (suc (length es))
 length-placed d e es true rest = refl
 length-placed d e es false rest = ap suc rest
 
-length-inserted : (d : ℕ) (ds : List ℕ) → length (inserted d ds) ≡ suc (length ds)
-length-inserted d [] = refl
-length-inserted d (e ∷ es) = length-placed d e es (nat_le d e) (length-inserted d es)
+length-put_in_order : (d : ℕ) (ds : List ℕ) → length (put_in_order d ds) ≡ suc (length ds)
+length-put_in_order d [] = refl
+length-put_in_order d (e ∷ es) = length-placed d e es (nat_le d e) (length-put_in_order d es)
 
 pub length-in_rising_order : (ds : List ℕ) → length (in_rising_order ds) ≡ length ds
 unfolding in_rising_order
 length-in_rising_order [] = refl
-length-in_rising_order (d ∷ ds) = length-inserted d (in_rising_order ds) ∙ ap suc (length-in_rising_order ds)
+length-in_rising_order (d ∷ ds) = length-put_in_order d (in_rising_order ds) ∙ ap suc (length-in_rising_order ds)
 
 -- how many are less than v, and how many are at most v
 abbrev pub less_than : ℕ → List ℕ → ℕ

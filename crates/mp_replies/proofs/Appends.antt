@@ -11,9 +11,10 @@ use Rattle.mp_text.specs.Rows.{Row, columns_of, onto}
 use Rattle.mp_replies.specs.declared.causes.Cause.{Cause}
 use Rattle.mp_replies.specs.declared.causes.Cause.TheVariants.{Slot, Sample, Full}
 use Rattle.mp_replies.specs.State.{Files, Store, State, Open, store_at, is_closed, channels_in, channels_at, samples_in}
+use Rattle.mp_replies.specs.State.{version_of}
 use Rattle.mp_replies.specs.Change.{Change, AddSamples, changed, extended}
 use Rattle.mp_replies.specs.Command.{Append}
-use Rattle.mp_replies.specs.Conditions.{first_of, when}
+use Rattle.mp_replies.specs.Conditions.{first_cause, when}
 use Rattle.mp_replies.specs.AppendCommand.{item_of, items_of, read_items, rows_in, bad_in, append_conditions}
 use Rattle.mp_replies.specs.AppendCommand.{append_change}
 use Rattle.mp_replies.specs.Line.{Asked, Asks, asked_of}
@@ -100,7 +101,7 @@ record Passed (state : State) (slot : ℕ) (items : List (List ℕ)) : Type 0 wh
 passed_by : (state : State) (slot : ℕ) (items : List (List ℕ)) (closed over : Bool) (read : Result (List Row) ℕ)
     → read_items state.scale (length (channels_at state.stores slot)) items ≡ read
     → nat_lt max_samples (samples_in (channels_at state.stores slot) + length items) ≡ over
-    → first_of (when closed Slot ∷ when (not (is_none (bad_in read))) (Sample (unwrap_or (bad_in read) 0))
+    → first_cause (when closed Slot ∷ when (not (is_none (bad_in read))) (Sample (unwrap_or (bad_in read) 0))
     ∷ when over Full ∷ [])
     ≡ None
     → Passed state slot items
@@ -111,7 +112,7 @@ passed_by state slot items false false (Ok rows) is test h =
     record { rows = rows; rows_are = is; room = grind (arith, nat_tests) }
 
 passed : (state : State) (slot : ℕ) (items : List (List ℕ))
-    → first_of (append_conditions state.scale state.stores slot items) ≡ None → Passed state slot items
+    → first_cause (append_conditions state.scale state.stores slot items) ≡ None → Passed state slot items
 passed state slot items h =
     passed_by state slot items (is_closed (store_at state.stores slot))
     (nat_lt max_samples (samples_in (channels_at state.stores slot) + length items))
@@ -157,13 +158,13 @@ one_of : (state : State) (files : Files) (slot : ℕ) (items : List (List ℕ)) 
     → (p : Passed state slot items)
     × Appended state (after_by state (verdict_of state files (Asks (Append slot items)))) slot p.rows
 one_of state files slot items some none =
-    let o = first_of (append_conditions state.scale state.stores slot items) in
+    let o = first_cause (append_conditions state.scale state.stores slot items) in
     let accepted = unrefused o (append_change state.scale state.stores slot items) items slot none in
     let p = passed state slot items accepted in
     (p, appended_by state slot items o p some accepted)
 
 one_line : (state : State) (files : Files) (line : List ℕ) (slot : ℕ) (items : List (List ℕ)) → HasChannel state slot
-    → asked_of line ≡ Asks (Append slot items) → cause state line files ≡ None
+    → asked_of (version_of state) line ≡ Asks (Append slot items) → cause state line files ≡ None
     → (p : Passed state slot items) × Appended state (after state line files) slot p.rows
 unfolding cause after verdict
 one_line state files line slot items some asks none =
@@ -229,7 +230,7 @@ both state middle later slot items more some p one two =
 
 several : (state : State) (files : Files) (slot : ℕ) (first : List ℕ) (lines : List (List ℕ))
     (groups : List (List (List ℕ))) → HasChannel state slot
-    → AppendEach slot (first ∷ lines) groups → some_refused state files (first ∷ lines) ≡ false
+    → AppendEach (version_of state) slot (first ∷ lines) groups → some_refused state files (first ∷ lines) ≡ false
     → AllAppended state (state_after state files (first ∷ lines)) slot (all_items groups)
 unfolding all_items
 several state files slot first lines [] some each good = absurd each
@@ -256,7 +257,7 @@ several state files slot first (line ∷ lines) (items ∷ groups) some each goo
 none_holds : (state : State) (slot : ℕ) (items : List (List ℕ)) (rows : List Row) → HasChannel state slot
     → read_items state.scale (length (channels_at state.stores slot)) items ≡ Ok rows
     → samples_in (channels_at state.stores slot) + length items ≤ max_samples
-    → first_of (append_conditions state.scale state.stores slot items) ≡ None
+    → first_cause (append_conditions state.scale state.stores slot items) ≡ None
 none_holds state slot items rows some spelled room =
     let few : nat_lt max_samples (samples_in (channels_at state.stores slot) + length items) ≡ false =
     grind (arith, nat_tests) in
@@ -270,7 +271,7 @@ whole_of state files slot items rows some spelled room = rw (none_holds state sl
 
 whole_line : (state : State) (files : Files) (whole : List ℕ) (slot : ℕ) (items : List (List ℕ)) (rows : List Row)
     → HasChannel state slot
-    → asked_of whole ≡ Asks (Append slot items)
+    → asked_of (version_of state) whole ≡ Asks (Append slot items)
     → read_items state.scale (length (channels_at state.stores slot)) items ≡ Ok rows
     → samples_in (channels_at state.stores slot) + length items ≤ max_samples → cause state whole files ≡ None
 unfolding cause verdict

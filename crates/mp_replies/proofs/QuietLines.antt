@@ -9,9 +9,9 @@ use Rattle.mp_bytes.specs.Fields.{pieces, fields_in, fields, without_cr, is_blan
 use Rattle.mp_bytes.specs.Lines.{max_line}
 use Rattle.mp_replies.specs.declared.causes.Cause.{Cause}
 use Rattle.mp_replies.specs.declared.causes.Cause.TheVariants.{Long}
-use Rattle.mp_replies.specs.State.{Files, State}
+use Rattle.mp_replies.specs.State.{Files, State, version_of}
 use Rattle.mp_replies.specs.Change.{Change}
-use Rattle.mp_replies.specs.Conditions.{first_of}
+use Rattle.mp_replies.specs.Conditions.{first_cause}
 use Rattle.mp_replies.specs.Command.{Command}
 use Rattle.mp_replies.specs.Answer.{Report, Silent, Accepted, Ended}
 use Rattle.mp_replies.specs.Line.{Asked, Nothing, Asks, Faulty, asks, asked_in, asked_of, command_in, forms}
@@ -39,7 +39,7 @@ passes_nothing : (state : State) (files : Files) (asked : Asked) → verdict_of 
 passes_nothing state files Nothing h = refl
 passes_nothing state files (Faulty cause) h = cc
 passes_nothing state files (Asks command) h =
-    absurd (judged command (first_of (conditions state files command)) (change_by state files command) h)
+    absurd (judged command (first_cause (conditions state files command)) (change_by state files command) h)
 
 nothing_is_silent : (later state : State) (files : Files) (asked : Asked) → asked ≡ Nothing
     → answer_by later (verdict_of state files asked) ≡ Silent
@@ -70,9 +70,10 @@ by_first_byte : (sign : Bool) (r : Result Command Cause) → is_nothing (if sign
 by_first_byte true r = refl
 by_first_byte false r = asks_something r
 
-fields_ask : (all : List (List ℕ)) → is_nothing (asked_in all) ≡ are_quiet all
-fields_ask [] = refl
-fields_ask (word ∷ others) = by_first_byte (slice_index word 0 == number_sign) (command_in forms word others)
+fields_ask : (version : ℕ) (all : List (List ℕ)) → is_nothing (asked_in version all) ≡ are_quiet all
+fields_ask version [] = refl
+fields_ask version (word ∷ others) =
+    by_first_byte (slice_index word 0 == number_sign) (command_in (forms version) word others)
 
 -- ---- by its bytes
 
@@ -94,16 +95,17 @@ quiet_text : (text : List ℕ) → are_quiet (fields_in text) ≡ (list_all is_b
 quiet_text [] = refl
 quiet_text (b ∷ bs) = quiet_from (is_blank b) b bs (quiet_text bs)
 
-line_asks_by : (line : List ℕ) (long : Bool)
-    → is_nothing (if long then Faulty Long else asked_in (fields line))
+line_asks_by : (version : ℕ) (line : List ℕ) (long : Bool)
+    → is_nothing (if long then Faulty Long else asked_in version (fields line))
     ≡ (not long && (is_blank_line line || is_comment line))
-line_asks_by line true = refl
-line_asks_by line false = fields_ask (fields line) ∙ quiet_text (without_cr line)
+line_asks_by version line true = refl
+line_asks_by version line false = fields_ask version (fields line) ∙ quiet_text (without_cr line)
 
-line_asks : (line : List ℕ)
-    → is_nothing (asked_of line) ≡ (not (nat_lt max_line (length line)) && (is_blank_line line || is_comment line))
+line_asks : (version : ℕ) (line : List ℕ)
+    → is_nothing (asked_of version line) ≡ (not (nat_lt max_line (length line)) && (is_blank_line line || is_comment
+    line))
 unfolding asked_of
-line_asks line = line_asks_by line (nat_lt max_line (length line))
+line_asks version line = line_asks_by version line (nat_lt max_line (length line))
 
 within : (size : ℕ) (read quiet : Bool) → read ≡ (not (nat_lt max_line size) && quiet) → read ≡ true
     → (size ≤ max_line) × IsTrue quiet
@@ -116,12 +118,12 @@ asks_within size read quiet e h = grind (arith, nat_tests)
 pub quiet_lines : QuietLinesAreSilent
 unfolding answer after verdict
 quiet_lines state line files =
-    let asked = asked_of line in
+    let asked = asked_of (version_of state) line in
     let later = after state line files in (
-      λ silent. within (length line) _ _ (line_asks line)
+      λ silent. within (length line) _ _ (line_asks (version_of state) line)
           (ap is_nothing
           (passes_nothing state files asked (silent_passes later (verdict_of state files asked) silent))),
       λ quiet.
           nothing_is_silent later state files asked
-          (is_nothing_means asked (asks_within (length line) _ _ (line_asks line) quiet)),
+          (is_nothing_means asked (asks_within (length line) _ _ (line_asks (version_of state) line) quiet)),
     )

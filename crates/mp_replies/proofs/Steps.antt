@@ -2,11 +2,11 @@
 use Rattle.std.proofs.Common.{◌≡◌, ℕ, ◌+◌, Bool, true, false, List, [], ◌∷◌, ◌++◌, refl, ap, ◌∙◌, sym}
 use Rattle.std.specs.Prelude.{Option, Some, None, is_none, if◌then◌else◌}
 use Rattle.mp_replies.specs.declared.causes.Cause.{Cause}
-use Rattle.mp_replies.specs.State.{Files, State, opening}
+use Rattle.mp_replies.specs.State.{Files, State, opening, version_of}
 use Rattle.mp_replies.specs.Answer.{Accepted, Ended, Refused, Report}
 use Rattle.mp_replies.specs.Change.{Change}
 use Rattle.mp_replies.specs.Command.{Command, Load, End}
-use Rattle.mp_replies.specs.Conditions.{Condition, first_of}
+use Rattle.mp_replies.specs.Conditions.{Condition, first_cause}
 use Rattle.mp_replies.specs.LoadCommand.{load_conditions, file_conditions, file_in}
 use Rattle.mp_replies.specs.Line.{Asked, Nothing, Asks, Faulty, asked_of, is_end, ends}
 use Rattle.mp_replies.specs.Step.{Verdict, Passes, IsRefused, IsAccepted, verdict, verdict_by, verdict_of, cause}
@@ -80,32 +80,33 @@ answered_end later state files Nothing report h = absurd (cc h)
 answered_end later state files (Faulty why) report h = absurd (cc h)
 answered_end later state files (Asks End) report h = refl
 answered_end later state files (Asks other) report h =
-    absurd (goes_on later other (first_of (conditions state files other)) (change_by state files other) report refl h)
+    absurd (goes_on later other (first_cause (conditions state files other)) (change_by state files other) report refl
+    h)
 
 pub ends_answered : EndsAreAnswered
 unfolding ends answer after verdict
 ends_answered state line files = (
-  ends_of (after state line files) state files (asked_of line),
-  λ p. answered_end (after state line files) state files (asked_of line) p.0 p.1,
+  ends_of (after state line files) state files (asked_of (version_of state) line),
+  λ p. answered_end (after state line files) state files (asked_of (version_of state) line) p.0 p.1,
 )
 
 -- ---- lines that ask for no file
 
 first_by : (holds : Bool) (word why : Cause) (some others : List Condition)
-    → (first_of some ≡ Some why → first_of (some ++ others) ≡ Some why)
-    → (if holds then Some word else first_of some) ≡ Some why
-    → (if holds then Some word else first_of (some ++ others)) ≡ Some why
+    → (first_cause some ≡ Some why → first_cause (some ++ others) ≡ Some why)
+    → (if holds then Some word else first_cause some) ≡ Some why
+    → (if holds then Some word else first_cause (some ++ others)) ≡ Some why
 first_by true word why some others later h = h
 first_by false word why some others later h = later h
 
-first_refused : (some others : List Condition) (why : Cause) → first_of some ≡ Some why
-    → first_of (some ++ others) ≡ Some why
+first_refused : (some others : List Condition) (why : Cause) → first_cause some ≡ Some why
+    → first_cause (some ++ others) ≡ Some why
 first_refused [] others why h = cc
 first_refused (c ∷ some) others why h = first_by c.holds c.word why some others (first_refused some others why) h
 
 load_refused : (state : State) (files others : Files) (slot : ℕ) (file : List ℕ) (columns : List ℕ) (header : Bool)
     (o : Option Cause)
-    → first_of (load_conditions state.stores slot columns) ≡ o → is_none o ≡ false
+    → first_cause (load_conditions state.stores slot columns) ≡ o → is_none o ≡ false
     → verdict_of state files (Asks (Load slot file columns header))
     ≡ verdict_of state others (Asks (Load slot file columns header))
 load_refused state files others slot file columns header None is h = absurd (cc h)
@@ -123,13 +124,13 @@ same_verdict state files others Nothing h = refl
 same_verdict state files others (Faulty why) h = refl
 same_verdict state files others (Asks (Load slot file columns header)) h =
     load_refused state files others slot file columns header
-    (first_of (load_conditions state.stores slot columns)) refl h
+    (first_cause (load_conditions state.stores slot columns)) refl h
 same_verdict state files others (Asks other) h = refl
 
 pub no_file_read : OtherLinesReadNoFile
 unfolding fetches reply answer after verdict
 no_file_read state line files others h =
-    let same = same_verdict state files others (asked_of line) h in (
+    let same = same_verdict state files others (asked_of (version_of state) line) h in (
       ap (λ (v : Verdict). text_of (state.lines + 1) (answer_by (after_by state v) v)) same,
       ap (after_by state) same,
     )

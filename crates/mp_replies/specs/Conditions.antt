@@ -14,9 +14,9 @@ pub record Condition : Type 0 where
 abbrev pub when : Bool → Cause → Condition
 when holds word = record { holds = holds; word = word }
 
-abbrev pub first_of : List Condition → Option Cause
-first_of [] = None
-first_of (condition ∷ others) = if condition.holds then Some condition.word else first_of others
+abbrev pub first_cause : List Condition → Option Cause
+first_cause [] = None
+first_cause (condition ∷ others) = if condition.holds then Some condition.word else first_cause others
 
 -- ---- conditions of several commands
 

@@ -4,7 +4,7 @@ use Rattle.std.proofs.Common.{refl, ap, arith}
 use Rattle.std.proofs.lemmas.List.{length-take-le, take_all}
 use Rattle.std.proofs.lemmas.Bool.Decides.{nat_tests}
 use Rattle.mp_bytes.specs.Lines.{max_line, most_kept, cut}
-use Rattle.mp_replies.specs.State.{Files, State}
+use Rattle.mp_replies.specs.State.{Files, State, first_version, version_of}
 use Rattle.mp_replies.specs.Answer.{Answer}
 use Rattle.mp_replies.specs.Line.{Asked, asked_of, is_end, ends}
 use Rattle.mp_replies.specs.Step.{Verdict, verdict, verdict_of, cause, cause_in, after, after_by, answer, answer_by}
@@ -14,25 +14,26 @@ use Rattle.mp_replies.specs.Output.{reply}
 use Rattle.mp_replies.specs.Laws.{LongLinesAreCut, LongLinesAreRunCut}
 
 -- a longer line is longer than the limit when it is cut, too
-cut_by : (line : List ℕ) (t : Bool) → nat_lt max_line (length line) ≡ t → asked_of (cut line) ≡ asked_of line
+cut_by : (version : ℕ) (line : List ℕ) (t : Bool) → nat_lt max_line (length line) ≡ t
+    → asked_of version (cut line) ≡ asked_of version line
 unfolding asked_of
-cut_by line true t =
+cut_by version line true t =
     let long : max_line < length line = grind (arith, nat_tests) in
     let kept : length (cut line) ≡ most_kept = length-take-le most_kept line (omega arith) in
     rw (kept, t) refl
-cut_by line false t =
+cut_by version line false t =
     let short : length line ≤ most_kept = grind (arith, nat_tests) in
     rw (take_all most_kept line short) refl
 
 pub asked_cut : LongLinesAreCut
-asked_cut line = cut_by line (nat_lt max_line (length line)) refl
+asked_cut version line = cut_by version line (nat_lt max_line (length line)) refl
 
 -- ---- a line that was cut is run as the whole line
 
 verdict_cut : (state : State) (files : Files) (line : List ℕ)
     → verdict state (cut line) files ≡ verdict state line files
 unfolding verdict
-verdict_cut state files line = ap (λ (asked : Asked). verdict_of state files asked) (asked_cut line)
+verdict_cut state files line = ap (λ (asked : Asked). verdict_of state files asked) (asked_cut (version_of state) line)
 
 pub cause_cut : (state : State) (files : Files) (line : List ℕ) → cause state (cut line) files ≡ cause state line files
 unfolding cause
@@ -53,11 +54,11 @@ reply_cut state files line = ap (λ (a : Answer). text_of (state.lines + 1) a) (
 
 pub ends_cut : (line : List ℕ) → ends (cut line) ≡ ends line
 unfolding ends
-ends_cut line = ap is_end (asked_cut line)
+ends_cut line = ap is_end (asked_cut first_version line)
 
 pub fetches_cut : (state : State) (line : List ℕ) → fetches state (cut line) ≡ fetches state line
 unfolding fetches
-fetches_cut state line = ap (fetches_by state) (asked_cut line)
+fetches_cut state line = ap (fetches_by state) (asked_cut (version_of state) line)
 
 pub run_cut : LongLinesAreRunCut
 run_cut state line files = record {

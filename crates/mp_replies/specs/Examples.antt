@@ -9,12 +9,12 @@ use Rattle.mp_replies.specs.AppendCommand.{item_of}
 use Rattle.mp_replies.specs.declared.refs.Ref.{Ref}
 use Rattle.mp_replies.specs.Command.{Session, OpenSlot, Load, Append, Profile, End}
 use Rattle.mp_replies.specs.Command.{Join, Multi, Match, Motifs, Discords, Chain, Chains, Segments, Mpdist, Consensus}
-use Rattle.mp_replies.specs.Conditions.{first_of}
-use Rattle.mp_replies.specs.Line.{Nothing, Asks, Faulty, asked_of}
+use Rattle.mp_replies.specs.Conditions.{first_cause}
+use Rattle.mp_replies.specs.Line.{Asked, Nothing, Asks, Faulty, asked_of}
 use Rattle.mp_replies.specs.LoadCommand.{file_conditions, file_in, table_in}
 use Rattle.mp_replies.specs.MotifsCommand.{motif_query}
 use Rattle.mp_replies.specs.Words.{Setup, job, session_job}
-use Rattle.mp_replies.specs.State.{Files, State, opening, Closed, Open}
+use Rattle.mp_replies.specs.State.{Files, State, opening, first_version, Closed, Open}
 use Rattle.mp_replies.specs.Step.{cause}
 use Rattle.mp_replies.specs.Output.{output}
 
@@ -82,49 +82,53 @@ pub record SpelledWords : Type 0 where
 abbrev channel : ℕ → ℕ → Ref
 channel s c = record { slot = s; channel = c }
 
+-- what a line asks for where the session has named no version
+abbrev asked : List ℕ → Asked
+asked line = asked_of first_version line
+
 -- what lines ask for, and why they are refused whatever the state
 pub record AskedLines : Type 0 where
-  pub session : asked_of (codes "session 01") ≡ Asks (Session 1)
-  pub other_version : asked_of (codes "session 2") ≡ Faulty cause.Version
-  pub no_version : asked_of (codes "session") ≡ Faulty cause.Version
-  pub unknown : asked_of (codes "frob 1") ≡ Faulty cause.Unknown
-  pub no_items : asked_of (codes "append 0") ≡ Faulty cause.Fields
-  pub no_slot : asked_of (codes "append x 1") ≡ Faulty cause.Number
-  pub items : asked_of (codes "append 00 1 2") ≡ Asks (Append 0 (codes "1" ∷ codes "2" ∷ []))
-  pub open_two : asked_of (codes "open 1 2") ≡ Asks (OpenSlot 1 2)
-  pub columns : asked_of (codes "load 1 day.csv 1,2 header") ≡ Asks (Load 1 (codes "day.csv") (1 ∷ 2 ∷ []) true)
-  pub no_header : asked_of (codes "load 1 day.csv 1,2") ≡ Asks (Load 1 (codes "day.csv") (1 ∷ 2 ∷ []) false)
-  pub other_header : asked_of (codes "load 1 day.csv 1,2 head") ≡ Faulty cause.Fields
-  pub empty_column : asked_of (codes "load 1 day.csv 1,,2") ≡ Faulty cause.Number
-  pub many_columns : asked_of (codes "load 1 day.csv 1,2,3,4,5,6,7,8,9") ≡ Faulty cause.Number
-  pub great_column : asked_of (codes "load 1 day.csv 65536") ≡ Faulty cause.Number
-  pub slot_alone : asked_of (codes "profile 7") ≡ Asks (Profile record { slot = 7; channel = 0 })
-  pub one_channel : asked_of (codes "profile 7.1") ≡ Asks (Profile record { slot = 7; channel = 1 })
-  pub no_channel : asked_of (codes "profile 7.") ≡ Faulty cause.Number
-  pub two_points : asked_of (codes "profile 7.1.1") ≡ Faulty cause.Number
-  pub great_number : asked_of (codes "entry 0 18446744073709551616") ≡ Faulty cause.Number
-  pub join : asked_of (codes "join 0 1.2") ≡ Asks (Join (channel 0 0) (channel 1 2))
-  pub mpdist : asked_of (codes "mpdist 0 0") ≡ Asks (Mpdist (channel 0 0) (channel 0 0))
-  pub multi : asked_of (codes "multi 1 2") ≡ Asks (Multi 1 2)
-  pub multi_ref : asked_of (codes "multi 0.0 1") ≡ Faulty cause.Number
-  pub match : asked_of (codes "match 0 1 2 6 10") ≡ Asks (Match (channel 0 0) (channel 1 0) 2 6 10)
-  pub no_matches : asked_of (codes "match 0 1 2 6 0") ≡ Faulty cause.Number
-  pub great_radius : asked_of (codes "match 0 1 2 340282366920938463463374607431768211455 1")
+  pub session : asked (codes "session 01") ≡ Asks (Session 1)
+  pub other_version : asked (codes "session 2") ≡ Faulty cause.Version
+  pub no_version : asked (codes "session") ≡ Faulty cause.Version
+  pub unknown : asked (codes "frob 1") ≡ Faulty cause.Unknown
+  pub no_items : asked (codes "append 0") ≡ Faulty cause.Fields
+  pub no_slot : asked (codes "append x 1") ≡ Faulty cause.Number
+  pub items : asked (codes "append 00 1 2") ≡ Asks (Append 0 (codes "1" ∷ codes "2" ∷ []))
+  pub open_two : asked (codes "open 1 2") ≡ Asks (OpenSlot 1 2)
+  pub columns : asked (codes "load 1 day.csv 1,2 header") ≡ Asks (Load 1 (codes "day.csv") (1 ∷ 2 ∷ []) true)
+  pub no_header : asked (codes "load 1 day.csv 1,2") ≡ Asks (Load 1 (codes "day.csv") (1 ∷ 2 ∷ []) false)
+  pub other_header : asked (codes "load 1 day.csv 1,2 head") ≡ Faulty cause.Fields
+  pub empty_column : asked (codes "load 1 day.csv 1,,2") ≡ Faulty cause.Number
+  pub many_columns : asked (codes "load 1 day.csv 1,2,3,4,5,6,7,8,9") ≡ Faulty cause.Number
+  pub great_column : asked (codes "load 1 day.csv 65536") ≡ Faulty cause.Number
+  pub slot_alone : asked (codes "profile 7") ≡ Asks (Profile record { slot = 7; channel = 0 })
+  pub one_channel : asked (codes "profile 7.1") ≡ Asks (Profile record { slot = 7; channel = 1 })
+  pub no_channel : asked (codes "profile 7.") ≡ Faulty cause.Number
+  pub two_points : asked (codes "profile 7.1.1") ≡ Faulty cause.Number
+  pub great_number : asked (codes "entry 0 18446744073709551616") ≡ Faulty cause.Number
+  pub join : asked (codes "join 0 1.2") ≡ Asks (Join (channel 0 0) (channel 1 2))
+  pub mpdist : asked (codes "mpdist 0 0") ≡ Asks (Mpdist (channel 0 0) (channel 0 0))
+  pub multi : asked (codes "multi 1 2") ≡ Asks (Multi 1 2)
+  pub multi_ref : asked (codes "multi 0.0 1") ≡ Faulty cause.Number
+  pub match : asked (codes "match 0 1 2 6 10") ≡ Asks (Match (channel 0 0) (channel 1 0) 2 6 10)
+  pub no_matches : asked (codes "match 0 1 2 6 0") ≡ Faulty cause.Number
+  pub great_radius : asked (codes "match 0 1 2 340282366920938463463374607431768211455 1")
       ≡ Asks (Match (channel 0 0) (channel 1 0) 2 340282366920938463463374607431768211455 1)
-  pub greater_radius : asked_of (codes "match 0 1 2 340282366920938463463374607431768211456 1") ≡ Faulty cause.Number
-  pub motifs : asked_of (codes "motifs 0 2 7 6 0 1024") ≡ Asks (Motifs (channel 0 0) (motif_query 2 7 6 0 1024))
-  pub many_motifs : asked_of (codes "motifs 0 1025 7 6 0 1") ≡ Faulty cause.Number
-  pub discords : asked_of (codes "discords 0 262144") ≡ Asks (Discords (channel 0 0) 262144)
-  pub many_discords : asked_of (codes "discords 0 262145") ≡ Faulty cause.Number
-  pub chain : asked_of (codes "chain 0 7") ≡ Asks (Chain (channel 0 0) 7)
-  pub chains : asked_of (codes "chains 0") ≡ Asks (Chains (channel 0 0))
-  pub segments : asked_of (codes "segments 0 1 100") ≡ Asks (Segments (channel 0 0) 1 100)
-  pub great_factor : asked_of (codes "segments 0 1 101") ≡ Faulty cause.Number
-  pub consensus : asked_of (codes "consensus 2 0 2") ≡ Asks (Consensus (channel 2 0 ∷ channel 0 0 ∷ channel 2 0 ∷ []))
-  pub consensus_of_one : asked_of (codes "consensus 2") ≡ Faulty cause.Fields
-  pub end : asked_of (codes "end") ≡ Asks End
-  pub end_with_more : asked_of (codes "end 1") ≡ Faulty cause.Fields
-  pub comment : asked_of (codes "  #end") ≡ Nothing
+  pub greater_radius : asked (codes "match 0 1 2 340282366920938463463374607431768211456 1") ≡ Faulty cause.Number
+  pub motifs : asked (codes "motifs 0 2 7 6 0 1024") ≡ Asks (Motifs (channel 0 0) (motif_query 2 7 6 0 1024))
+  pub many_motifs : asked (codes "motifs 0 1025 7 6 0 1") ≡ Faulty cause.Number
+  pub discords : asked (codes "discords 0 262144") ≡ Asks (Discords (channel 0 0) 262144)
+  pub many_discords : asked (codes "discords 0 262145") ≡ Faulty cause.Number
+  pub chain : asked (codes "chain 0 7") ≡ Asks (Chain (channel 0 0) 7)
+  pub chains : asked (codes "chains 0") ≡ Asks (Chains (channel 0 0))
+  pub segments : asked (codes "segments 0 1 100") ≡ Asks (Segments (channel 0 0) 1 100)
+  pub great_factor : asked (codes "segments 0 1 101") ≡ Faulty cause.Number
+  pub consensus : asked (codes "consensus 2 0 2") ≡ Asks (Consensus (channel 2 0 ∷ channel 0 0 ∷ channel 2 0 ∷ []))
+  pub consensus_of_one : asked (codes "consensus 2") ≡ Faulty cause.Fields
+  pub end : asked (codes "end") ≡ Asks End
+  pub end_with_more : asked (codes "end 1") ≡ Faulty cause.Fields
+  pub comment : asked (codes "  #end") ≡ Nothing
 
 -- the state at the start, at window length 3
 abbrev pub start : State
@@ -196,11 +200,11 @@ pub record LoadedFiles : Type 0 where
   pub in_their_order : table_in 0 (2 ∷ 0 ∷ []) false (codes "1,2,3\n")
       ≡ Ok ((Some (pos 3) ∷ []) ∷ (Some (pos 1) ∷ []) ∷ [])
   pub no_bytes : table_in 0 (0 ∷ []) false [] ≡ Ok ([] ∷ [])
-  pub header_unnamed : first_of (file_conditions 1 (1 ∷ []) false (Some (codes "time,load\n0,1.0\n")))
+  pub header_unnamed : first_cause (file_conditions 1 (1 ∷ []) false (Some (codes "time,load\n0,1.0\n")))
       ≡ Some (cause.Record 1)
-  pub missing_field : first_of (file_conditions 0 (1 ∷ []) false (Some (codes "1,2\n3,4\n5,6\n7\n9,10\n")))
+  pub missing_field : first_cause (file_conditions 0 (1 ∷ []) false (Some (codes "1,2\n3,4\n5,6\n7\n9,10\n")))
       ≡ Some (cause.Record 4)
-  pub no_file : first_of (file_conditions 0 (1 ∷ []) false None) ≡ Some cause.File
+  pub no_file : first_cause (file_conditions 0 (1 ∷ []) false None) ≡ Some cause.File
 
 -- the words of a run at scale 1
 abbrev pub tenths : List (List ℕ)

@@ -5,13 +5,15 @@ use Rattle.std.specs.Prelude.{slice_index_or, Some, None, Ok, Err, flat_map}
 use Rattle.mp_bytes.specs.Fields.{is_blank_line, is_comment}
 use Rattle.mp_bytes.specs.Lines.{max_line, cut}
 use Rattle.mp_text.specs.Rows.{Row}
+use Rattle.mp_results.specs.Motifs.{MotifQuery}
 use Rattle.mp_replies.specs.declared.causes.Cause.{Cause}
 use Rattle.mp_replies.specs.declared.causes.Cause.TheVariants as words
 use Rattle.mp_replies.specs.Words.{Job}
-use Rattle.mp_replies.specs.State.{Files, State, channels_at}
+use Rattle.mp_replies.specs.State.{Files, State, channels_at, version_of}
 use Rattle.mp_replies.specs.Answer.{Silent, Refused, Ended, Report}
-use Rattle.mp_replies.specs.Command.{Command, Append, Match, Motifs, Discords, Segments, Consensus}
-use Rattle.mp_replies.specs.Limits.{max_factor, max_refs, min_refs}
+use Rattle.mp_replies.specs.Command.{Command, Load, Append, Match, Motifs, Discords, Segments, Consensus}
+use Rattle.mp_replies.specs.Limits.{max_channels, max_column, max_count, max_factor, max_motifs, max_refs, max_square}
+use Rattle.mp_replies.specs.Limits.{min_refs}
 use Rattle.mp_replies.specs.Conditions.{Condition}
 use Rattle.mp_replies.specs.AppendCommand.{item_of, read_items}
 use Rattle.mp_replies.specs.Line.{Asks, asked_of, ends}
@@ -37,7 +39,7 @@ QuietLinesAreSilent =
 
 -- no more than one byte past the longest line is looked at
 abbrev pub LongLinesAreCut : Type 0
-LongLinesAreCut = (line : List ℕ) → asked_of (cut line) ≡ asked_of line
+LongLinesAreCut = (version : ℕ) (line : List ℕ) → asked_of version (cut line) ≡ asked_of version line
 
 -- a cut line has the cause, the state behind it, the answer and the report of the whole, and ends the run and asks for
 -- a file where the whole does
@@ -122,13 +124,13 @@ pub record BadItemsAreTheFirst : Type 0 where
 
 -- ---- appends
 
--- each line appends the items of its group to this slot
-abbrev pub AppendEach : ℕ → List (List ℕ) → List (List (List ℕ)) → Type 0
-AppendEach slot [] [] = Unit {0}
-AppendEach slot [] (items ∷ groups) = ⊥
-AppendEach slot (line ∷ lines) [] = ⊥
-AppendEach slot (line ∷ lines) (items ∷ groups) =
-    (asked_of line ≡ Asks (Append slot items)) × AppendEach slot lines groups
+-- each line, read by a version, appends the items of its group to this slot
+abbrev pub AppendEach : ℕ → ℕ → List (List ℕ) → List (List (List ℕ)) → Type 0
+AppendEach version slot [] [] = Unit {0}
+AppendEach version slot [] (items ∷ groups) = ⊥
+AppendEach version slot (line ∷ lines) [] = ⊥
+AppendEach version slot (line ∷ lines) (items ∷ groups) =
+    (asked_of version line ≡ Asks (Append slot items)) × AppendEach version slot lines groups
 
 -- two states are the same, the number of lines run aside
 pub record AreAlike (a b : State) : Type 0 where
@@ -143,22 +145,41 @@ abbrev pub AppendsAddUp : Type 0
 AppendsAddUp =
     (state : State) (files : Files) (slot : ℕ)
     (first : List ℕ) (lines : List (List ℕ)) (groups : List (List (List ℕ))) (whole : List ℕ)
-    → 0 < length (channels_at state.stores slot) → AppendEach slot (first ∷ lines) groups
-    → asked_of whole ≡ Asks (Append slot (flat_map (λ items. items) groups))
+    → 0 < length (channels_at state.stores slot) → AppendEach (version_of state) slot (first ∷ lines) groups
+    → asked_of (version_of state) whole ≡ Asks (Append slot (flat_map (λ items. items) groups))
     → some_refused state files (first ∷ lines) ≡ false
     → (cause state whole files ≡ None)
     × AreAlike (state_after state files (first ∷ lines)) (after state whole files)
 
 -- ---- limits
 
+-- a number from 1 to a greatest one
+abbrev pub IsCount : ℕ → ℕ → Type 0
+IsCount most n = (1 ≤ n) × (n ≤ most)
+
+-- at most as many columns as a slot has channels, none beyond the last that a table may have
+abbrev pub AreColumns : List ℕ → Type 0
+AreColumns cols = (length cols ≤ max_channels) × All (λ column. column ≤ max_column) cols
+
+-- what repeated patterns are sought by
+abbrev pub IsMotifQuery : MotifQuery → Type 0
+IsMotifQuery query =
+    IsCount max_motifs query.count
+    × ((query.cutoff ≤ max_square)
+    × ((query.radius ≤ max_square)
+    × ((query.neighbours ≤ max_count)
+    × IsCount max_motifs query.max_matches)))
+
 -- the numbers that a command names lie within their limits
 abbrev pub IsWithin : Command → Type 0
-IsWithin (Match at query start radius max) = 1 ≤ max
-IsWithin (Motifs at query) = (1 ≤ query.count) × (1 ≤ query.max_matches)
-IsWithin (Discords at count) = 1 ≤ count
-IsWithin (Segments at count factor) = (1 ≤ count) × (factor ≤ max_factor)
+IsWithin (Load slot file cols header) = AreColumns cols
+IsWithin (Match at query start radius max) = (radius ≤ max_square) × IsCount max_count max
+IsWithin (Motifs at query) = IsMotifQuery query
+IsWithin (Discords at count) = IsCount max_count count
+IsWithin (Segments at count factor) = IsCount max_count count × (factor ≤ max_factor)
 IsWithin (Consensus refs) = (min_refs ≤ length refs) × (length refs ≤ max_refs)
 IsWithin other = Unit {0}
 
 abbrev pub LimitsAreKept : Type 0
-LimitsAreKept = (line : List ℕ) (command : Command) → asked_of line ≡ Asks command → IsWithin command
+LimitsAreKept =
+    (version : ℕ) (line : List ℕ) (command : Command) → asked_of version line ≡ Asks command → IsWithin command

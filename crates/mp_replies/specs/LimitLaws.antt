@@ -1,42 +1,47 @@
 -- What a line asks for lies within its limits.
-use Rattle.std.specs.Prelude.{◌≡◌, ℕ, ◌+◌, ◌≤◌, ◌&&◌, Bool, true, false, nat_le, nat_lt, ◌==◌, List, [], ◌∷◌, length}
+use Rattle.std.specs.Prelude.{◌≡◌, ℕ, ◌+◌, ◌≤◌, ◌&&◌, All, Bool, true, false, nat_le, nat_lt, ◌==◌, List, [], ◌∷◌}
+use Rattle.std.specs.Prelude.{length}
 use Rattle.std.specs.Prelude.{map, slice_index, codes, if◌then◌else◌, Option, Some, None, ok_or, Result, Ok, Err}
 use Rattle.std.specs.Option.{option_zip}
-use Rattle.std.proofs.Common.{refl, ap, subst, arith}
+use Rattle.std.proofs.Common.{zero, suc, refl, ap, subst, arith}
 use Rattle.std.proofs.lemmas.Bool.Decides.{nat_tests}
 use Rattle.std.proofs.lemmas.List.{length-map}
 use Rattle.mp_bytes.specs.Bytes.{number_sign, same_text}
 use Rattle.mp_bytes.specs.Digits.{are_digits, number_of, value_of}
 use Rattle.mp_bytes.specs.Fields.{fields}
 use Rattle.mp_bytes.specs.Lines.{max_line}
+use Rattle.mp_bytes.specs.Values.{values_in}
 use Rattle.mp_replies.specs.declared.causes.Cause.{Cause}
 use Rattle.mp_replies.specs.declared.causes.Cause.TheVariants as cause
 use Rattle.mp_replies.specs.declared.refs.Ref.{Ref}
 use Rattle.mp_replies.specs.Command.{Command, Session, End}
 use Rattle.mp_replies.specs.ConsensusCommand.{consensus_fits, consensus_shape}
-use Rattle.mp_replies.specs.Limits.{max_digits, max_factor, max_motifs, max_count, max_refs, min_refs}
+use Rattle.mp_replies.specs.Limits.{max_channels, max_column, max_count, max_digits, max_factor, max_motifs, max_refs}
+use Rattle.mp_replies.specs.Limits.{max_square, min_refs}
+use Rattle.mp_replies.specs.LoadCommand.{header_of, load_shape}
 use Rattle.mp_replies.specs.Line.{Nothing, Asks, Faulty, Form, asked_in, asked_of, asks, command_in, forms, made, row}
 use Rattle.mp_replies.specs.MatchCommand.{match_shape}
-use Rattle.mp_replies.specs.MotifsCommand.{motifs_shape}
-use Rattle.mp_replies.specs.Numbers.{all_some, count, factor, few, neighbours, number, onto_some, positive, ref, refs}
+use Rattle.mp_replies.specs.MotifsCommand.{motif_query, motifs_shape}
+use Rattle.mp_replies.specs.Numbers.{all_some, column, columns, count, factor, few, neighbours, number, onto_some}
+use Rattle.mp_replies.specs.Numbers.{positive, ref, refs}
 use Rattle.mp_replies.specs.Numbers.{squared}
 use Rattle.mp_replies.specs.SegmentsCommand.{segments_shape}
-use Rattle.mp_replies.specs.SessionCommand.{session_of, session_with, version}
+use Rattle.mp_replies.specs.SessionCommand.{session_of, session_with}
+use Rattle.mp_replies.specs.State.{first_version}
 use Rattle.mp_replies.specs.Shapes.{Shape, by_shape, last, no_field, ref_and_count, ◌&◌}
-use Rattle.mp_replies.specs.Laws.{IsWithin, LimitsAreKept}
+use Rattle.mp_replies.specs.Laws.{AreColumns, IsCount, IsMotifQuery, IsWithin, LimitsAreKept}
 
 -- ---- numbers
 
-abbrev IsPositive : ℕ → Type 0
-IsPositive n = 1 ≤ n
-
-positive_by : (n m : ℕ) (b : Bool) → nat_le 1 n ≡ b → (if b then Some n else None) ≡ Some m → IsPositive m
-positive_by n m true is h = let same : n ≡ m = cc in subst IsPositive same (grind (arith, nat_tests))
+positive_by : (n m : ℕ) (b : Bool) → nat_le 1 n ≡ b → (if b then Some n else None) ≡ Some m → (1 ≤ m) × (n ≡ m)
+positive_by n m true is h =
+    let same : n ≡ m = cc in
+    (subst (λ k. 1 ≤ k) same (grind (arith, nat_tests)), same)
 positive_by n m false is h = absurd (cc h)
 
-positive_some : (read : Option ℕ) (n : ℕ) → positive read ≡ Some n → IsPositive n
+positive_some : (read : Option ℕ) (n : ℕ) → positive read ≡ Some n → (1 ≤ n) × (read ≡ Some n)
 positive_some None n h = absurd (cc h)
-positive_some (Some m) n h = positive_by m n (nat_le 1 m) refl h
+positive_some (Some m) n h = let found = positive_by m n (nat_le 1 m) refl h in (found.0, ap Some found.1)
 
 most_by : (most value n : ℕ) (short digits few : Bool) → nat_le value most ≡ few
     → (if short && (digits && few) then Some value else None) ≡ Some n → n ≤ most
@@ -56,11 +61,18 @@ at_most digits most text n h =
 abbrev Gives : {A B : Type 0} → (A → Option B) → (B → Type 0) → Type 0
 Gives {A} {B} read P = (from : A) (found : B) → read from ≡ Some found → P found
 
-counts : Gives count IsPositive
-counts text = positive_some (number_of max_digits max_count text)
+counts : Gives count (IsCount max_count)
+counts text n h =
+    let found = positive_some (number_of max_digits max_count text) n h in
+    (found.0, at_most max_digits max_count text n found.1)
 
-fews : Gives few IsPositive
-fews text = positive_some (number_of max_digits max_motifs text)
+fews : Gives few (IsCount max_motifs)
+fews text n h =
+    let found = positive_some (number_of max_digits max_motifs text) n h in
+    (found.0, at_most max_digits max_motifs text n found.1)
+
+squares : Gives squared (λ n. n ≤ max_square)
+squares = at_most max_digits max_square
 
 last_gives : {A : Type 0} (read : List ℕ → Option A) (P : A → Type 0) → Gives read P → Gives (last read) P
 last_gives read P h (field ∷ []) found e = h field found e
@@ -91,35 +103,108 @@ behind first rest Q others fields found e =
 
 -- ---- what limited fields give
 
-match_gives : Gives match_shape.read (λ found. IsPositive found.1.1.1.1)
+match_gives : Gives match_shape.read (λ found. (found.1.1.1.0 ≤ max_square) × IsCount max_count found.1.1.1.1)
 match_gives =
-    behind ref (ref & number & squared & last count) (λ found. IsPositive found.1.1.1)
-    (behind ref (number & squared & last count) (λ found. IsPositive found.1.1)
-    (behind number (squared & last count) (λ found. IsPositive found.1)
-    (behind squared (last count) IsPositive (last_gives count IsPositive counts))))
+    behind ref (ref & number & squared & last count)
+    (λ found. (found.1.1.0 ≤ max_square) × IsCount max_count found.1.1.1)
+    (behind ref (number & squared & last count) (λ found. (found.1.0 ≤ max_square) × IsCount max_count found.1.1)
+    (behind number (squared & last count) (λ found. (found.0 ≤ max_square) × IsCount max_count found.1)
+    (and_gives squared (last count) (λ n. n ≤ max_square) (IsCount max_count) squares
+    (last_gives count (IsCount max_count) counts))))
 
--- the last of the fields behind the number of motifs
-matches_give : Gives (squared & squared & neighbours & last few) (λ found. IsPositive found.1.1.1)
-matches_give =
-    behind squared (squared & neighbours & last few) (λ found. IsPositive found.1.1)
-    (behind squared (neighbours & last few) (λ found. IsPositive found.1)
-    (behind neighbours (last few) IsPositive (last_gives few IsPositive fews)))
-
-motifs_gives : Gives motifs_shape.read (λ found. IsPositive found.1.0 × IsPositive found.1.1.1.1.1)
+motifs_gives :
+    Gives motifs_shape.read
+    (λ found.
+    IsMotifQuery (motif_query found.1.0 found.1.1.0 found.1.1.1.0 found.1.1.1.1.0 found.1.1.1.1.1))
 motifs_gives =
     behind ref (few & squared & squared & neighbours & last few)
-    (λ found. IsPositive found.0 × IsPositive found.1.1.1.1)
-    (and_gives few (squared & squared & neighbours & last few) IsPositive (λ found. IsPositive found.1.1.1) fews
-    matches_give)
+    (λ found. IsMotifQuery (motif_query found.0 found.1.0 found.1.1.0 found.1.1.1.0 found.1.1.1.1))
+    (and_gives few (squared & squared & neighbours & last few) (IsCount max_motifs)
+    (λ found.
+    (found.0 ≤ max_square)
+    × ((found.1.0 ≤ max_square)
+    × ((found.1.1.0 ≤ max_count)
+    × IsCount max_motifs found.1.1.1)))
+    fews
+    (and_gives squared (squared & neighbours & last few) (λ n. n ≤ max_square)
+    (λ found. (found.0 ≤ max_square) × ((found.1.0 ≤ max_count) × IsCount max_motifs found.1.1)) squares
+    (and_gives squared (neighbours & last few) (λ n. n ≤ max_square)
+    (λ found. (found.0 ≤ max_count) × IsCount max_motifs found.1) squares
+    (and_gives neighbours (last few) (λ n. n ≤ max_count) (IsCount max_motifs) (at_most max_digits max_count)
+    (last_gives few (IsCount max_motifs) fews)))))
 
-discords_gives : Gives ref_and_count.read (λ found. IsPositive found.1)
-discords_gives = behind ref (last count) IsPositive (last_gives count IsPositive counts)
+discords_gives : Gives ref_and_count.read (λ found. IsCount max_count found.1)
+discords_gives = behind ref (last count) (IsCount max_count) (last_gives count (IsCount max_count) counts)
 
-segments_gives : Gives segments_shape.read (λ found. IsPositive found.1.0 × (found.1.1 ≤ max_factor))
+segments_gives : Gives segments_shape.read (λ found. IsCount max_count found.1.0 × (found.1.1 ≤ max_factor))
 segments_gives =
-    behind ref (count & last factor) (λ found. IsPositive found.0 × (found.1 ≤ max_factor))
-    (and_gives count (last factor) IsPositive (λ n. n ≤ max_factor) counts
+    behind ref (count & last factor) (λ found. IsCount max_count found.0 × (found.1 ≤ max_factor))
+    (and_gives count (last factor) (IsCount max_count) (λ n. n ≤ max_factor) counts
     (last_gives factor (λ n. n ≤ max_factor) (at_most max_digits max_factor)))
+
+-- ---- lists
+
+-- as long as what was read
+onto_long : {A : Type 0} (x : A) (others : Option (List A)) (ys : List A) (many : ℕ)
+    → onto_some (Some x) others ≡ Some ys
+    → ((more : List A) → others ≡ Some more → length more ≡ many) → length ys ≡ many + 1
+onto_long x None ys many h rest = absurd (cc h)
+onto_long x (Some more) ys many h rest =
+    let whole : x ∷ more ≡ ys = cc in
+    omega (arith, ap length whole, rest more refl)
+
+all_long : {A : Type 0} (xs : List (Option A)) (ys : List A) → all_some xs ≡ Some ys → length ys ≡ length xs
+all_long [] [] h = refl
+all_long [] (y ∷ ys) h = absurd (cc h)
+all_long (None ∷ xs) ys h = absurd (cc h)
+all_long (Some x ∷ xs) ys h =
+    let long = onto_long x (all_some xs) ys (length xs) h (λ more is. all_long xs more is) in
+    omega (arith, long)
+
+-- ---- a list of columns
+
+first_holds : (P : ℕ → Type 0) (x : ℕ) (xs : List ℕ) → P x → All P xs → All P (x ∷ xs)
+first_holds P x xs first others zero d within = first
+first_holds P x xs first others (suc k) d within = others k d (omega (arith, within))
+
+onto_all : (P : ℕ → Type 0) (read : Option ℕ) (others : Option (List ℕ)) (ys : List ℕ)
+    → onto_some read others ≡ Some ys → ((n : ℕ) → read ≡ Some n → P n)
+    → ((more : List ℕ) → others ≡ Some more → All P more) → All P ys
+onto_all P None others ys h one rest = absurd (cc h)
+onto_all P (Some x) None ys h one rest = absurd (cc h)
+onto_all P (Some x) (Some more) ys h one rest =
+    let whole : x ∷ more ≡ ys = cc in
+    subst (All P) whole (first_holds P x more (one x refl) (rest more refl))
+
+no_column : (ys : List ℕ) → Some [] ≡ Some ys → All (λ column. column ≤ max_column) ys
+no_column [] h k d within = absurd (omega (arith, within))
+no_column (y ∷ ys) h k d within = absurd (cc h)
+
+all_columns : (texts : List (List ℕ)) (ys : List ℕ) → all_some (map column texts) ≡ Some ys
+    → All (λ column. column ≤ max_column) ys
+all_columns [] ys h = no_column ys h
+all_columns (text ∷ texts) ys h =
+    onto_all (λ column. column ≤ max_column) (column text) (all_some (map column texts)) ys h
+    (at_most max_digits max_column text) (λ more is. all_columns texts more is)
+
+columns_by : (texts : List (List ℕ)) (ys : List ℕ) (few : Bool) → nat_le (length texts) max_channels ≡ few
+    → (if few then all_some (map column texts) else None) ≡ Some ys → AreColumns ys
+columns_by texts ys true is h =
+    let long = all_long (map column texts) ys h in
+    let short : length texts ≤ max_channels = grind (arith, nat_tests) in
+    (omega (arith, long, length-map texts column, short), all_columns texts ys h)
+columns_by texts ys false is h = absurd (cc h)
+
+columns_give : Gives columns AreColumns
+columns_give field ys h =
+    columns_by (values_in field) ys (nat_le (length (values_in field)) max_channels) refl h
+
+load_gives : Gives load_shape.read (λ found. AreColumns found.1.1.0)
+load_gives =
+    behind number (Some & columns & header_of) (λ found. AreColumns found.1.0)
+    (behind Some (columns & header_of) (λ found. AreColumns found.0)
+    (λ fields found e.
+    (and_gives columns header_of AreColumns (λ _. Unit {0}) columns_give (λ text a is. tt) fields found e).0))
 
 -- ---- the forms
 
@@ -156,21 +241,6 @@ free word shape make h = row_within word shape make (λ fields found fits is. h 
 
 -- ---- a list of refs
 
-onto_long : (x : Ref) (others : Option (List Ref)) (ys : List Ref) (many : ℕ) → onto_some (Some x) others ≡ Some ys
-    → ((more : List Ref) → others ≡ Some more → length more ≡ many) → length ys ≡ many + 1
-onto_long x None ys many h rest = absurd (cc h)
-onto_long x (Some more) ys many h rest =
-    let whole : x ∷ more ≡ ys = cc in
-    omega (arith, ap length whole, rest more refl)
-
-all_long : (xs : List (Option Ref)) (ys : List Ref) → all_some xs ≡ Some ys → length ys ≡ length xs
-all_long [] [] h = refl
-all_long [] (y ∷ ys) h = absurd (cc h)
-all_long (None ∷ xs) ys h = absurd (cc h)
-all_long (Some x ∷ xs) ys h =
-    let long = onto_long x (all_some xs) ys (length xs) h (λ more is. all_long xs more is) in
-    omega (arith, long)
-
 fits_by : (n : ℕ) (some few : Bool) → nat_le min_refs n ≡ some → nat_le n max_refs ≡ few → (some && few) ≡ true
     → (min_refs ≤ n) × (n ≤ max_refs)
 fits_by n true true some few h = (grind (arith, nat_tests), grind (arith, nat_tests))
@@ -196,7 +266,7 @@ versioned n false command e = absurd (cc e)
 
 numbered : (read : Option ℕ) (command : Command) → session_with read ≡ Ok command → IsWithin command
 numbered None command e = absurd (cc e)
-numbered (Some n) command e = versioned n (n == version) command e
+numbered (Some n) command e = versioned n (n == first_version) command e
 
 session_within : (fields : List (List ℕ)) (command : Command) → session_of fields ≡ Ok command → IsWithin command
 session_within (field ∷ []) command e = numbered (number field) command e
@@ -213,11 +283,11 @@ infixr 50 ◌and◌
 abbrev ◌and◌ : {A B : Type 0} → A → B → A × B
 ◌and◌ a b = (a, b)
 
-forms_within : AllKeep forms
-forms_within =
+forms_within : (version : ℕ) → AllKeep (forms version)
+forms_within version =
     record { within = session_within }
     and free (codes "open") _ _ (λ _. tt)
-    and free (codes "load") _ _ (λ _. tt)
+    and row_within (codes "load") load_shape _ (λ fields found fits is. load_gives fields found is)
     and free (codes "append") _ _ (λ _. tt)
     and free (codes "window") _ _ (λ _. tt)
     and free (codes "profile") _ _ (λ _. tt)
@@ -259,17 +329,18 @@ unless_comment : (comment : Bool) (read : Result Command Cause) (command : Comma
 unless_comment true read command e = absurd (cc e)
 unless_comment false read command e = asked_by_result read command e
 
-asked_within : (all : List (List ℕ)) (command : Command) → asked_in all ≡ Asks command → IsWithin command
-asked_within [] command e = absurd (cc e)
-asked_within (word ∷ others) command e =
-    in_forms forms word others command forms_within
-    (unless_comment (slice_index word 0 == number_sign) (command_in forms word others) command e)
+asked_within : (version : ℕ) (all : List (List ℕ)) (command : Command) → asked_in version all ≡ Asks command
+    → IsWithin command
+asked_within version [] command e = absurd (cc e)
+asked_within version (word ∷ others) command e =
+    in_forms (forms version) word others command (forms_within version)
+    (unless_comment (slice_index word 0 == number_sign) (command_in (forms version) word others) command e)
 
-unless_long : (long : Bool) (all : List (List ℕ)) (command : Command)
-    → (if long then Faulty cause.Long else asked_in all) ≡ Asks command → IsWithin command
-unless_long true all command e = absurd (cc e)
-unless_long false all command e = asked_within all command e
+unless_long : (long : Bool) (version : ℕ) (all : List (List ℕ)) (command : Command)
+    → (if long then Faulty cause.Long else asked_in version all) ≡ Asks command → IsWithin command
+unless_long true version all command e = absurd (cc e)
+unless_long false version all command e = asked_within version all command e
 
 pub limits_kept : LimitsAreKept
 unfolding asked_of
-limits_kept line command e = unless_long (nat_lt max_line (length line)) (fields line) command e
+limits_kept version line command e = unless_long (nat_lt max_line (length line)) version (fields line) command e

@@ -11,6 +11,7 @@ use Rattle.mp_replies.specs.Command.{Mpdist, End}
 use Rattle.mp_replies.specs.Shapes.{Shape, by_shape, no_field, one_ref, two_refs, ref_and_start, ref_and_count}
 use Rattle.mp_replies.specs.Shapes.{slot_and_number}
 use Rattle.mp_replies.specs.SessionCommand.{session_of}
+use Rattle.mp_replies.specs.State.{first_version}
 use Rattle.mp_replies.specs.LoadCommand.{load_shape, load_by}
 use Rattle.mp_replies.specs.AppendCommand.{append_shape, append_by}
 use Rattle.mp_replies.specs.MatchCommand.{match_shape, match_by}
@@ -45,8 +46,9 @@ row word shape make = record { word = word; read = λ fields. made make (by_shap
 abbrev pub session_form : Form
 session_form = record { word = codes "session"; read = session_of }
 
-abbrev pub forms : List Form
-forms =
+-- of a version
+abbrev pub forms : ℕ → List Form
+forms version =
     session_form
     ∷ row (codes "open") slot_and_number (λ (slot, channels). OpenSlot slot channels)
     ∷ row (codes "load") load_shape load_by
@@ -79,13 +81,14 @@ abbrev pub asks : Result Command Cause → Asked
 asks (Ok command) = Asks command
 asks (Err cause) = Faulty cause
 
-abbrev pub asked_in : List (List ℕ) → Asked
-asked_in [] = Nothing
-asked_in (word ∷ others) = if slice_index word 0 == number_sign then Nothing else asks (command_in forms word others)
+abbrev pub asked_in : ℕ → List (List ℕ) → Asked
+asked_in version [] = Nothing
+asked_in version (word ∷ others) =
+    if slice_index word 0 == number_sign then Nothing else asks (command_in (forms version) word others)
 
--- a line with too many bytes is refused, whatever it holds
-unfoldable pub asked_of : List ℕ → Asked
-asked_of line = if nat_lt max_line (length line) then Faulty cause.Long else asked_in (fields line)
+-- by the commands of a version. A line with too many bytes is refused, whatever it holds
+unfoldable pub asked_of : ℕ → List ℕ → Asked
+asked_of version line = if nat_lt max_line (length line) then Faulty cause.Long else asked_in version (fields line)
 
 -- ---- the line that ends a run
 
@@ -95,6 +98,6 @@ is_end (Faulty cause) = false
 is_end (Asks End) = true
 is_end (Asks other) = false
 
--- whether no line behind this one is run. It is a command that no state refuses
+-- whether no line behind this one is run. It is a command of each version, that no state refuses
 unfoldable pub ends : List ℕ → Bool
-ends line = is_end (asked_of line)
+ends line = is_end (asked_of first_version line)

@@ -5,15 +5,11 @@ use Rattle.mp_replies.specs.declared.causes.Cause.TheVariants.{Version}
 use Rattle.mp_replies.specs.Command.{Command, Session}
 use Rattle.mp_replies.specs.Conditions.{Condition, when}
 use Rattle.mp_replies.specs.Numbers.{number}
-use Rattle.mp_replies.specs.State.{State}
-
--- the one version that there is
-abbrev pub version : ℕ
-version = 1
+use Rattle.mp_replies.specs.State.{State, first_version}
 
 abbrev pub session_with : Option ℕ → Result Command Cause
 session_with None = Err Version
-session_with (Some n) = if n == version then Ok (Session n) else Err Version
+session_with (Some n) = if n == first_version then Ok (Session n) else Err Version
 
 -- what the fields behind the word ask for. They are one number, and no other refusal comes before its own
 abbrev pub session_of : List (List ℕ) → Result Command Cause

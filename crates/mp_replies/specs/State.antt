@@ -26,6 +26,14 @@ pub record State : Type 0 where
   -- the eight slots
   pub stores : List Store
 
+-- the version of the lines of a session that has named none
+abbrev pub first_version : ℕ
+first_version = 1
+
+-- the version by which the next line is read
+abbrev pub version_of : State → ℕ
+version_of state = first_version
+
 -- at the start slot 0 has one empty channel, and the others are closed
 abbrev pub opening : ℕ → ℕ → State
 opening window scale =

@@ -1,11 +1,11 @@
 -- One line: why it is refused, what it changes and what it is answered.
 use Rattle.std.specs.Prelude.{ℕ, ◌+◌, Bool, true, false, List, [], ◌++◌, is_none, if◌then◌else◌, Option, Some, None}
 use Rattle.mp_replies.specs.declared.causes.Cause.{Cause}
-use Rattle.mp_replies.specs.State.{Files, State, channels_at, samples_in}
+use Rattle.mp_replies.specs.State.{Files, State, channels_at, samples_in, version_of}
 use Rattle.mp_replies.specs.Change.{Change, Keep, changed}
 use Rattle.mp_replies.specs.Command.{Command, Session, OpenSlot, Load, Append, Window, Profile, Entry, End}
 use Rattle.mp_replies.specs.Command.{Join, Multi, Match, Motifs, Discords, Chain, Chains, Segments, Mpdist, Consensus}
-use Rattle.mp_replies.specs.Conditions.{Condition, first_of}
+use Rattle.mp_replies.specs.Conditions.{Condition, first_cause}
 use Rattle.mp_replies.specs.SessionCommand.{session_conditions}
 use Rattle.mp_replies.specs.OpenCommand.{open_conditions, open_change}
 use Rattle.mp_replies.specs.LoadCommand.{load_conditions, file_conditions, file_in, load_change}
@@ -29,61 +29,88 @@ use Rattle.mp_replies.specs.Line.{Asked, Nothing, Asks, Faulty, asked_of}
 
 -- ---- each command
 
--- what is tested without the files, word for word in their order
+-- what a command means
+pub record Meaning : Type 0 where
+  -- what is tested without the files, word for word in their order
+  pub conditions : State → List Condition
+  -- and what is tested of a file, behind them
+  pub file_conditions : State → Files → List Condition
+  -- what it changes where nothing refuses it
+  pub change : State → Files → Change
+  -- what is reported of it, from the state behind it
+  pub report : State → Report
+
+-- a command that changes nothing
+abbrev reporting : (State → List Condition) → (State → Report) → Meaning
+reporting conditions report = record {
+  conditions = conditions;
+  file_conditions = λ state files. [];
+  change = λ state files. Keep;
+  report = report;
+}
+
+-- a command that changes a slot and reads no file
+abbrev changing : (State → List Condition) → (State → Change) → (State → Report) → Meaning
+changing conditions change report = record {
+  conditions = conditions;
+  file_conditions = λ state files. [];
+  change = λ state files. change state;
+  report = report;
+}
+
+-- the number of samples in each channel of a slot
+abbrev samples_at : State → ℕ → ℕ
+samples_at state slot = samples_in (channels_at state.stores slot)
+
+abbrev pub meaning : Command → Meaning
+meaning (Session version) = reporting session_conditions (λ state. SessionReport)
+meaning (OpenSlot slot channels) =
+    changing (λ state. open_conditions slot channels) (λ state. open_change slot channels)
+    (λ state. OpenReport (samples_at state slot))
+meaning (Load slot file columns header) = record {
+  conditions = λ state. load_conditions state.stores slot columns;
+  file_conditions = λ state files. file_conditions state.scale columns header (file_in files file);
+  change = λ state files. load_change state.scale files slot file columns header;
+  report = λ state. LoadReport (samples_at state slot);
+}
+meaning (Append slot items) =
+    changing (λ state. append_conditions state.scale state.stores slot items)
+    (λ state. append_change state.scale state.stores slot items) (λ state. AppendReport (samples_at state slot))
+meaning (Window at start) =
+    reporting (λ state. window_conditions state.window state.stores at start) (λ state. window_report state at start)
+meaning (Profile at) = reporting (λ state. profile_conditions state.stores at) (λ state. profile_report state at)
+meaning (Entry at start) =
+    reporting (λ state. entry_conditions state.window state.stores at start) (λ state. entry_report state at start)
+meaning (Join a b) = reporting (λ state. join_conditions state.stores a b) (λ state. join_report state a b)
+meaning (Multi slot k) = reporting (λ state. multi_conditions state.stores slot k) (λ state. multi_report state slot k)
+meaning (Match at query start radius max) =
+    reporting (λ state. match_conditions state.window state.stores at query start)
+    (λ state. match_report state at query start radius max)
+meaning (Motifs at query) =
+    reporting (λ state. motifs_conditions state.stores at) (λ state. motifs_report state at query)
+meaning (Discords at count) =
+    reporting (λ state. discords_conditions state.stores at) (λ state. discords_report state at count)
+meaning (Chain at start) =
+    reporting (λ state. chain_conditions state.window state.stores at start) (λ state. chain_report state at start)
+meaning (Chains at) = reporting (λ state. chains_conditions state.stores at) (λ state. chains_report state at)
+meaning (Segments at count factor) =
+    reporting (λ state. segments_conditions state.stores at) (λ state. segments_report state at count factor)
+meaning (Mpdist a b) = reporting (λ state. mpdist_conditions state.stores a b) (λ state. mpdist_report state a b)
+meaning (Consensus refs) =
+    reporting (λ state. consensus_conditions state.stores refs) (λ state. consensus_report state refs)
+meaning End = reporting (λ state. []) (λ state. EndReport)
+
 abbrev pub state_conditions : State → Command → List Condition
-state_conditions state (Session version) = session_conditions state
-state_conditions state (OpenSlot slot channels) = open_conditions slot channels
-state_conditions state (Load slot file columns header) = load_conditions state.stores slot columns
-state_conditions state (Append slot items) = append_conditions state.scale state.stores slot items
-state_conditions state (Window at start) = window_conditions state.window state.stores at start
-state_conditions state (Profile at) = profile_conditions state.stores at
-state_conditions state (Entry at start) = entry_conditions state.window state.stores at start
-state_conditions state (Join a b) = join_conditions state.stores a b
-state_conditions state (Multi slot k) = multi_conditions state.stores slot k
-state_conditions state (Match at query start radius max) =
-    match_conditions state.window state.stores at query start
-state_conditions state (Motifs at query) = motifs_conditions state.stores at
-state_conditions state (Discords at count) = discords_conditions state.stores at
-state_conditions state (Chain at start) = chain_conditions state.window state.stores at start
-state_conditions state (Chains at) = chains_conditions state.stores at
-state_conditions state (Segments at count factor) = segments_conditions state.stores at
-state_conditions state (Mpdist a b) = mpdist_conditions state.stores a b
-state_conditions state (Consensus refs) = consensus_conditions state.stores refs
-state_conditions state End = []
+state_conditions state command = (meaning command).conditions state
 
--- and what is tested of a file, behind them
 abbrev pub conditions : State → Files → Command → List Condition
-conditions state files (Load slot file columns header) =
-    load_conditions state.stores slot columns ++ file_conditions state.scale columns header (file_in files file)
-conditions state files other = state_conditions state other
+conditions state files command = state_conditions state command ++ (meaning command).file_conditions state files
 
--- what a command changes where nothing refuses it
 abbrev pub change_by : State → Files → Command → Change
-change_by state files (OpenSlot slot channels) = open_change slot channels
-change_by state files (Load slot file columns header) = load_change state.scale files slot file columns header
-change_by state files (Append slot items) = append_change state.scale state.stores slot items
-change_by state files other = Keep
+change_by state files command = (meaning command).change state files
 
--- the report of an accepted command, from the state behind it
 abbrev pub report_by : State → Command → Report
-report_by state (Session version) = SessionReport
-report_by state (OpenSlot slot channels) = OpenReport (samples_in (channels_at state.stores slot))
-report_by state (Load slot file columns header) = LoadReport (samples_in (channels_at state.stores slot))
-report_by state (Append slot items) = AppendReport (samples_in (channels_at state.stores slot))
-report_by state (Window at start) = window_report state at start
-report_by state (Profile at) = profile_report state at
-report_by state (Entry at start) = entry_report state at start
-report_by state (Join a b) = join_report state a b
-report_by state (Multi slot k) = multi_report state slot k
-report_by state (Match at query start radius max) = match_report state at query start radius max
-report_by state (Motifs at query) = motifs_report state at query
-report_by state (Discords at count) = discords_report state at count
-report_by state (Chain at start) = chain_report state at start
-report_by state (Chains at) = chains_report state at
-report_by state (Segments at count factor) = segments_report state at count factor
-report_by state (Mpdist a b) = mpdist_report state a b
-report_by state (Consensus refs) = consensus_report state refs
-report_by state End = EndReport
+report_by state command = (meaning command).report state
 
 -- whether no line behind an accepted command is run
 abbrev pub is_last : Command → Bool
@@ -106,10 +133,10 @@ abbrev pub verdict_of : State → Files → Asked → Verdict
 verdict_of state files Nothing = Passes
 verdict_of state files (Faulty cause) = IsRefused cause
 verdict_of state files (Asks command) =
-    verdict_by command (first_of (conditions state files command)) (change_by state files command)
+    verdict_by command (first_cause (conditions state files command)) (change_by state files command)
 
 unfoldable pub verdict : State → List ℕ → Files → Verdict
-verdict state line files = verdict_of state files (asked_of line)
+verdict state line files = verdict_of state files (asked_of (version_of state) line)
 
 -- ---- what follows from it
 
@@ -155,10 +182,11 @@ answer state line files = answer_by (after state line files) (verdict state line
 
 -- a file is fetched for a load alone, and only where nothing refuses it without the file
 abbrev pub fetches_by : State → Asked → Bool
-fetches_by state (Asks (Load slot file columns header)) = is_none (first_of (load_conditions state.stores slot columns))
+fetches_by state (Asks (Load slot file columns header)) =
+    is_none (first_cause (load_conditions state.stores slot columns))
 fetches_by state (Asks other) = false
 fetches_by state Nothing = false
 fetches_by state (Faulty cause) = false
 
 unfoldable pub fetches : State → List ℕ → Bool
-fetches state line = fetches_by state (asked_of line)
+fetches state line = fetches_by state (asked_of (version_of state) line)

@@ -16,13 +16,13 @@ abbrev pub distances_of : List (Option Near) → List (Option Near) → List ℕ
 distances_of ab ba = filter_map distance_in (ab ++ ba)
 
 -- d put before the first distance that isn't less
-abbrev pub inserted : ℕ → List ℕ → List ℕ
-inserted d [] = d ∷ []
-inserted d (e ∷ es) = if nat_le d e then d ∷ e ∷ es else e ∷ inserted d es
+abbrev pub put_in_order : ℕ → List ℕ → List ℕ
+put_in_order d [] = d ∷ []
+put_in_order d (e ∷ es) = if nat_le d e then d ∷ e ∷ es else e ∷ put_in_order d es
 
 unfoldable pub in_rising_order : List ℕ → List ℕ
 in_rising_order [] = []
-in_rising_order (d ∷ ds) = inserted d (in_rising_order ds)
+in_rising_order (d ∷ ds) = put_in_order d (in_rising_order ds)
 
 -- a twentieth of the samples of both series, rounded up, or the last of the items where there are fewer
 abbrev pub place_of : ℕ → ℕ → ℕ → ℕ

@@ -17,7 +17,8 @@ use Rattle.mp_scans.specs.declared.blocks.Block.{Block}
 use Rattle.mp_scans.specs.Blocks.{residue_in, AreAbove}
 use Rattle.mp_scans.specs.Offering.{only, in_block, IsLimiting}
 use Rattle.mp_defs.specs.Profile.{windows_of}
-use Rattle.mp_scans.specs.Limiting.{IsRow, IsColumn, IsRowLimit, IsColumnLimit, AreLimits, AreQuiet, first_row, first_on}
+use Rattle.mp_scans.specs.Limiting.{IsRow, IsColumn, IsRowLimit, IsColumnLimit, AreLimits, AreQuiet, first_row}
+use Rattle.mp_scans.specs.Limiting.{first_on}
 
 -- a residue above a limit's is beyond the limit
 beyond : (block : Block) (limit : Limit) (p c d : ℕ)
@@ -41,7 +42,8 @@ pub is_column_limit : (block : Block) (keeps : ℕ → ℕ → ℕ → Type 0) (
     → ((row dist : ℕ) → block.row + first ≤ row → IsBeyond limit dist → keeps (block.column + c) row dist)
     → IsColumnLimit block keeps first c r
 is_column_limit block keeps first c limit r e h = λ _ p d le is above.
-    h (block.row + p) d (omega (arith, le)) (beyond block limit p c d is (subst (λ z. z <ℤ residue_in block p c) e above))
+    h (block.row + p) d (omega (arith, le)) (beyond block limit p c d is (subst (λ z. z <ℤ residue_in block p c) e
+    above))
 
 -- pairs that are passed over give nothing
 pub quiet_above : (block : Block) (keeps_row keeps_column : ℕ → ℕ → ℕ → Type 0) (offset : ℕ) (rows columns : List ℤ)
@@ -169,8 +171,10 @@ limits_anew block keeps_row keeps_column keeps_row' keeps_column' first rows col
             (rs k k (item rows k) (h.of_rows k (omega (arith, lt, length-set rows p row))))
       ];
       of_columns = λ k lt. elim (cases_eq k c) [
-        | inl same ↦ subst (λ n. IsColumnLimit block keeps_column' (first n) n (item (set columns c column) n)) (sym same)
-            (subst (IsColumnLimit block keeps_column' (first c) c) (sym (get_or-set_same columns c column (pos 0) cl)) cn)
+        | inl same ↦ subst (λ n. IsColumnLimit block keeps_column' (first n) n (item (set columns c column) n)) (sym
+            same)
+            (subst (IsColumnLimit block keeps_column' (first c) c) (sym (get_or-set_same columns c column (pos 0) cl))
+            cn)
         | inr other ↦ subst (IsColumnLimit block keeps_column' (first k) k)
             (sym (get_or-set_other columns c k column (pos 0) other))
             (cs (first k) k (item columns k) (h.of_columns k (omega (arith, lt, length-set columns c column))))
@@ -218,7 +222,8 @@ quiet_only least fits is_scanned keeps_row keeps_column laws block p c row colum
     let column_in : IsColumn block c =
     subst (λ n. n < windows_of block.grid.m (series_of block.grid.columns.now)) cj wj in (
       subst (λ n. keeps_row into n j d) (sym ri)
-          (subst (λ n. keeps_row into (block.row + p) n d) (sym cj) (rl row_in c d le here (subst (λ z. row <ℤ z) e ra))),
+          (subst (λ n. keeps_row into (block.row + p) n d) (sym cj) (rl row_in c d le here (subst (λ z. row <ℤ z) e
+          ra))),
       subst (λ n. keeps_column into j n d) (sym ri)
           (subst (λ n. keeps_column into n (block.row + p) d) (sym cj)
           (cl column_in p d (omega arith) here (subst (λ z. column <ℤ z) e ca))),
@@ -277,12 +282,14 @@ pub row_is_first : (offset p c : ℕ) → p + offset ≤ c → c < p + offset + 
 row_is_first offset p c le lt = omega (arith, le, lt)
 
 pub column_limit_at : (block : Block) (keeps : ℕ → ℕ → ℕ → Type 0) (offset p c : ℕ) (limit : ℤ) → p + offset ≤ c
-    → c < p + offset + 32 → IsColumnLimit block keeps (first_row offset p c) c limit → IsColumnLimit block keeps p c limit
+    → c < p + offset + 32 → IsColumnLimit block keeps (first_row offset p c) c limit
+    → IsColumnLimit block keeps p c limit
 column_limit_at block keeps offset p c limit le lt h =
     subst (λ n. IsColumnLimit block keeps n c limit) (sym (row_is_first offset p c le lt)) h
 
 pub column_limit_on : (block : Block) (keeps : ℕ → ℕ → ℕ → Type 0) (offset p c : ℕ) (limit : ℤ) → p + offset ≤ c
-    → c < p + offset + 32 → IsColumnLimit block keeps p c limit → IsColumnLimit block keeps (first_row offset p c) c limit
+    → c < p + offset + 32 → IsColumnLimit block keeps p c limit
+    → IsColumnLimit block keeps (first_row offset p c) c limit
 column_limit_on block keeps offset p c limit le lt h =
     subst (λ n. IsColumnLimit block keeps n c limit) (row_is_first offset p c le lt) h
 

@@ -1,3 +1,4 @@
+pub mod AnyShelf
 pub mod EndLemmas
 pub mod ReadLemmas
 pub mod RunLemmas

@@ -1,27 +1,27 @@
 -- How often samples are read, where they are added.
 use Rattle.std.proofs.Common.{◌≡◌, ℕ, ◌+◌, ◌*◌, ◌<◌, ◌≤◌, ◌==◌, true, false, List, [], ◌∷◌, length}
 use Rattle.std.proofs.Common.{refl, ap, ◌∙◌, sym, subst, arith, ⊎_elim}
-use Rattle.std.specs.Prelude.{All}
-use Rattle.std.proofs.lemmas.List.{length-map}
+use Rattle.std.specs.Prelude.{All, Bool, Result, Ok, Err, is_err}
 use Rattle.std.proofs.lemmas.List.Elements.{All-head}
 use Rattle.std.proofs.lemmas.Bool.{cases_Bool}
 use Rattle.std.proofs.lemmas.Bool.Decides.{nat_tests}
 use Rattle.std.proofs.lemmas.Slice.Zip.{AllZip-long}
 use Rattle.mp_nums.specs.declared.samples.Sample.{Sample}
-use Rattle.mp_defs.specs.Series.{reading_of}
 use Rattle.mp_defs.specs.Window.{windows}
 use Rattle.mp_replies.specs.Command as asked
 use Rattle.mp_replies.specs.Line.{Asked, Asks}
-use Rattle.mp_replies.specs.State.{Store, channels_at, samples_in}
-use Rattle.mp_slots.specs.Slots as slots
-use Rattle.mp_slots.specs.Slots.{HasRoomFor, HaveRoom, Stored, count_in, count_of, items_in, lists_in, reads_to_add}
-use Rattle.mp_slots.specs.Slots.{series_in, slot_at, stores_of}
-use Rattle.mp_slots.specs.StoreLaws.{channels_at-stores, count_at as channels_long}
+use Rattle.mp_stores.specs.StoreLaws.{last_at}
+use Rattle.mp_stores.specs.Stores.{HasRoomFor, HaveRoom, StandAsBefore, Stored, count_in, count_of, reads_at}
+use Rattle.mp_stores.specs.Stores.{reads_to_add, streams_at}
 use Rattle.mp_commands.specs.declared.prepared.Change.{Change}
 use Rattle.mp_commands.specs.declared.prepared.Change.TheVariants.{Keep, PutChannels, AddSamples}
-use Rattle.mp_commands.specs.Preparing.{AddsAsAsked, adds, puts}
-use Rattle.mp_commands.specs.Reads.{WereRead, append_reads, most_added, most_lent, most_reads, reads_at, renews}
-use Rattle.mp_session.specs.Sessions.{AddsEach}
+use Rattle.mp_commands.specs.declared.prepared.Prepared.{Prepared}
+use Rattle.mp_commands.specs.declared.replies.Reply.{Reply}
+use Rattle.mp_commands.specs.Answers.{is_accepted, kind_by}
+use Rattle.mp_commands.specs.Preparing.{AddsAsAsked, IsReady, adds, puts}
+use Rattle.mp_commands.specs.Reads.{AreUnread, IsKept, WereRead, append_reads, is_unread, most_added, most_lent}
+use Rattle.mp_commands.specs.Reads.{most_reads, renews}
+use Rattle.mp_session.specs.Sessions.{AddsEach, WereReadBy}
 
 -- ---- samples for each channel
 
@@ -30,73 +30,132 @@ count_is : (added : List (List Sample)) (count : ℕ) → 0 < length added
 count_is [] count some each = absurd (omega (arith, some))
 count_is (samples ∷ added) count some each = All-head (λ (s : List Sample). length s ≡ count) samples added each
 
-pub add_reads : (held : Stored) (slot count : ℕ) (added : List (List Sample)) → 0 < length (slot_at held slot)
-    → HaveRoom (slot_at held slot) added → All (λ samples. length samples ≡ count) added
+pub add_reads : (held : Stored) (slot count : ℕ) (added : List (List Sample)) → 0 < length (streams_at held slot)
+    → HaveRoom (streams_at held slot) added → All (λ samples. length samples ≡ count) added
     → reads_to_add held slot added ≡ append_reads held slot count
 add_reads held slot count added some room each =
-    let channels = slot_at held slot in
+    let channels = streams_at held slot in
     let long : length added ≡ length channels = AllZip-long HasRoomFor channels added room in
     let same : count_of added ≡ count = count_is added count (omega (arith, long, some)) each in
     ap (λ (n : ℕ). n * (count_of added * (4 * (windows (count_in channels + count_of added) held.m + held.m)))) long
     ∙ ap (λ (c : ℕ). length channels * (c * (4 * (windows (count_in channels + c) held.m + held.m)))) same
 
--- ---- equal stores
-
-samples_by_count : (channels : slots.Held) → samples_in (series_in channels) ≡ count_in channels
-samples_by_count [] = refl
-samples_by_count (channel ∷ channels) = length-map channel.items reading_of
-
-samples_at : (held : Stored) (slot : ℕ) → samples_in (channels_at (stores_of held) slot) ≡ count_in (slot_at held slot)
-samples_at held slot = ap samples_in (channels_at-stores held slot) ∙ samples_by_count (slot_at held slot)
-
--- an append reads as much where the samples are the same
-pub append_reads_same : (old new : Stored) → new.m ≡ old.m → stores_of new ≡ stores_of old → (slot count : ℕ)
+-- an append reads as much where the slots hold what they held
+append_reads_same : (old new : Stored) → StandAsBefore old new → (slot count : ℕ)
     → append_reads new slot count ≡ append_reads old slot count
-append_reads_same old new m stores slot count =
-    let long : length (slot_at new slot) ≡ length (slot_at old slot) =
-    sym (channels_long new slot)
-    ∙ (ap (λ (ss : List Store). length (channels_at ss slot)) stores ∙ channels_long old slot) in
-    let same : count_in (slot_at new slot) ≡ count_in (slot_at old slot) =
-    sym (samples_at new slot)
-    ∙ (ap (λ (ss : List Store). samples_in (channels_at ss slot)) stores ∙ samples_at old slot) in
-    ap (λ (n : ℕ). n * (count * (4 * (windows (count_in (slot_at new slot) + count) new.m + new.m)))) long
-    ∙ (ap (λ (n : ℕ). length (slot_at old slot) * (count * (4 * (windows (n + count) new.m + new.m)))) same
-    ∙ ap
-    (λ (k : ℕ). length (slot_at old slot) * (count * (4 * (windows (count_in (slot_at old slot) + count) k + k)))) m)
+append_reads_same old new same slot count =
+    let last = last_at old new slot same in
+    let channels = streams_at old slot in
+    let n = count_in channels in
+    ap (λ (k : ℕ). k * (count * (4 * (windows (count_in (streams_at new slot) + count) new.m + new.m)))) last.count
+    ∙ (ap (λ (k : ℕ). length channels * (count * (4 * (windows (k + count) new.m + new.m)))) (ap count_of last.items)
+    ∙ ap (λ (k : ℕ). length channels * (count * (4 * (windows (n + count) k + k)))) same.window_is)
 
 -- ---- the line that was run
 
 pub adds_as_asked : (old mid new : Stored) (asked : Asked) (change : Change) (slot : ℕ)
     → AddsAsAsked asked change → adds change slot ≡ true
     → ((at count : ℕ) → AddsEach change at count → reads_at new at ≤ reads_at mid at + append_reads mid at count)
-    → mid.m ≡ old.m → stores_of mid ≡ stores_of old
-    → reads_at new slot ≤ reads_at mid slot + most_added old asked slot
-adds_as_asked old mid new asked Keep slot is adding added m stores = absurd (cc adding)
-adds_as_asked old mid new asked (PutChannels at channels) slot is adding added m stores = absurd (cc adding)
-adds_as_asked old mid new (Asks (asked.Append at items)) (AddSamples to more) slot is adding added m stores =
+    → StandAsBefore old mid → reads_at new slot ≤ reads_at mid slot + most_added old asked slot
+adds_as_asked old mid new asked Keep slot is adding added same = absurd (cc adding)
+adds_as_asked old mid new asked (PutChannels at channels) slot is adding added same = absurd (cc adding)
+adds_as_asked old mid new (Asks (asked.Append at items)) (AddSamples to more) slot is adding added same =
     let here : slot ≡ to = grind (arith, nat_tests) in
-    let same : to ≡ at = is.0 in
-    let there : (slot == at) ≡ true = subst (λ (k : ℕ). (slot == k) ≡ true) same adding in
-    let read = added at (length items) (same, is.1) in
+    let named : to ≡ at = is.0 in
+    let there : (slot == at) ≡ true = subst (λ (k : ℕ). (slot == k) ≡ true) named adding in
+    let read = added at (length items) (named, is.1) in
     let most : reads_at new at ≤ reads_at mid at + append_reads old at (length items) =
-    subst (λ (n : ℕ). reads_at new at ≤ reads_at mid at + n) (append_reads_same old mid m stores at (length items))
+    subst (λ (n : ℕ). reads_at new at ≤ reads_at mid at + n) (append_reads_same old mid same at (length items))
     read in
     rw there
-    (subst (λ (s : ℕ). reads_at new s ≤ reads_at mid s + append_reads old at (length items)) (sym (here ∙ same)) most)
-adds_as_asked old mid new other (AddSamples to more) slot is adding added m stores = absurd is
+    (subst (λ (s : ℕ). reads_at new s ≤ reads_at mid s + append_reads old at (length items)) (sym (here ∙ named)) most)
+adds_as_asked old mid new other (AddSamples to more) slot is adding added same = absurd is
 
 -- how often a line that puts no other channels into the slot read its samples
-pub most_is : (old mid new : Stored) (asked : Asked) (change : Change) (slot : ℕ) → renews asked slot ≡ false
-    → (puts change slot ≡ true → renews asked slot ≡ true) → AddsAsAsked asked change
-    → (puts change slot ≡ false → adds change slot ≡ false → reads_at new slot ≡ reads_at mid slot)
+most_is : (old mid new : Stored) (asked : Asked) (change : Change) (slot : ℕ) → puts change slot ≡ false
+    → AddsAsAsked asked change
+    → (adds change slot ≡ false → reads_at new slot ≡ reads_at mid slot)
     → ((at count : ℕ) → AddsEach change at count → reads_at new at ≤ reads_at mid at + append_reads mid at count)
-    → mid.m ≡ old.m → stores_of mid ≡ stores_of old → WereRead (most_lent old asked) old mid
-    → reads_at new slot ≤ reads_at old slot + most_reads old asked slot
-most_is old mid new asked change slot fresh renewed is rest added m stores read =
-    let put : puts change slot ≡ false =
-    ⊎_elim (λ yes. let clash : true ≡ false = sym (renewed yes) ∙ fresh in absurd (cc clash)) (λ no. no)
-    (cases_Bool (puts change slot)) in
+    → IsKept asked old mid → reads_at new slot ≤ reads_at old slot + most_reads old asked slot
+most_is old mid new asked change slot put is rest added kept =
     let more : reads_at new slot ≤ reads_at mid slot + most_added old asked slot =
-    ⊎_elim (λ yes. adds_as_asked old mid new asked change slot is yes added m stores)
-    (λ no. omega (arith, rest put no)) (cases_Bool (adds change slot)) in
-    omega (arith, more, read.within slot)
+    ⊎_elim (λ yes. adds_as_asked old mid new asked change slot is yes added kept.stands)
+    (λ no. omega (arith, rest no)) (cases_Bool (adds change slot)) in
+    omega (arith, more, kept.read.within slot)
+
+-- ---- a line that reads no sample
+
+lent_none : (held : Stored) (what : Asked) (slot : ℕ) → is_unread what ≡ true → most_lent held what slot ≡ 0
+lent_none held (Asks (asked.Window at start)) slot is = absurd (cc is)
+lent_none held (Asks (asked.Join a b)) slot is = absurd (cc is)
+lent_none held (Asks (asked.Mpdist a b)) slot is = absurd (cc is)
+lent_none held (Asks (asked.Match at query start radius max)) slot is = absurd (cc is)
+lent_none held (Asks (asked.Motifs at query)) slot is = absurd (cc is)
+lent_none held (Asks (asked.Multi at k)) slot is = absurd (cc is)
+lent_none held (Asks (asked.Consensus refs)) slot is = absurd (cc is)
+lent_none held other slot is = refl
+
+renews_none : (what : Asked) (slot : ℕ) → is_unread what ≡ true → renews what slot ≡ false
+renews_none (Asks (asked.OpenSlot at channels)) slot is = absurd (cc is)
+renews_none (Asks (asked.Load at file columns header)) slot is = absurd (cc is)
+renews_none other slot is = refl
+
+adds_none : (what : Asked) (change : Change) (slot : ℕ) → AddsAsAsked what change → is_unread what ≡ true
+    → adds change slot ≡ false
+adds_none what Keep slot asks is = refl
+adds_none what (PutChannels at channels) slot asks is = refl
+adds_none (Asks (asked.Append at items)) (AddSamples to more) slot asks is = absurd (cc is)
+adds_none other (AddSamples to more) slot asks is = absurd asks
+
+-- ---- all slots
+
+-- channels are put where an accepted line asks for it alone
+not_put : (what : Asked) (change : Change) (slot : ℕ) (accepted : Bool) → (accepted ≡ false → change ≡ Keep)
+    → (puts change slot ≡ true → renews what slot ≡ true) → (accepted ≡ true → renews what slot ≡ false)
+    → puts change slot ≡ false
+not_put what change slot false keeps renewed leaves = ap (λ (c : Change). puts c slot) (keeps refl)
+not_put what change slot true keeps renewed leaves =
+    ⊎_elim (λ (yes : puts change slot ≡ true).
+    let clash : true ≡ false = sym (renewed yes) ∙ leaves refl in absurd (cc clash))
+    (λ (no : puts change slot ≡ false). no) (cases_Bool (puts change slot))
+
+-- the run stopped at the line
+pub stopped_reads : {E : Type 0} (what : Asked) (old new : Stored) (result : Result Reply E) → is_err result ≡ true
+    → WereRead (most_lent old what) old new → WereReadBy what old new result
+stopped_reads what old new (Ok answered) failed read = absurd (cc failed)
+stopped_reads what old new (Err stop) failed read = record {
+  most = λ slot leaves. omega (arith, read.within slot);
+  rise = λ slot leaves. read.rise slot;
+  unread = λ is slot. omega (arith, read.rise slot, read.within slot, lent_none old what slot is);
+  unaccepted = tt;
+}
+
+-- it was answered
+pub answered_reads : {E : Type 0} (what : Asked) (old mid new : Stored) (prepared : Prepared) (answered : Reply)
+    → answered.kind ≡ kind_by prepared.answer → IsReady what mid prepared
+    → (is_accepted (kind_by prepared.answer) ≡ false → AreUnread old mid) → IsKept what old mid
+    → ((slot : ℕ) → puts prepared.change slot ≡ false → reads_at mid slot ≤ reads_at new slot)
+    → ((slot : ℕ) → puts prepared.change slot ≡ false → adds prepared.change slot ≡ false
+    → reads_at new slot ≡ reads_at mid slot)
+    → ((at count : ℕ) → AddsEach prepared.change at count
+    → reads_at new at ≤ reads_at mid at + append_reads mid at count)
+    → WereReadBy {E = E} what old new (Ok answered)
+answered_reads {E} what old mid new prepared answered kind ready unread kept rise rest added =
+    let keeps : is_accepted answered.kind ≡ false → prepared.change ≡ Keep =
+    λ no. ready.kept (ap is_accepted (sym kind) ∙ no) in
+    let stays : (slot : ℕ) → (is_accepted answered.kind ≡ true → renews what slot ≡ false)
+    → puts prepared.change slot ≡ false =
+    λ slot leaves. not_put what prepared.change slot (is_accepted answered.kind) keeps (ready.renewed slot) leaves in
+    record {
+      most = λ slot leaves.
+          most_is old mid new what prepared.change slot (stays slot leaves) ready.adds
+          (rest slot (stays slot leaves)) added kept;
+      rise = λ slot leaves. omega (arith, kept.read.rise slot, rise slot (stays slot leaves));
+      unread = λ is slot.
+          let here = rest slot (stays slot (λ accepted. renews_none what slot is))
+          (adds_none what prepared.change slot ready.adds is) in
+          omega (arith, here, kept.read.rise slot, kept.read.within slot, lent_none old what slot is);
+      unaccepted = λ no slot.
+          rest slot (ap (λ (c : Change). puts c slot) (keeps no)) (ap (λ (c : Change). adds c slot) (keeps no))
+          ∙ unread (ap is_accepted (sym kind) ∙ no) slot;
+    }

@@ -14,8 +14,9 @@ use Rattle.mp_replies.specs.Step.{cause, after, fetches}
 use Rattle.mp_replies.specs.Output.{reply, replies, state_after, some_refused, some_ends, until_end}
 use Rattle.mp_replies.specs.Line.{asked_of, ends}
 use Rattle.mp_commands.specs.Preparing.{ToldFor}
-use Rattle.mp_session.specs.Sessions.{Held, StandsFor, ToldForAll, some_fetch}
+use Rattle.mp_session.specs.Sessions.{SessionParts, StandsFor, ToldForAll, some_fetch}
 use Rattle.mp_session.specs.Running.{HaveRun, Course, WereRun}
+use Rattle.mp_replies.specs.State.{version_of}
 
 pub not_both : {P : Type 0} {b : Bool} → b ≡ true → b ≡ false → P
 not_both t f = let clash : true ≡ false = sym t ∙ f in absurd (cc clash)
@@ -87,13 +88,13 @@ told_then state files ran more t = λ asks.
     t (some_fetch-append state files ran more ∙ rw asks (or-true (some_fetch state files ran)))
 
 pub told_line : {told : Option Files} (state : State) (files : Files) (line : List ℕ)
-    → ToldForAll told state files (line ∷ []) → ToldFor told state (asked_of line) files
+    → ToldForAll told state files (line ∷ []) → ToldFor told state (asked_of (version_of state) line) files
 unfolding fetches
 told_line state files line t = λ asks. t (rw asks refl)
 
 -- ---- sessions
 
-pub have_run_none : (told : Option Files) (session : Held) → HaveRun told [] [] session session false
+pub have_run_none : (told : Option Files) (session : SessionParts) → HaveRun told [] [] session session false
 have_run_none told session = record {
   texts_are = λ state files h t. refl;
   stands = λ state files h t. h;
@@ -102,7 +103,7 @@ have_run_none told session = record {
 }
 
 -- the session stopped at a line, and is as before
-pub have_run_stopped : (told : Option Files) (old new : Held)
+pub have_run_stopped : (told : Option Files) (old new : SessionParts)
     → ((state : State) → StandsFor old state → StandsFor new state)
     → new.lines ≡ old.lines → HaveRun told [] [] old new false
 have_run_stopped told old new stop count = record {
@@ -112,7 +113,7 @@ have_run_stopped told old new stop count = record {
   count = omega (arith, count);
 }
 
-pub have_run_on : {told : Option Files} {lines more texts others : List (List ℕ)} {old mid new : Held}
+pub have_run_on : {told : Option Files} {lines more texts others : List (List ℕ)} {old mid new : SessionParts}
     {refused later : Bool}
     → HaveRun told lines texts old mid refused → HaveRun told more others mid new later
     → HaveRun told (lines ++ more) (texts ++ others) old new (refused || later)
@@ -141,7 +142,7 @@ have_run_on {told} {lines} {more} {texts} {others} {old} {mid} {new} {refused} {
   count = omega (arith, one.count, two.count, length-append lines more);
 }
 
-pub have_run_one : (told : Option Files) (line text : List ℕ) (old new : Held) (refused : Bool)
+pub have_run_one : (told : Option Files) (line text : List ℕ) (old new : SessionParts) (refused : Bool)
     → ((state : State) (files : Files) → StandsFor old state → ToldForAll told state files (line ∷ [])
     → text ≡ reply state line files)
     → ((state : State) (files : Files) → StandsFor old state → ToldForAll told state files (line ∷ [])

@@ -725,7 +725,8 @@ by_touch sink was touched = ⊎_elim (λ e. e) (λ same. ap sink.flushed same �
 
 -- where no write failed, a run that is over has flushed
 pub flushed_unless_fault : {Out : Type 0} {sink : Ghosts Out} {shelf : Option Files} (limit : ℕ)
-    {old new : Course Out} (r : Result Bool Halt) (status : Status) → status ≡ status_by r → ¬ (status ≡ statuses.WriteFault)
+    {old new : Course Out} (r : Result Bool Halt) (status : Status) → status ≡ status_by r
+    → ¬ (status ≡ statuses.WriteFault)
     → IfOk r (RanAll sink shelf limit old new) → (IsErrOf r halts.ReadFault → RanEnded sink shelf 0 old new)
     → (IsErrOf r halts.InputLimit → RanEnded sink shelf 1 old new)
     → (IsErrOf r halts.Memory → RanSome sink shelf old new)

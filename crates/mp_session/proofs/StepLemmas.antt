@@ -6,16 +6,24 @@ use Rattle.mp_replies.specs.Answer as replies
 use Rattle.mp_replies.specs.Answer.{Report}
 use Rattle.mp_replies.specs.Change.{changed}
 use Rattle.mp_replies.specs.Line.{Asked, asked_of}
-use Rattle.mp_replies.specs.State.{Files, State}
+use Rattle.mp_replies.specs.State.{Files, State, Store}
 use Rattle.mp_replies.specs.Step.{Verdict, Passes, IsRefused, IsAccepted, verdict, verdict_of, cause, cause_in}
 use Rattle.mp_replies.specs.Step.{change_in, after, after_by, answer, answer_by, fetches, fetches_by, is_last}
 use Rattle.mp_replies.specs.Step.{report_by}
 use Rattle.mp_replies.specs.Output.{reply}
-use Rattle.mp_slots.specs.Slots.{stores_of}
+use Rattle.mp_replies.specs.Report.{text_of}
+use Rattle.mp_stores.specs.StoreLaws.{stand_as_before}
+use Rattle.mp_stores.specs.Stores.{StandAsBefore, StandFor}
 use Rattle.mp_commands.specs.declared.prepared.Prepared.{Prepared}
-use Rattle.mp_commands.specs.Answers.{shown, kind_by, kind_of, is_accepted, is_refused}
-use Rattle.mp_commands.specs.Preparing.{IsPrepared, ToldFor, changed_by}
-use Rattle.mp_session.specs.Sessions.{Held, HasCommitted, StandsFor}
+use Rattle.mp_commands.specs.declared.answers.Answer.{Answer}
+use Rattle.mp_commands.specs.declared.answers.Answer.TheVariants.{Silent, Refused, Accepted, Ended}
+use Rattle.mp_commands.specs.Answers.{AreSlotsOf, answered, kind_by, kind_of, is_accepted, is_refused}
+use Rattle.mp_commands.specs.declared.context.Context.{Context}
+use Rattle.mp_commands.specs.declared.replies.Reply.{Reply}
+use Rattle.mp_commands.specs.Preparing.{IsAsked, IsPrepared, NeedsNoFile, ToldFor, state_over, version_in}
+use Rattle.mp_outside.specs.declared.shelves.Shelf as shelves
+use Rattle.mp_session.specs.Sessions.{AsksNoFile, HasCommitted, IsReplyBy, SessionParts, StandsFor}
+use Rattle.mp_replies.specs.State.{version_of}
 
 -- ---- kinds
 
@@ -36,45 +44,64 @@ refused_kind state line files = refused_in (after state line files) (verdict sta
 
 -- ---- the state that a session stands for
 
--- the one that it holds, part by part
-abbrev pub state_of : Held → State
-state_of held = record {
-  window = held.slots.m;
-  scale = held.settings.scale;
-  lines = held.lines;
-  begun = held.begun;
-  stores = stores_of held.slots;
+-- the one that it is over these stores, part by part
+abbrev pub state_of : SessionParts → List Store → State
+state_of session stores = record {
+  window = session.stores.m;
+  scale = session.settings.scale;
+  lines = session.lines;
+  begun = session.begun;
+  stores = stores;
 }
 
-pub state_is : (held : Held) (state : State) → held.slots.m ≡ held.settings.window → StandsFor held state
-    → state_of held ≡ state
-state_is held state m h =
-    let window : held.slots.m ≡ state.window = m ∙ sym h.window_is in
+pub state_is : (session : SessionParts) (state : State) → session.stores.m ≡ session.settings.window
+    → StandsFor session state → state_of session state.stores ≡ state
+state_is session state m h =
+    let window : session.stores.m ≡ state.window = m ∙ sym h.window_is in
     let scale = sym h.scale_is in
     let count = sym h.lines_is in
     let same = sym h.begun_is in
-    let stores = sym h.stores_is in
-    λ i. record { window = window i; scale = scale i; lines = count i; begun = same i; stores = stores i }
+    λ i. record { window = window i; scale = scale i; lines = count i; begun = same i; stores = state.stores }
+
+-- a session whose slots hold what they held stands for what it stood for
+pub stands_still : (old new : SessionParts) (state : State) → new.settings ≡ old.settings → new.lines ≡ old.lines
+    → new.begun ≡ old.begun → StandAsBefore old.stores new.stores → StandsFor old state → StandsFor new state
+stands_still old new state settings count same stores h = record {
+  window_is = h.window_is ∙ sym (ap (λ s. s.window) settings);
+  scale_is = h.scale_is ∙ sym (ap (λ s. s.scale) settings);
+  lines_is = h.lines_is ∙ sym count;
+  begun_is = h.begun_is ∙ sym same;
+  stores_stand = stand_as_before old.stores new.stores state.stores stores h.stores_stand;
+}
 
 -- ---- what was prepared, in such a state
 
 pub text_is : (state : State) (files : Files) (line : List ℕ) (prepared : Prepared)
-    → IsPrepared state files (asked_of line) prepared → shown (state.lines + 1) prepared.answer ≡ reply state line files
+    → IsPrepared state files (asked_of (version_of state) line) prepared
+    → text_of (state.lines + 1) (answered state prepared.answer) ≡ reply state line files
 unfolding reply answer after verdict
-text_is state files line prepared step = step.answer_is.text_is
+text_is state files line prepared step = ap (text_of (state.lines + 1)) step.answer_is
+
+kind_said : (state : State) (said : Answer) → kind_by said ≡ kind_of (answered state said)
+kind_said state Silent = refl
+kind_said state (Refused why) = refl
+kind_said state (Accepted report) = refl
+kind_said state (Ended report) = refl
 
 pub kind_is : (state : State) (files : Files) (line : List ℕ) (prepared : Prepared)
-    → IsPrepared state files (asked_of line) prepared → kind_by prepared.answer ≡ kind_of (answer state line files)
+    → IsPrepared state files (asked_of (version_of state) line) prepared
+    → kind_by prepared.answer ≡ kind_of (answer state line files)
 unfolding answer after verdict
-kind_is state files line prepared step = step.answer_is.kind_is
+kind_is state files line prepared step = kind_said state prepared.answer ∙ ap kind_of step.answer_is
 
-pub fetches_is : (state : State) (line : List ℕ) → fetches state line ≡ fetches_by state (asked_of line)
+pub fetches_is : (state : State) (line : List ℕ)
+    → fetches state line ≡ fetches_by state (asked_of (version_of state) line)
 unfolding fetches
 fetches_is state line = refl
 
 -- ---- the state behind the line
 
-accepted_by : (last : Bool) (report : Report)
+pub accepted_by : (last : Bool) (report : Report)
     → is_accepted (kind_of (if last then replies.Ended report else replies.Accepted report)) ≡ true
 accepted_by true report = refl
 accepted_by false report = refl
@@ -113,7 +140,7 @@ behind state (IsAccepted command change) =
     }
 
 -- the session that made the change stands for the state behind the line
-stands_by : (old new : Held) (state : State) (files : Files) (asked : Asked) (prepared : Prepared)
+stands_by : (old new : SessionParts) (state : State) (files : Files) (asked : Asked) (prepared : Prepared)
     → StandsFor old state → IsPrepared state files asked prepared
     → HasCommitted old new prepared.change (is_accepted (kind_by prepared.answer))
     → StandsFor new (after_by state (verdict_of state files asked))
@@ -126,33 +153,83 @@ stands_by old new state files asked prepared h step made =
       lines_is = is.lines_is ∙ (ap (λ n. n + 1) h.lines_is ∙ sym made.lines_is);
       begun_is = is.begun_is
           ∙ (ap (λ b. b || is_accepted (kind_of (answer_by (after_by state v) v))) h.begun_is
-          ∙ (ap (λ k. old.begun || is_accepted k) (sym step.answer_is.kind_is) ∙ sym made.begun_is));
-      stores_is =
-          is.stores_is
-          ∙ (ap (λ more. changed state.stores more) (sym step.change_is)
-          ∙ (ap (λ stores. changed stores (changed_by prepared.change)) h.stores_is ∙ sym made.stores_are));
+          ∙ (ap (λ k. old.begun || is_accepted k)
+          (sym (kind_said state prepared.answer ∙ ap kind_of step.answer_is))
+          ∙ sym made.begun_is));
+      stores_stand =
+          subst (StandFor new.stores) (ap (changed state.stores) step.change_is ∙ sym is.stores_is)
+          (made.stores_stand state.stores h.stores_stand);
     }
 
-pub stands_after : (old new : Held) (state : State) (files : Files) (line : List ℕ) (prepared : Prepared)
-    → StandsFor old state → IsPrepared state files (asked_of line) prepared
+pub stands_after : (old new : SessionParts) (state : State) (files : Files) (line : List ℕ) (prepared : Prepared)
+    → StandsFor old state → IsPrepared state files (asked_of (version_of state) line) prepared
     → HasCommitted old new prepared.change (is_accepted (kind_by prepared.answer))
     → StandsFor new (after state line files)
 unfolding after verdict
 stands_after old new state files line prepared h step made =
-    stands_by old new state files (asked_of line) prepared h step made
+    stands_by old new state files (asked_of (version_of state) line) prepared h step made
 
 -- ---- what was prepared over the session
 
-pub prepared_in : (over state : State) (files : Files) (line : List ℕ) (prepared : Prepared) (told : Option Files)
-    → over ≡ state
-    → ((all : Files) → ToldFor told over (asked_of line) all → IsPrepared over all (asked_of line) prepared)
-    → ToldFor told state (asked_of line) files → IsPrepared state files (asked_of line) prepared
-prepared_in over state files line prepared told same step =
-    subst (λ (s : State). ToldFor told s (asked_of line) files → IsPrepared s files (asked_of line) prepared) same
-    (step files)
+pub prepared_in : (session : SessionParts) (state : State) (files : Files) (line : List ℕ) (prepared : Prepared)
+    (told : Option Files) → session.stores.m ≡ session.settings.window → StandsFor session state
+    → ((stores : List Store) (all : Files) → StandFor session.stores stores
+    → ToldFor told (state_of session stores) (asked_of (version_of state) line) all
+    → IsPrepared (state_of session stores) all (asked_of (version_of state) line) prepared)
+    → ToldFor told state (asked_of (version_of state) line) files
+    → IsPrepared state files (asked_of (version_of state) line) prepared
+prepared_in session state files line prepared told m h step =
+    subst (λ (s : State). ToldFor told s (asked_of (version_of state) line) files
+    → IsPrepared s files (asked_of (version_of state) line) prepared)
+    (state_is session state m h) (step state.stores files h.stores_stand)
+
+-- by files that no shelf told
+pub prepared_by : (session : SessionParts) (state : State) (files : Files) (line : List ℕ) (prepared : Prepared)
+    → session.stores.m ≡ session.settings.window → StandsFor session state
+    → ((stores : List Store) → StandFor session.stores stores
+    → IsPrepared (state_of session stores) files (asked_of (version_of state) line) prepared)
+    → IsPrepared state files (asked_of (version_of state) line) prepared
+prepared_by session state files line prepared m h step =
+    subst (λ (s : State). IsPrepared s files (asked_of (version_of state) line) prepared) (state_is session state m h)
+    (step state.stores h.stores_stand)
+
+-- the reply to the line, whose change was made
+pub replied : (mid new : SessionParts) (state : State) (files : Files) (line : List ℕ) (prepared : Prepared)
+    (made : Reply) → mid.stores.m ≡ mid.settings.window
+    → (AreSlotsOf state mid.stores → made.text.items ≡ text_of (mid.lines + 1) (answered state prepared.answer))
+    → made.kind ≡ kind_by prepared.answer
+    → HasCommitted mid new prepared.change (is_accepted (kind_by prepared.answer))
+    → StandsFor mid state → IsPrepared state files (asked_of (version_of state) line) prepared
+    → IsReplyBy state files line new made
+replied mid new state files line prepared made m text kind committed h step = record {
+  text = text (record { window_is = m ∙ sym h.window_is; stand = h.stores_stand })
+      ∙ (ap (λ (n : ℕ). text_of (n + 1) (answered state prepared.answer)) (sym h.lines_is)
+      ∙ text_is state files line prepared step);
+  kind = kind ∙ kind_is state files line prepared step;
+  after = stands_after mid new state files line prepared h step committed;
+}
 
 -- a line that asks for no file there
-pub unfetched_in : (over state : State) (line : List ℕ) → over ≡ state → fetches state line ≡ false
-    → fetches_by over (asked_of line) ≡ false
-unfetched_in over state line same none =
-    ap (λ (s : State). fetches_by s (asked_of line)) same ∙ (sym (fetches_is state line) ∙ none)
+pub needs_no_file : (context : Context) (session : SessionParts) (line : List ℕ)
+    → ((stores : List Store) → state_over context session.stores stores ≡ state_of session stores)
+    → session.stores.m ≡ session.settings.window → AsksNoFile line session
+    → NeedsNoFile context (asked_of (version_in context) line) session.stores
+needs_no_file context session line over m asks = record {
+  stores = asks.state.stores;
+  stand = asks.stand.stores_stand;
+  none = ap (λ (s : State). fetches_by s (asked_of (version_in context) line))
+      (over asks.state.stores ∙ state_is session asks.state m asks.stand)
+      ∙ (sym (fetches_is asks.state line) ∙ asks.none);
+}
+
+-- what is known of the shelf, by other words for what isn't wanted and what failed
+pub asked_by : {H : Type 0} {shelf : shelves.Ghosts H} {unwanted also failed stopped : Type 0} {old new : H}
+    → IsAsked shelf unwanted failed old new → (also → unwanted) → (stopped → failed) → (failed → stopped)
+    → IsAsked shelf also stopped old new
+asked_by asked wants to from = record {
+  files = asked.files;
+  fault = λ stop. asked.fault (to stop);
+  calm = λ none. asked.calm (λ failed. none (from failed));
+  unfetched = λ also. asked.unfetched (wants also);
+  no_fault = λ also stop. asked.no_fault (wants also) (to stop);
+}

@@ -14,7 +14,7 @@ use Rattle.mp_replies.specs.Line.{ends}
 use Rattle.mp_replies.specs.Output.{some_ends, state_after, until_end}
 use Rattle.mp_replies.specs.State.{Files, State}
 use Rattle.mp_replies.specs.Step.{fetches}
-use Rattle.mp_session.specs.Sessions.{Held, StandsFor}
+use Rattle.mp_session.specs.Sessions.{SessionParts, StandsFor}
 use Rattle.mp_session.specs.Running.{Course, WasBegun, WereRun, course_at}
 use Rattle.mp_session.specs.Running.{AreFirst, IsWithin, RanAll, RanEnded, RanInto, RanSome, RanToFile, ends_within}
 use Rattle.mp_session.proofs.RunLemmas.{not_both, some_ends-append, some_ends_cut, until_end-append, until_end-one}
@@ -63,7 +63,7 @@ module _ {Out : Type 0} {sink : Ghosts Out} {told : Option Files} where
 
   pub under_way_on : {limit : ℕ} {old now : Course Out} {reader : Reading} {refused also : Bool}
       {line : List ℕ} {last : Bool}
-      {session : Held} {out : Out} (next : Reading) (later : Option (List ℕ))
+      {session : SessionParts} {out : Out} (next : Reading) (later : Option (List ℕ))
       → IsUnderWay sink told limit old now reader refused → IsNext reader next now.left later (Line false)
       → line ≡ next.holding.kept
       → WereRun sink told (line ∷ []) (course_at now.session later now.out) (course_at session later out) also
@@ -94,7 +94,7 @@ module _ {Out : Type 0} {sink : Ghosts Out} {told : Option Files} where
   -- it ended the run
   pub all_to_end : {limit : ℕ} {old now : Course Out} {reader : Reading} {refused also : Bool}
       {line : List ℕ} {last : Bool}
-      {session : Held} {out : Out} (next : Reading) (later : Option (List ℕ))
+      {session : SessionParts} {out : Out} (next : Reading) (later : Option (List ℕ))
       → IsUnderWay sink told limit old now reader refused → (final : Bool)
       → IsNext reader next now.left later (Line final) → line ≡ next.holding.kept
       → WereRun sink told (line ∷ []) (course_at now.session later now.out) (course_at session later out) also
@@ -113,7 +113,7 @@ module _ {Out : Type 0} {sink : Ghosts Out} {told : Option Files} where
 
   -- it was the last line
   pub all_to_last : {limit : ℕ} {old now : Course Out} {reader : Reading} {refused also : Bool} {line : List ℕ}
-      {session : Held} {out : Out} (next : Reading) (later : Option (List ℕ))
+      {session : SessionParts} {out : Out} (next : Reading) (later : Option (List ℕ))
       → IsUnderWay sink told limit old now reader refused → (final : Bool) → final ≡ true
       → IsNext reader next now.left later (Line final) → line ≡ next.holding.kept
       → WereRun sink told (line ∷ []) (course_at now.session later now.out) (course_at session later out) also
@@ -155,7 +155,7 @@ module _ {Out : Type 0} {sink : Ghosts Out} {told : Option Files} where
 
   -- a front of its report was written
   pub into_line : {limit : ℕ} {old now : Course Out} {reader : Reading} {refused : Bool} {line : List ℕ}
-      {session : Held} {out : Out}
+      {session : SessionParts} {out : Out}
       (next : Reading) (later : Option (List ℕ)) → IsUnderWay sink told limit old now reader refused
       → (final : Bool) → IsNext reader next now.left later (Line final) → line ≡ next.holding.kept
       → WasBegun sink told line (course_at now.session later now.out) (course_at session later out)
@@ -180,7 +180,7 @@ module _ {Out : Type 0} {sink : Ghosts Out} {told : Option Files} where
         (until_end all.0, ap until_end all.1 ∙ until_end-append u.lines all.0 u.none_ends);
   }
 
-  pub some_lines : {limit : ℕ} {old now : Course Out} {reader : Reading} {refused also : Bool} {session : Held}
+  pub some_lines : {limit : ℕ} {old now : Course Out} {reader : Reading} {refused also : Bool} {session : SessionParts}
       {later : Option (List ℕ)} {out : Out}
       → IsUnderWay sink told limit old now reader refused
       → WereRun sink told [] (course_at now.session later now.out) (course_at session later out) also
@@ -197,7 +197,7 @@ module _ {Out : Type 0} {sink : Ghosts Out} {told : Option Files} where
 
   -- it asks for a file, and none was fetched
   pub to_file : {limit : ℕ} {old now : Course Out} {reader : Reading} {refused also : Bool} {line : List ℕ}
-      {session : Held} {out : Out}
+      {session : SessionParts} {out : Out}
       (next : Reading) (later : Option (List ℕ)) → IsUnderWay sink told limit old now reader refused
       → (final : Bool) → IsNext reader next now.left later (Line final) → line ≡ next.holding.kept
       → WereRun sink told [] (course_at now.session later now.out) (course_at session later out) also

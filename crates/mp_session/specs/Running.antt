@@ -6,15 +6,16 @@ use Rattle.mp_feed.specs.Feeding.{nothing, lines_left, ended_lines_left}
 use Rattle.mp_feed.specs.Reading.{IsTakenOff}
 use Rattle.mp_replies.specs.State.{Files, State}
 use Rattle.mp_bytes.specs.Lines.{ended_lines}
-use Rattle.mp_replies.specs.Output.{reports, some_ends, some_refused, state_after, until_end, replies}
+use Rattle.mp_replies.specs.Output.{some_ends, some_refused, state_after, until_end, replies}
 use Rattle.mp_replies.specs.Step.{fetches}
-use Rattle.mp_session.specs.Sessions.{StandsFor, ToldForAll, Held}
+use Rattle.mp_session.specs.Sessions.{SessionParts, StandsFor, ToldForAll}
 use Rattle.mp_feed.specs.declared.readers.Next.{Next}
 use Rattle.mp_feed.specs.declared.readers.Next.TheVariants.{Line, End}
 use Rattle.mp_feed.specs.Writing.{Wrote, WroteFront}
 
 -- these lines were run one behind the other with a shelf that tells these files, with these reports
-pub record HaveRun (told : Option Files) (lines texts : List (List ℕ)) (old new : Held) (refused : Bool) : Type 0 where
+pub record HaveRun (told : Option Files) (lines texts : List (List ℕ)) (old new : SessionParts) (refused : Bool)
+    : Type 0 where
   pub texts_are : (state : State) (files : Files) → StandsFor old state → ToldForAll told state files lines
       → texts ≡ replies state files lines
   pub stands : (state : State) (files : Files) → StandsFor old state → ToldForAll told state files lines
@@ -25,11 +26,11 @@ pub record HaveRun (told : Option Files) (lines texts : List (List ℕ)) (old ne
 
 -- what a run works on: its session, the bytes that its source has left, where they are told, and its sink
 pub record Course (Out : Type 0) : Type 0 where
-  pub session : Held
+  pub session : SessionParts
   pub left : Option (List ℕ)
   pub out : Out
 
-abbrev pub course_at : {Out : Type 0} → Held → Option (List ℕ) → Out → Course Out
+abbrev pub course_at : {Out : Type 0} → SessionParts → Option (List ℕ) → Out → Course Out
 course_at session left out = record { session = session; left = left; out = out }
 
 -- these lines were run, and the report of each was written whole

@@ -1,38 +1,58 @@
 -- What a session holds, and the states that it stands for.
-use Rattle.std.specs.Prelude.{◌≡◌, ℕ, ◌+◌, Bool, true, false, ◌||◌, List, [], ◌∷◌, All, length, Option, Some}
-use Rattle.mp_replies.specs.Change as replies
-use Rattle.mp_replies.specs.State.{Files, State}
-use Rattle.mp_replies.specs.Step.{after, fetches}
+use Rattle.std.specs.Prelude.{◌≡◌, ℕ, ◌+◌, ◌≤◌, ◌==◌, Bool, true, false, ◌||◌, List, [], ◌∷◌, All, length}
+use Rattle.std.specs.Prelude.{Option, Some, Result, IfOk, OnOk, OnErr}
+use Rattle.mp_replies.specs.declared.causes.Cause.{Cause}
+use Rattle.mp_replies.specs.declared.causes.Cause.TheVariants.{File, FileSize, Record, Rows}
+use Rattle.mp_replies.specs.Command.{OpenSlot, Load, Append}
+use Rattle.mp_replies.specs.Line.{Asked, Asks}
+use Rattle.mp_replies.specs.Output.{reply}
+use Rattle.mp_replies.specs.State.{Files, State, Store, store_at, version_of}
+use Rattle.mp_replies.specs.Step.{after, answer, fetches}
+use Rattle.mp_replies.specs.Text.{refused_text}
 use Rattle.mp_replies.specs.Words.{Setup}
-use Rattle.mp_slots.specs.Slots.{Stored, lists_in, stores_of}
+use Rattle.mp_stores.specs.Stores.{StandChanged, StandFor, Stored, lists_in, reads_at}
+use Rattle.mp_commands.specs.Answers.{is_accepted, kind_of}
+use Rattle.mp_commands.specs.Reads.{AreUnread, is_unread, most_reads, renews}
+use Rattle.mp_commands.specs.declared.replies.Reply.{Reply}
 use Rattle.mp_commands.specs.declared.prepared.Change.{Change}
 use Rattle.mp_commands.specs.declared.prepared.Change.TheVariants.{Keep, PutChannels, AddSamples}
 use Rattle.mp_commands.specs.Preparing.{changed_by}
 
-pub record Held : Type 0 where
+-- what is seen of a session
+pub record SessionParts : Type 0 where
   pub settings : Setup
   -- how many lines were run
   pub lines : ℕ
   -- whether a command was accepted
   pub begun : Bool
-  -- the eight slots
-  pub slots : Stored
+  -- what stands in the eight slots
+  pub stores : Stored
 
-pub record StandsFor (session : Held) (state : State) : Type 0 where
+pub record StandsFor (session : SessionParts) (state : State) : Type 0 where
   pub window_is : state.window ≡ session.settings.window
   pub scale_is : state.scale ≡ session.settings.scale
   pub lines_is : state.lines ≡ session.lines
   pub begun_is : state.begun ≡ session.begun
-  pub stores_is : state.stores ≡ stores_of session.slots
+  pub stores_stand : StandFor session.stores state.stores
+
+-- the version by which the next line is read, that of each of these states
+abbrev pub version_at : SessionParts → ℕ
+version_at session = version_of record {
+  window = session.settings.window;
+  scale = session.settings.scale;
+  lines = session.lines;
+  begun = session.begun;
+  stores = [];
+}
 
 -- ---- the change of a line
 
 -- the line is counted, and its change made. Reads and room are left open
-pub record HasCommitted (old new : Held) (change : Change) (accepted : Bool) : Type 0 where
+pub record HasCommitted (old new : SessionParts) (change : Change) (accepted : Bool) : Type 0 where
   pub settings_are : new.settings ≡ old.settings
   pub lines_is : new.lines ≡ old.lines + 1
   pub begun_is : new.begun ≡ (old.begun || accepted)
-  pub stores_are : stores_of new.slots ≡ replies.changed (stores_of old.slots) (changed_by change)
+  pub stores_stand : StandChanged (changed_by change) old.stores new.stores
 
 -- so many samples are added to each channel of this slot
 abbrev pub AddsEach : Change → ℕ → ℕ → Type 0
@@ -40,7 +60,78 @@ AddsEach Keep slot count = ⊥
 AddsEach (PutChannels at channels) slot count = ⊥
 AddsEach (AddSamples at added) slot count = (at ≡ slot) × All (λ samples. length samples ≡ count) (lists_in added.items)
 
+-- ---- a reply
+
+-- In this state a line is answered as the definitions say by these files, and the session stands for the state behind
+-- it.
+pub record IsReplyBy (state : State) (files : Files) (line : List ℕ) (new : SessionParts) (answered : Reply)
+    : Type 0 where
+  pub text : answered.text.items ≡ reply state line files
+  pub kind : answered.kind ≡ kind_of (answer state line files)
+  pub after : StandsFor new (after state line files)
+
+-- ---- over any shelf, also one that tells nothing
+
+-- a line is answered so by some files
+pub record IsReplyBySome (line : List ℕ) (old new : SessionParts) (answered : Reply) : Type 0 where
+  pub files : Files
+  pub is : (state : State) → StandsFor old state → IsReplyBy state files line new answered
+
+-- whether a line that asks for this changes a slot where it is accepted
+abbrev pub changes : Asked → ℕ → Bool
+changes (Asks (OpenSlot at channels)) slot = slot == at
+changes (Asks (Load at file columns header)) slot = slot == at
+changes (Asks (Append at items)) slot = slot == at
+changes other slot = false
+
+-- the line was counted and a command accepted, and no slot was changed but one that the line asks to change
+pub record WasAccepted (what : Asked) (state : State) (new : SessionParts) : Type 0 where
+  pub stores : List Store
+  pub stands : StandsFor new (record state { lines = state.lines + 1; begun = true; stores = stores })
+  pub others : (slot : ℕ) → changes what slot ≡ false → store_at stores slot ≡ store_at state.stores slot
+
+-- the words by which a line is refused for its file
+abbrev pub IsOfFile : Cause → Type 0
+IsOfFile File = Unit {0}
+IsOfFile FileSize = Unit {0}
+IsOfFile (Record number) = Unit {0}
+IsOfFile Rows = Unit {0}
+IsOfFile other = ⊥
+
+-- the line of this number is refused by one of them
+pub record IsFileRefused (line : ℕ) (text : List ℕ) : Type 0 where
+  pub cause : Cause
+  pub of_file : IsOfFile cause
+  pub text_is : text ≡ refused_text line cause
+
+-- ---- counts
+
+-- a line that was answered is counted, and no other. The settings stay
+pub record WasCounted {E : Type 0} (old new : SessionParts) (result : Result Reply E) : Type 0 where
+  pub lines : OnOk result (new.lines ≡ old.lines + 1)
+  pub stop_lines : OnErr result (new.lines ≡ old.lines)
+  pub settings : new.settings ≡ old.settings
+
+-- no accepted line puts channels into the slot
+abbrev pub LeavesChannels : {E : Type 0} → Asked → ℕ → Result Reply E → Type 0
+LeavesChannels what slot result = IfOk result (λ answered. is_accepted answered.kind ≡ true → renews what slot ≡ false)
+
+-- How often a line read samples. Counts never fall but in a slot into which an accepted line puts channels, and nothing
+-- is read by a line that isn't accepted.
+pub record WereReadBy {E : Type 0} (what : Asked) (old new : Stored) (result : Result Reply E) : Type 0 where
+  pub most : (slot : ℕ) → LeavesChannels what slot result
+      → reads_at new slot ≤ reads_at old slot + most_reads old what slot
+  pub rise : (slot : ℕ) → LeavesChannels what slot result → reads_at old slot ≤ reads_at new slot
+  pub unread : is_unread what ≡ true → AreUnread old new
+  pub unaccepted : IfOk result (λ answered. is_accepted answered.kind ≡ false → AreUnread old new)
+
 -- ---- files
+
+-- the session stands for a state in which the line asks for no file
+pub record AsksNoFile (line : List ℕ) (session : SessionParts) : Type 0 where
+  pub state : State
+  pub stand : StandsFor session state
+  pub none : fetches state line ≡ false
 
 -- whether one of these lines, run one behind the other, asks for a file
 abbrev pub some_fetch : State → Files → List (List ℕ) → Bool

@@ -16,7 +16,7 @@ use Rattle.mp_text.specs.declared.refusal.TableFault.TheVariants as table
 use Rattle.mp_text.specs.Rows.{Row, onto, column_at, columns_of}
 use Rattle.mp_text.specs.Table.{Fault, BadField, NoField, TooManyRows, Fields, reading, judged, cell_of, row_of}
 use Rattle.mp_text.specs.Table.{rows_of, in_columns, table_of, told}
-use Rattle.mp_text.specs.Gathering.{cell, cell_fault, column_of, first_of, gathered_of, reading_fault, record_fault}
+use Rattle.mp_text.specs.Gathering.{cell, cell_fault, column_of, first_fault, gathered_of, reading_fault, record_fault}
 use Rattle.mp_text.specs.Gathering.{sample_in, table_fault, unless_faulty}
 
 -- the fault of a table, of which want of memory is none
@@ -47,7 +47,7 @@ cell_by scale number column (Some text) = judged_by number column (reading scale
 -- ---- one record
 
 onto_by : {A : Type 0} (one : Option TableFault) (x : A) (others : Option TableFault) (xs : List A)
-    → onto (by_fault one x) (by_fault others xs) ≡ by_fault (first_of one others) (x ∷ xs)
+    → onto (by_fault one x) (by_fault others xs) ≡ by_fault (first_fault one others) (x ∷ xs)
 unfolding by_fault
 onto_by None x None xs = refl
 onto_by None x (Some fault) xs = refl
@@ -75,7 +75,7 @@ past_by : (scale : ℕ) (columns : List ℕ) (number : ℕ) (fields : Fields) (r
     → (if past then Err TooManyRows
     else onto (row_of scale number fields columns) (rows_of scale columns (number + 1) rest))
     ≡ by_fault (if past then Some table.Rows
-    else first_of (record_fault scale number fields columns) (table_fault scale columns (number + 1) rest))
+    else first_fault (record_fault scale number fields columns) (table_fault scale columns (number + 1) rest))
     (cells scale columns fields ∷ map (cells scale columns) rest)
 unfolding seen by_fault
 past_by scale columns number fields rest true later = refl

@@ -14,7 +14,7 @@ use Rattle.mp_nums.specs.declared.samples.Sample.{Sample}
 use Rattle.mp_defs.specs.Series.{Series, reading_of, series_of}
 use Rattle.mp_defs.specs.Limits.{max_samples}
 use Rattle.std.proofs.lemmas.Simd.{map-map}
-use Rattle.mp_text.specs.Gathering.{added, cell, cell_fault, column_of, first_of, record_fault, table_fault}
+use Rattle.mp_text.specs.Gathering.{added, cell, cell_fault, column_of, first_fault, record_fault, table_fault}
 use Rattle.mp_text.specs.Gathering.{gathered_of, unless_faulty}
 use Rattle.mp_text.specs.Table.{Fields}
 use Rattle.csv.specs.Records.{field_at}
@@ -33,17 +33,17 @@ added-pushed gathered k old new sample within is items =
 
 -- ---- faults
 
-first_of-assoc : (a b c : Option TableFault) → first_of (first_of a b) c ≡ first_of a (first_of b c)
-first_of-assoc None b c = refl
-first_of-assoc (Some e) b c = refl
+first_fault-assoc : (a b c : Option TableFault) → first_fault (first_fault a b) c ≡ first_fault a (first_fault b c)
+first_fault-assoc None b c = refl
+first_fault-assoc (Some e) b c = refl
 
 record_fault-append : (scale number : ℕ) (fields : Fields) (xs ys : List ℕ)
     → record_fault scale number fields (xs ++ ys)
-    ≡ first_of (record_fault scale number fields xs) (record_fault scale number fields ys)
+    ≡ first_fault (record_fault scale number fields xs) (record_fault scale number fields ys)
 record_fault-append scale number fields [] ys = refl
 record_fault-append scale number fields (x ∷ xs) ys =
-    ap (first_of (cell_fault scale number x (field_at fields x))) (record_fault-append scale number fields xs ys)
-    ∙ sym (first_of-assoc (cell_fault scale number x (field_at fields x)) (record_fault scale number fields xs)
+    ap (first_fault (cell_fault scale number x (field_at fields x))) (record_fault-append scale number fields xs ys)
+    ∙ sym (first_fault-assoc (cell_fault scale number x (field_at fields x)) (record_fault scale number fields xs)
     (record_fault scale number fields ys))
 
 pub fine_more : (scale number : ℕ) (fields : Fields) (columns : List ℕ) (k : ℕ) → k < length columns
@@ -64,8 +64,8 @@ fault_at scale number fields columns k fault within fine faulty =
     ≡ Some fault =
     record_fault-append scale number fields (take k columns) (get_or columns k 0 ∷ drop (k + 1) columns)
     ∙ ap (λ (o : Option TableFault).
-    first_of o (record_fault scale number fields (get_or columns k 0 ∷ drop (k + 1) columns))) fine
-    ∙ ap (λ (o : Option TableFault). first_of o (record_fault scale number fields (drop (k + 1) columns))) faulty in
+    first_fault o (record_fault scale number fields (get_or columns k 0 ∷ drop (k + 1) columns))) fine
+    ∙ ap (λ (o : Option TableFault). first_fault o (record_fault scale number fields (drop (k + 1) columns))) faulty in
     ap (record_fault scale number fields) (sym whole) ∙ parts
 
 -- ---- one record more

@@ -34,21 +34,21 @@ cell scale (Some text) = sample_in (reading scale text)
 
 -- ---- the first fault, in the order of records and of columns
 
-abbrev pub first_of : Option TableFault → Option TableFault → Option TableFault
-first_of None later = later
-first_of (Some fault) later = Some fault
+abbrev pub first_fault : Option TableFault → Option TableFault → Option TableFault
+first_fault None later = later
+first_fault (Some fault) later = Some fault
 
 abbrev pub record_fault : ℕ → ℕ → Fields → List ℕ → Option TableFault
 record_fault scale number fields [] = None
 record_fault scale number fields (column ∷ columns) =
-    first_of (cell_fault scale number column (field_at fields column)) (record_fault scale number fields columns)
+    first_fault (cell_fault scale number column (field_at fields column)) (record_fault scale number fields columns)
 
 -- the first fault of these records, of which the first has this number
 abbrev pub table_fault : ℕ → List ℕ → ℕ → List Fields → Option TableFault
 table_fault scale columns number [] = None
 table_fault scale columns number (fields ∷ rest) =
     if number == max_samples + 1 then Some table.Rows
-    else first_of (record_fault scale number fields columns) (table_fault scale columns (number + 1) rest)
+    else first_fault (record_fault scale number fields columns) (table_fault scale columns (number + 1) rest)
 
 -- ---- the columns
 

@@ -1,10 +1,10 @@
 //! Samples that are written as their texts.
 
 ghost use Rattle.std.specs.Prelude.{◌≡◌, ◌+◌, ◌/◌, ◌^◌, ◌<◌, ◌≤◌, ◌∷◌, [], ◌++◌, length, decimal, Ok, Some, IsOk, OnOk, OnErr, unsigned_abs};
+ghost use Rattle.mp_defs.specs.Limits.{greatest_sample, least_sample};
 ghost use Rattle.mp_defs.specs.Series.{reading_of};
 ghost use Rattle.mp_text.specs.SampleText.{last_digits, fraction_text, magnitude_text, number_text, sample_of, sample_text};
 
-use crate::spelling::{GREATEST_SAMPLE, LEAST_SAMPLE};
 use itoa::Buffer;
 use mp_nums::{Memory, Sample, Text};
 
@@ -19,7 +19,7 @@ pub fn write_sample(sample: Sample, scale: u8, out: &mut Text) -> Result<(), Mem
     ensures err { OnErr result (out.new.items ≡ out.old.items) }
     ensures succeeds { 12 ≤ out.old.spare → IsOk result }
     ensures read_back { OnOk result
-        (sample_of LEAST_SAMPLE GREATEST_SAMPLE scale (sample_text scale (reading_of sample)) ≡ Ok (reading_of sample)) }
+        (sample_of least_sample greatest_sample scale (sample_text scale (reading_of sample)) ≡ Ok (reading_of sample)) }
 {
     out.reserve(LONGEST)?;
     match sample {
@@ -42,7 +42,7 @@ fn put_number(out: &mut Text, number: i32, scale: u8)
     requires places { scale ≤ 9 }
     requires room { LONGEST ≤ out.old.spare }
     ensures items { out.new.items ≡ out.old.items ++ number_text scale number }
-    ensures read_back { sample_of LEAST_SAMPLE GREATEST_SAMPLE scale (number_text scale number) ≡ Ok (Some number) }
+    ensures read_back { sample_of least_sample greatest_sample scale (number_text scale number) ≡ Ok (Some number) }
 {
     if number < 0 {
         put(out, b'-');

@@ -1,5 +1,6 @@
 -- The rows of a tile as the windows of a series that has no others.
-use Rattle.std.proofs.Common.{◌≡◌, ℕ, zero, suc, ◌+◌, ◌-◌, ◌<◌, ◌≤◌, ◌⊎◌, inl, inr, List, length, get_or, take, drop, ◌++◌}
+use Rattle.std.proofs.Common.{◌≡◌, ℕ, zero, suc, ◌+◌, ◌-◌, ◌<◌, ◌≤◌, ◌⊎◌, inl, inr, List, length, get_or, take, drop}
+use Rattle.std.proofs.Common.{◌++◌}
 use Rattle.std.proofs.Common.{Bool, false, refl, sym, ap, ◌∙◌, subst, arith, length-take, length-drop}
 use Rattle.std.specs.Prelude.{Option, None, if◌then◌else◌}
 use Rattle.std.specs.List.{between}
@@ -116,16 +117,19 @@ module _ (tile : Tile) (m w top k e : ℕ) (a : List Sample) (b : Series) (slots
         ≡ nearer_of (get_or slots i None) (nearest m (has_pair (w - 1) tile i) (series_of a) i b)
     outside i lt out kept =
         kept
-        ∙ sym (ap (nearer_of (get_or slots i None)) (nearest_by_choice.none m (has_pair (w - 1) tile i) (series_of a) i b
+        ∙ sym (ap (nearer_of (get_or slots i None)) (nearest_by_choice.none m (has_pair (w - 1) tile i) (series_of a)
+        i b
         (λ j below. no_pair tile (w - 1) i j out))
         ∙ (nearer_with_none (get_or slots i None)).1)
 
     inside : (i : ℕ) → i < k
         → get_or (put_mid top k slots part) (top + i) None
-        ≡ nearer_of (get_or slots (top + i) None) (nearest m (has_pair (w - 1) tile (top + i)) (series_of a) (top + i) b)
+        ≡ nearer_of (get_or slots (top + i) None) (nearest m (has_pair (w - 1) tile (top + i)) (series_of a) (top + i)
+        b)
     inside i lt =
         in_part slots part top k i (omega (arith, within, places)) (omega (arith, part_places, lt))
-        ∙ at_taken (on_its_diagonals (w - 1 - top) tile) m (series_of (between top e a)) b (take k (drop top slots)) part
+        ∙ at_taken (on_its_diagonals (w - 1 - top) tile) m (series_of (between top e a)) b (take k (drop top slots))
+        part
         i (omega (arith, length-take {A = Option Near}, length-drop {A = Option Near}, own, places, within))
         (omega (arith, own, lt)) taken
         ∙ ap (λ s. nearer_of s (nearest m (on_its_diagonals (w - 1 - top) tile i) (series_of (between top e a)) i b))

@@ -3,5 +3,5 @@ use Rattle.std.specs.Prelude.{}
 use Rattle.mp_replies.specs.Words.{Job as Asked}
 use Rattle.mp_words.specs.declared.jobs.Job.{Job}
 
-abbrev pub asked_by : Job → Asked
-asked_by job = record { setup = job.settings; make = job.make }
+abbrev pub meant_by : Job → Asked
+meant_by job = record { setup = job.settings; make = job.make }

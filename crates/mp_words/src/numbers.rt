@@ -3,7 +3,7 @@
 ghost use Rattle.std.specs.Prelude.{◌≡◌, ◌↔◌, List, [], Some, IfSome, IsNone, IsSome, option_map};
 ghost use Rattle.mp_replies.specs.Numbers.{with_next};
 ghost use Rattle.mp_replies.specs.Words.{Given, given_of, job_with, make_with, setup_with, word_number};
-ghost use Rattle.mp_words.specs.Jobs.{asked_by};
+ghost use Rattle.mp_words.specs.Jobs.{meant_by};
 ghost use Rattle.mp_words.specs.Numbers.{numbers_in, numbers_of_options};
 ghost use Rattle.mp_words.specs.Reading.{numbers_with};
 
@@ -67,7 +67,7 @@ impl Numbers {
 
     /// What the numbers ask for, `None` where one is missing or outside its limits.
     pub(crate) fn job(&self) -> Option<Job>
-        ensures { option_map asked_by result ≡ with_next (option_map job_with
+        ensures { option_map meant_by result ≡ with_next (option_map job_with
             (setup_with self.now.window self.now.scale self.now.tile self.now.workers))
             (make_with self.now.generate self.now.count) }
     {

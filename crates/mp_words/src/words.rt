@@ -3,7 +3,7 @@
 ghost use Rattle.std.specs.Prelude.{◌≡◌, ◌↔◌, ◌≤◌, None, Some, IfOk, IfSome, IsErrOf, is_some, map, string_bytes};
 ghost use Rattle.mp_defs.specs.Limits.{max_samples};
 ghost use Rattle.mp_replies.specs.Words.{job};
-ghost use Rattle.mp_words.specs.Jobs.{asked_by};
+ghost use Rattle.mp_words.specs.Jobs.{meant_by};
 
 use crate::grammar::read_numbers;
 use crate::jobs::{Job, WordsAnswer};
@@ -20,7 +20,7 @@ use std::alloc::Global;
 /// Words outside this grammar are answered as `Words`, and that takes no memory. Words of the grammar are read by
 /// `clap`.
 pub fn read_words(alloc: Global, words: &[String]) -> Result<Job, WordsAnswer>
-    ensures job { IfOk result (λ found. job (map string_bytes words.now) ≡ Some (asked_by found)) }
+    ensures job { IfOk result (λ found. job (map string_bytes words.now) ≡ Some (meant_by found)) }
     ensures count { IfOk result (λ found. IfSome found.make (λ make. make.count ≤ max_samples)) }
     ensures outside { IsErrOf result WordsAnswer.Words ↔ (job (map string_bytes words.now) ≡ None) }
 {

@@ -1,5 +1,5 @@
 use Rattle.std.proofs.Common.{◌≡◌, [], replicate}
-use Rattle.mp_slots.specs.Slots.{lists_in}
+use Rattle.mp_stores.specs.Stores.{lists_in}
 use Rattle.mp_commands.proofs.append_command.empty_lists.Given as goal
 
 abbrev pub invariant-loop : goal.invariant-loop

@@ -3,7 +3,7 @@ use Rattle.std.specs.Prelude.{option_map}
 use Rattle.std.specs.Iterator.Adapters.{enumerate_count, enumerate_source}
 use Rattle.mp_bytes.specs.Values.{values_in, values_left}
 use Rattle.mp_defs.specs.Series.{series_of}
-use Rattle.mp_slots.specs.Slots.{lists_in}
+use Rattle.mp_stores.specs.Stores.{lists_in}
 use Rattle.mp_commands.proofs.AppendLemmas.{AreSpread}
 use Rattle.mp_commands.proofs.append_command.read_item.Given as goal
 

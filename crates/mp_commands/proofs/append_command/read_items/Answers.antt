@@ -3,7 +3,7 @@ use Rattle.std.proofs.lemmas.List.{length-map, with_items_is}
 use Rattle.mp_bytes.specs.Fields.{fields_in}
 use Rattle.mp_defs.specs.Series.{series_of}
 use Rattle.mp_replies.specs.AppendCommand.{items_of, read_items, rows_in}
-use Rattle.mp_slots.specs.Slots.{lists_in}
+use Rattle.mp_stores.specs.Stores.{lists_in}
 use Rattle.mp_commands.proofs.AppendLemmas.{added_long, next_good, no_columns, read_more, rows_of_good}
 use Rattle.mp_commands.proofs.append_command.read_items.Goals as goal
 

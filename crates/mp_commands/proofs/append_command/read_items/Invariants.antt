@@ -1,7 +1,7 @@
 use Rattle.std.proofs.Common.{map}
 use Rattle.mp_bytes.specs.Fields.{fields_in}
 use Rattle.mp_defs.specs.Series.{series_of}
-use Rattle.mp_slots.specs.Slots.{lists_in}
+use Rattle.mp_stores.specs.Stores.{lists_in}
 use Rattle.mp_commands.proofs.AppendLemmas.{AreRead}
 use Rattle.mp_commands.proofs.append_command.read_items.Given as goal
 

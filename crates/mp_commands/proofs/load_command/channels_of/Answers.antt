@@ -3,7 +3,7 @@ use Rattle.std.proofs.lemmas.List.{map-append, take_more}
 use Rattle.std.proofs.lemmas.List.Elements.{All-push}
 use Rattle.mp_nums.specs.declared.samples.Sample.{Sample}
 use Rattle.mp_stream.specs.Streams.{Streamed}
-use Rattle.mp_slots.specs.Slots.{HaveWindow, items_in}
+use Rattle.mp_stores.specs.Stores.{HaveWindow, items_in}
 use Rattle.mp_commands.proofs.LoadLemmas.{got}
 use Rattle.mp_commands.proofs.load_command.channels_of.Goals as goal
 

@@ -1,5 +1,5 @@
 use Rattle.std.proofs.Common.{◌≡◌, take}
-use Rattle.mp_slots.specs.Slots.{HaveWindow, items_in}
+use Rattle.mp_stores.specs.Stores.{HaveWindow, items_in}
 use Rattle.mp_commands.proofs.load_command.channels_of.Given as goal
 
 abbrev pub invariant-loop-k : goal.invariant-loop-k

@@ -1,9 +1,8 @@
-use Rattle.std.proofs.Common.{◌≡◌, ◌∙◌, ℕ, [], refl, ap, arith, length, map, sym}
-use Rattle.std.specs.Prelude.{Some, unwrap_or}
+use Rattle.std.proofs.Common.{◌≡◌, ◌∙◌, [], refl, ap, arith, length, map, sym}
+use Rattle.std.specs.Prelude.{unwrap_or}
 use Rattle.mp_defs.specs.Series.{series_of}
 use Rattle.mp_replies.specs.Change as change
 use Rattle.mp_replies.specs.Numbers.{columns}
-use Rattle.mp_replies.specs.Text.{ok_text}
 use Rattle.mp_text.specs.Table.{data_records}
 use Rattle.std.proofs.lemmas.Simd.{map-map}
 use Rattle.mp_commands.specs.Preparing.{state_over}
@@ -39,19 +38,19 @@ channels_of-requires-after_bounds g c = λ κs outlives k d within.
     omega (arith, even_table cols c.in-Ok.bundle t k d within, t.few)
 
 pub returns-clause-ok : goal.returns-clause-ok
-returns-clause-ok g c = λ files found.
+returns-clause-ok g c = λ stores files stand found.
     let load = c.args.load in
-    let held = c.args.slots.now in
     let cols = unwrap_or (columns load.columns.field.now) [] in
     let scale = sym c.scale-scale.ensures.value in
     let same : cols ≡ c.as_slice.result.now =
     ap (λ o. unwrap_or o []) c.in_ok-columns.ensures ∙ sym c.as_slice.ensures.value in
     let channels = c.in_ok-channels.channels.items in
     let samples = length c.series.result.now in
-    loaded (state_over c.args.context held) files load.slot load.file.now cols load.header c.args.bytes.now
-    c.in-Ok.bundle c.series.result.now samples c.in_ok-text.text _ c.requires.unrefused found c.requires.within
-    (rw (scale, same) c.in-Ok.ensures.table) c.series.ensures refl
-    (c.in_ok-text.ensures ∙ ap (λ (n : ℕ). ok_text n (Some samples)) c.line.ensures) refl
+    loaded (state_over c.args.context c.args.stores.now stores) files load.slot load.file.now cols load.header
+    c.args.bytes.now
+    c.in-Ok.bundle c.series.result.now samples _ (c.requires.unrefused stores stand) found
+    c.requires.within
+    (rw (scale, same) c.in-Ok.ensures.table) c.series.ensures refl refl
     (ap (change.PutChannels load.slot)
     (sym (map-map series_of (λ channel. channel.items) channels)
     ∙ ap (map series_of) c.in_ok-channels.ensures.items))
@@ -67,11 +66,13 @@ returns-clause-ready g c = record {
       let few = few_columns c.args.load.columns.field.now c.in_ok-columns.columns.items c.in_ok-columns.ensures in
       let long = ap length c.as_slice.ensures.value in
       let m = c.plan.ensures ∙ c.window_len.ensures.m in
-      can_put_table c.args.slots.now.m c.args.load.slot cols c.in-Ok.bundle c.in_ok-channels.channels.items
+      can_put_table c.args.stores.now.m c.args.load.slot cols c.in-Ok.bundle c.in_ok-channels.channels.items
       c.requires.slot
       (omega (arith, long, some)) (omega (arith, long, few)) t c.in_ok-channels.ensures.items
       (rw m at c.in_ok-channels.ensures.window);
   kept = λ h. absurd (cc h);
   renewed = λ other put. put;
   adds = tt;
+  names = tt;
+  ends = refl;
 }

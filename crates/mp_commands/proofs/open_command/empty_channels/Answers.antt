@@ -1,7 +1,7 @@
 use Rattle.std.proofs.Common.{◌≡◌, ◌++◌, ◌∷◌, [], arith, subst, sym, List}
 use Rattle.std.proofs.lemmas.List.Elements.{All-push}
 use Rattle.mp_stream.specs.Streams.{Streamed}
-use Rattle.mp_slots.specs.Slots.{HaveWindow}
+use Rattle.mp_stores.specs.Stores.{HaveWindow}
 use Rattle.mp_commands.specs.Preparing.{AreEmpty, IsEmpty}
 use Rattle.mp_commands.proofs.open_command.empty_channels.Goals as goal
 

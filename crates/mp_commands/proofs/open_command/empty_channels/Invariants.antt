@@ -1,5 +1,5 @@
 use Rattle.std.proofs.Common.{◌≡◌, vec_len}
-use Rattle.mp_slots.specs.Slots.{HaveWindow}
+use Rattle.mp_stores.specs.Stores.{HaveWindow}
 use Rattle.mp_commands.specs.Preparing.{AreEmpty}
 use Rattle.mp_commands.proofs.open_command.empty_channels.Given as goal
 

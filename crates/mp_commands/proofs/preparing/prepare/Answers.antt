@@ -1,6 +1,13 @@
 use Rattle.mp_lines.specs.Lines.{asked_by, cause_of}
-use Rattle.mp_commands.proofs.PreparingLemmas.{ends_of, limits_by, refused_ends}
+use Rattle.mp_replies.specs.Line.{asked_of}
+use Rattle.mp_commands.proofs.PreparingLemmas.{ends_of, limits_by, prepared_faulty, refused_ends}
 use Rattle.mp_commands.proofs.preparing.prepare.Goals as goal
+use Rattle.mp_replies.specs.State.{first_version}
+
+pub returns-in-Err-clause-some_files : goal.returns-in-Err-clause-some_files
+returns-in-Err-clause-some_files g c =
+    prepared_faulty c.args.context (asked_of first_version c.args.line.now) c.args.stores.now c.refused.result _
+    (cause_of c.in-Err.fault) c.refused.ensures.answer c.cause_of.ensures c.refused.ensures.change c.in-Err.ensures
 
 pub returns-in-Err-clause-ends : goal.returns-in-Err-clause-ends
 returns-in-Err-clause-ends g c =
@@ -13,5 +20,5 @@ prepare_command-requires-after_bounds g c = λ κs within.
 
 pub returns-clause-ends : goal.returns-clause-ends
 returns-clause-ends g c =
-    ends_of c.prepare_command.result c.args.line.now (asked_by c.in-Ok.command) c.in-Ok.ensures
-    c.prepare_command.ensures.ends
+    ends_of c.prepare_command.result c.args.line.now (asked_by c.in-Ok.command) c.prepare_command.new.stores
+    c.in-Ok.ensures c.prepare_command.ensures.ready

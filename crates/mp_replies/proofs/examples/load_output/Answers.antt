@@ -9,7 +9,7 @@ use Rattle.mp_defs.specs.Distance.{distance}
 use Rattle.mp_defs.specs.Least.{near}
 use Rattle.mp_replies.specs.Change.{PutChannels}
 use Rattle.mp_replies.specs.Command.{Load}
-use Rattle.mp_replies.specs.Conditions.{first_of}
+use Rattle.mp_replies.specs.Conditions.{first_cause}
 use Rattle.mp_replies.specs.Line.{asked_of, ends}
 use Rattle.mp_replies.specs.LoadCommand.{channels_of, file_conditions, load_conditions}
 use Rattle.mp_replies.specs.Report.{text_of}
@@ -26,7 +26,7 @@ appended files = after (opening 3 1) (codes "append 0 7") files
 abbrev loaded : State → Option (List ℕ) → Verdict
 loaded state bytes =
     verdict_by (Load 0 (codes "day.csv") (1 ∷ []) true)
-    (first_of (load_conditions state.stores 0 (1 ∷ []) ++ file_conditions state.scale (1 ∷ []) true bytes))
+    (first_cause (load_conditions state.stores 0 (1 ∷ []) ++ file_conditions state.scale (1 ∷ []) true bytes))
     (PutChannels 0 (channels_of state.scale (1 ∷ []) true bytes))
 
 pub returns : goal.returns

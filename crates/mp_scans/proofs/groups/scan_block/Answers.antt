@@ -8,7 +8,8 @@ pub scan_strips-requires-clause-limits : goal.scan_strips-requires-clause-limits
 scan_strips-requires-clause-limits g c =
     let b = c.args.block.now in
     let o = g.O.Offers in
-    limits_later b (o.keeps_row c.args.into.now) (o.keeps_column c.args.into.now) (first_on (c.div_ceil-width.result * 32))
+    limits_later b (o.keeps_row c.args.into.now) (o.keeps_column c.args.into.now) (first_on (c.div_ceil-width.result *
+    32))
     (first_on (div_ceil b.width 32 * 32)) _ _
     (λ q. first_as c.div_ceil-width.result (div_ceil b.width 32) q c.div_ceil-width.ensures)
     (record {

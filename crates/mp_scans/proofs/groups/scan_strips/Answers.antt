@@ -96,7 +96,14 @@ loop-strips-preserved g c =
         | inl same ↦
             let here : s * 32 ≡ o = omega (arith, same) in
             let full : end ≡ n =
-            omega (arith, behind, here, c.min-end.ensures, c.saturating_sub-left.ensures, c.count_columns-columns.ensures) in
+            omega (
+              arith,
+              behind,
+              here,
+              c.min-end.ensures,
+              c.saturating_sub-left.ensures,
+              c.count_columns-columns.ensures,
+            ) in
             ap (λ q. item c.scan_strip.new.residues (q + t)) here
             ∙ next.stored (omega (arith, full, b.some_rows)) t small
             ∙ ap (λ q. residue (square_sum m x (b.row + q) y (b.column + (q + o + t)))) full

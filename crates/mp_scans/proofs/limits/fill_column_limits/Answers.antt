@@ -21,9 +21,11 @@ loop-c-preserved g c =
     let passed = sym (to_z-of_z w32 c.column_limit.result fits) in
     record {
       places = length-set _ _ _ ∙ c.loop-c.invariant.places;
-      done = set_next (λ q z. IsColumnLimit b keeps (first_on c.args.width q) q z) (pos 0) c.loop-c.limits p _ (omega arith)
+      done = set_next (λ q z. IsColumnLimit b keeps (first_on c.args.width q) q z) (pos 0) c.loop-c.limits p _ (omega
+          arith)
           c.loop-c.invariant.done (subst (IsColumnLimit b keeps (first_on c.args.width p) p) passed
-          (subst (λ n. IsColumnLimit b keeps n p c.column_limit.result) c.saturating_sub.ensures c.column_limit.ensures));
+          (subst (λ n. IsColumnLimit b keeps n p c.column_limit.result) c.saturating_sub.ensures
+          c.column_limit.ensures));
       fit = set_next (λ q z. FitsSigned w32 z) (pos 0) c.loop-c.limits p _ (omega arith) c.loop-c.invariant.fit
           (subst (FitsSigned w32) passed fits);
     }

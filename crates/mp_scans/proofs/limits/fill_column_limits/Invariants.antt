@@ -6,6 +6,7 @@ use Rattle.mp_scans.proofs.limits.fill_column_limits.Given as goal
 abbrev pub invariant-loop-c : goal.invariant-loop-c
 invariant-loop-c g l = record {
   places : length l.limits ≡ length l.initial.limits;
-  done : (q : ℕ) → q < l.c → IsColumnLimit l.block (g.O.Offers.keeps_column l.into) (first_on l.width q) q (item l.limits q);
+  done : (q : ℕ) → q < l.c
+      → IsColumnLimit l.block (g.O.Offers.keeps_column l.into) (first_on l.width q) q (item l.limits q);
   fit : (q : ℕ) → q < l.c → FitsSigned w32 (item l.limits q);
 }

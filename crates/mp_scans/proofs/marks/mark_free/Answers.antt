@@ -10,7 +10,8 @@ pub loop-k-init : goal.loop-k-init
 loop-k-init c =
     let end = c.args.start + c.args.m - 1 in
     record {
-      clear = clear_at (series_of c.args.samples.now) c.args.start _ end (end + 0) (omega arith) c.find_clear-clear.ensures;
+      clear =
+          clear_at (series_of c.args.samples.now) c.args.start _ end (end + 0) (omega arith) c.find_clear-clear.ensures;
       places = refl;
       done = λ q lt. absurd (omega (arith, lt));
     }

@@ -5,13 +5,15 @@ use Rattle.mp_scans.proofs.pairs.offer_pair.Goals as goal
 
 pub distance_by-dist-requires-clause-row : goal.distance_by-dist-requires-clause-row
 distance_by-dist-requires-clause-row g c =
-    window_within c.args.strip.now.block.grid.m c.args.strip.now.block.grid.rows.now (c.args.strip.now.block.row + c.args.p)
+    window_within c.args.strip.now.block.grid.m c.args.strip.now.block.grid.rows.now (c.args.strip.now.block.row +
+    c.args.p)
     c.args.strip.now.block.some_samples
     (omega (arith, c.requires.row, c.args.strip.now.rows, c.args.strip.now.block.are_rows))
 
 pub distance_by-dist-requires-clause-column : goal.distance_by-dist-requires-clause-column
 distance_by-dist-requires-clause-column g c =
-    window_within c.args.strip.now.block.grid.m c.args.strip.now.block.grid.columns.now (c.args.strip.now.block.column + c.args.c)
+    window_within c.args.strip.now.block.grid.m c.args.strip.now.block.grid.columns.now (c.args.strip.now.block.column
+    + c.args.c)
     c.args.strip.now.block.some_samples c.requires.is_column
 
 pub returns-then-are_free : goal.returns-then-are_free
@@ -20,7 +22,13 @@ returns-then-are_free g c =
     let rows = series_of b.grid.rows.now in
     let columns = series_of b.grid.columns.now in
     record {
-      scanned = c.offer.ensures b.grid.m rows columns c.requires.fits (omega (arith, c.requires.row, c.args.strip.now.rows, b.are_rows)) c.requires.is_column
+      scanned =
+          c.offer.ensures b.grid.m rows columns c.requires.fits (omega (
+            arith,
+            c.requires.row,
+            c.args.strip.now.rows,
+            b.are_rows,
+          )) c.requires.is_column
           (free_distance b.grid.m rows columns (b.row + c.args.p) (b.column + c.args.c) c.distance_by-dist.result
           (c.are_free.ensures.row c.if-are_free.true) (c.are_free.ensures.column c.if-are_free.true)
           c.distance_by-dist.ensures.distance);
@@ -37,7 +45,8 @@ returns-else-are_free g c =
     let columns = series_of b.grid.columns.now in
     record {
       scanned = g.met.O.Offers.laws.skipped b.grid.m rows columns (b.row + c.args.p) (b.column + c.args.c)
-          c.args.into.now c.requires.fits (omega (arith, c.requires.row, c.args.strip.now.rows, b.are_rows)) c.requires.is_column
+          c.args.into.now c.requires.fits (omega (arith, c.requires.row, c.args.strip.now.rows, b.are_rows))
+          c.requires.is_column
           (omega (arith, c.requires.apart, c.requires.first))
           (no_distance b.grid.m rows columns (b.row + c.args.p) (b.column + c.args.c)
           (λ e f. both_ways c.are_free.result (c.are_free.ensures.both e f) c.if-are_free.false));

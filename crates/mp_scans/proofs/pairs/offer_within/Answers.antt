@@ -18,7 +18,8 @@ returns-clause-limits g c =
     (first_row c.args.strip.now.offset c.args.pair.row)
     c.args.row_limits.now c.args.column_limits.now c.args.pair.row c.args.pair.column _ _
     (omega (arith, c.requires.row, c.args.strip.now.rows, c.requires.limits.row_places))
-    (omega (arith, c.requires.row, c.requires.last, c.args.strip.now.columns, c.requires.limits.column_places)) c.requires.limits
+    (omega (arith, c.requires.row, c.requires.last, c.args.strip.now.columns, c.requires.limits.column_places))
+    c.requires.limits
     (λ first k limit h.
     row_limit_stays o.least o.fits o.is_scanned o.keeps_row o.keeps_column g.met.O.Offers.limits b pair old new first k
     limit c.requires.fits c.offer_pair.ensures.scanned h)

@@ -4,7 +4,9 @@ use Rattle.mp_scans.proofs.runs.run.Goals as goal
 
 pub loop-q-init : goal.loop-q-init
 loop-q-init c = record {
-  residues = passed_residues c.args.strip.now.block _ c.args.from _ (c.args.from + c.args.strip.now.offset) _ (omega arith) (omega arith)
+  residues =
+      passed_residues c.args.strip.now.block _ c.args.from _ (c.args.from + c.args.strip.now.offset) _ (omega arith)
+      (omega arith)
       c.requires.residues;
   above = above_none _ _ _ _ _;
 }
@@ -22,7 +24,8 @@ loop-q-preserved c =
     let q = c.loop-q.q in
     let o = c.args.strip.now.offset in
     record {
-      residues = passed_residues c.args.strip.now.block (q + 1) (q + 1) (q + o + 1) (q + 1 + o) _ (omega arith) (omega arith)
+      residues =
+          passed_residues c.args.strip.now.block (q + 1) (q + 1) (q + o + 1) (q + 1 + o) _ (omega arith) (omega arith)
           c.advance.ensures;
       above = above_more c.args.strip.now.block o c.args.row_limits.now c.args.column_limits.now c.args.from q
           (q + o + 32 - (q + o)) _ (omega arith) c.loop-q.invariant.above c.loop-q.invariant.residues

@@ -65,5 +65,6 @@ pub returns-clause-scanned : goal.returns-clause-scanned
 returns-clause-scanned g c =
     let strip = c.args.strip.now in
     let all : c.loop-done.done ≡ strip.end = omega (arith, c.loop-done.invariant.within, c.loop-done-test.false) in
-    subst (λ k. AreScannedIn g.O.Offers.is_scanned strip.block (in_strip strip 0 k) c.args.into.now c.loop-done.into) all
+    subst (λ k. AreScannedIn g.O.Offers.is_scanned strip.block (in_strip strip 0 k) c.args.into.now c.loop-done.into)
+    all
     c.loop-done.invariant.scanned

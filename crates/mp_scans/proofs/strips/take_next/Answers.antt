@@ -10,7 +10,12 @@ use Rattle.mp_scans.proofs.strips.take_next.Goals as goal
 
 pub take_row-requires-clause-few : goal.take_row-requires-clause-few
 take_row-requires-clause-few g c =
-    omega (arith, length-take c.lanes_at-width.result c.as_array.result.now, c.lanes_at-width.ensures, c.args.strip.now.narrow)
+    omega (
+      arith,
+      length-take c.lanes_at-width.result c.as_array.result.now,
+      c.lanes_at-width.ensures,
+      c.args.strip.now.narrow,
+    )
 
 pub take_row-requires-clause-are_columns : goal.take_row-requires-clause-are_columns
 take_row-requires-clause-are_columns g c =

@@ -13,7 +13,7 @@ returns-in-Err-Memory-clause-memory g c = λ left _. record {
   texts = [];
   run =
       have_run_stopped (g.H.Shelf.files c.args.shelf.now) c.args.session.now c.run.new.self c.in-Err-Memory.ensures.stop
-      c.in-Err-Memory.ensures.stop_lines;
+      c.in-Err-Memory.ensures.counted.stop_lines;
   wrote = none;
 }
 
@@ -22,7 +22,7 @@ returns-in-Err-ShelfFault-clause-shelf_fault g c = λ left _. record {
   texts = [];
   run =
       have_run_stopped (g.H.Shelf.files c.args.shelf.now) c.args.session.now c.run.new.self
-      c.in-Err-ShelfFault.ensures.stop c.in-Err-ShelfFault.ensures.stop_lines;
+      c.in-Err-ShelfFault.ensures.stop c.in-Err-ShelfFault.ensures.counted.stop_lines;
   wrote = none;
 }
 
@@ -30,7 +30,8 @@ pub returns-in-Err-ShelfFault-clause-shelf_asked : goal.returns-in-Err-ShelfFaul
 returns-in-Err-ShelfFault-clause-shelf_asked g c = λ state h _.
     ⊎_elim (λ (asks : fetches state c.args.line.now ≡ true). asks)
     (λ (asks : fetches state c.args.line.now ≡ false).
-    absurd (c.in-Err-ShelfFault.ensures.no_fault state h asks (ap Err c.in-Err-ShelfFault.field-0-is)))
+    absurd (c.in-Err-ShelfFault.ensures.shelf.no_fault (record { state = state; stand = h; none = asks })
+    (ap Err c.in-Err-ShelfFault.field-0-is)))
     (cases_Bool (fetches state c.args.line.now))
 
 pub returns-clause-run : goal.returns-clause-run
@@ -42,13 +43,13 @@ returns-clause-run g c = λ left.
       run =
           have_run_one (g.H.Shelf.files c.args.shelf.now) line c.as_slice.result.now c.args.session.now c.run.new.self
           c.is_refused.result
-          (λ state files h t. c.as_slice.ensures ∙ ran.text state files h (told_line state files line t))
-          (λ state files h t. ran.after state files h (told_line state files line t))
+          (λ state files h t. c.as_slice.ensures ∙ (ran.told state files h (told_line state files line t)).text)
+          (λ state files h t. (ran.told state files h (told_line state files line t)).after)
           (λ state files h t.
           c.is_refused.ensures
-          ∙ (ap is_refused (ran.kind state files h (told_line state files line t))
+          ∙ (ap is_refused (ran.told state files h (told_line state files line t)).kind
           ∙ refused_kind state line files))
-          ran.lines;
+          ran.counted.lines;
       wrote = wrote_one c.in_default.ensures.wrote;
     }
 
@@ -60,6 +61,6 @@ returns-in-Err-clause-begun g c = λ left _. record {
   text = c.as_slice.result.now;
   text_is = λ state files h t.
       ap (λ (r : List ℕ). r ∷ [])
-      (c.as_slice.ensures ∙ c.in-Ok.ensures.text state files h (told_line state files c.args.line.now t));
+      (c.as_slice.ensures ∙ (c.in-Ok.ensures.told state files h (told_line state files c.args.line.now t)).text);
   front = c.in-Err.ensures.front;
 }

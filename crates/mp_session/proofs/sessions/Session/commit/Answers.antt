@@ -2,28 +2,28 @@ use Rattle.std.proofs.Common.{ℕ, ◌+◌, ◌≤◌, List, ap, subst}
 use Rattle.std.specs.Prelude.{Vec}
 use Rattle.std.specs.declared.alloc.Global.{Global}
 use Rattle.mp_nums.specs.declared.samples.Sample.{Sample}
-use Rattle.mp_slots.specs.Slots.{Stored, lists_in, reads_to_add}
+use Rattle.mp_stores.specs.Stores.{Stored, lists_in, reads_at, reads_to_add}
 use Rattle.mp_commands.specs.declared.prepared.Change.{Change}
 use Rattle.mp_commands.specs.Preparing.{CanMake}
-use Rattle.mp_commands.specs.Reads.{append_reads, reads_at}
-use Rattle.mp_session.specs.Sessions.{AddsEach, Held}
+use Rattle.mp_commands.specs.Reads.{append_reads}
+use Rattle.mp_session.specs.Sessions.{AddsEach, SessionParts}
 use Rattle.mp_session.proofs.ReadLemmas.{add_reads}
 use Rattle.mp_session.proofs.sessions.Session.commit.Goals as goal
 
 pub returns-in-AddSamples-clause-added : goal.returns-in-AddSamples-clause-added
 returns-in-AddSamples-clause-added c = λ slot count each.
-    let old = c.self.inside.slots in
+    let old = c.self.inside.stores in
     let new = c.add.new.self in
     let at = c.in-AddSamples.slot in
     let lists = lists_in c.in-AddSamples.added.items in
-    let kept = ap (λ (s : Held). s.slots) c.self.view_is in
+    let kept = ap (λ (s : SessionParts). s.stores) c.self.view_is in
     let here = subst (λ (change : Change). AddsEach change slot count) c.in-AddSamples.is each in
-    let can = subst (λ (change : Change). CanMake c.args.self.now.slots change) c.in-AddSamples.is c.requires.can in
-    let same = add_reads c.args.self.now.slots at count lists can.is_open can.room here.1 in
+    let can = subst (λ (change : Change). CanMake c.args.self.now.stores change) c.in-AddSamples.is c.requires.can in
+    let same = add_reads c.args.self.now.stores at count lists can.is_open can.room here.1 in
     let added =
     subst (λ (all : List (Vec Sample Global)). reads_at new at ≤ reads_at old at + reads_to_add old at (lists_in all))
     c.as_slice.ensures.value c.add.ensures.reads in
     let read = subst (λ (s : Stored). reads_at new at ≤ reads_at s at + reads_to_add s at lists) kept added in
-    subst (λ (s : ℕ). reads_at new s ≤ reads_at c.args.self.now.slots s + append_reads c.args.self.now.slots s count)
+    subst (λ (s : ℕ). reads_at new s ≤ reads_at c.args.self.now.stores s + append_reads c.args.self.now.stores s count)
     here.0
-    (subst (λ (n : ℕ). reads_at new at ≤ reads_at c.args.self.now.slots at + n) same read)
+    (subst (λ (n : ℕ). reads_at new at ≤ reads_at c.args.self.now.stores at + n) same read)

@@ -1,91 +1,136 @@
-use Rattle.std.proofs.Common.{ℕ, ◌+◌, ◌∙◌, ◌≤◌, Bool, ap, sym, subst}
+use Rattle.std.proofs.Common.{◌∙◌, Bool, Ok, ap, refl, rules, sym, subst}
 use Rattle.mp_replies.specs.Line.{asked_of}
-use Rattle.mp_slots.specs.Slots.{Stored}
-use Rattle.mp_commands.specs.Answers.{is_accepted, shown}
-use Rattle.mp_commands.specs.Reads.{most_reads, reads_at}
-use Rattle.mp_session.specs.Sessions.{Held, HasCommitted, StandsFor}
-use Rattle.mp_session.proofs.EndLemmas.{passed_on}
-use Rattle.mp_session.proofs.ReadLemmas.{most_is}
-use Rattle.mp_session.proofs.StepLemmas.{kind_is, prepared_in, stands_after, state_is, text_is, unfetched_in}
+use Rattle.mp_commands.specs.Answers.{is_accepted}
+use Rattle.mp_commands.specs.declared.replies.Stop.{Stop}
+use Rattle.mp_session.specs.Sessions.{AsksNoFile, SessionParts, HasCommitted, StandsFor, WereReadBy}
+use Rattle.mp_session.proofs.AnyShelf.{accepted_by_some, file_refused_by, unaccepted_by}
+use Rattle.mp_session.proofs.EndLemmas.{no_shelf_fault, on_err, passed_back, passed_on}
+use Rattle.mp_session.proofs.ReadLemmas.{answered_reads, stopped_reads}
+use Rattle.mp_session.proofs.StepLemmas.{asked_by, needs_no_file, prepared_by, prepared_in, replied, stands_still}
 use Rattle.mp_session.proofs.sessions.Session.run.Goals as goal
+use Rattle.mp_replies.specs.State.{first_version}
 
-pub returns-in_err-prepared-clause-unfetched : goal.returns-in_err-prepared-clause-unfetched
-returns-in_err-prepared-clause-unfetched g c = λ state h none.
-    let inside = subst (λ (s : Held). StandsFor s state) (sym c.self.view_is) h in
-    c.prepare.ensures.shelf.unfetched (unfetched_in _ state _ (state_is _ state c.self.invariant inside) none)
+-- ---- the run stopped at the line
 
-pub returns-in_err-prepared-clause-no_fault : goal.returns-in_err-prepared-clause-no_fault
-returns-in_err-prepared-clause-no_fault g c = λ state h none fault.
-    let inside = subst (λ (s : Held). StandsFor s state) (sym c.self.view_is) h in
-    c.in_err-prepared.ensures.shelf.no_fault (unfetched_in _ state _ (state_is _ state c.self.invariant inside) none)
-    (passed_on c.from_residual.result _ _ c.from_residual.ensures.1 fault)
+pub returns-in_err-prepared-clause-stop : goal.returns-in_err-prepared-clause-stop
+returns-in_err-prepared-clause-stop g c = λ state h.
+    let inside = subst (λ (s : SessionParts). StandsFor s state) (sym c.self.view_is) h in
+    on_err c.from_residual.result
+    (stands_still _ _ state refl refl refl c.prepare.ensures.stores.stands inside)
 
-pub returns-in_err-reply-clause-unfetched : goal.returns-in_err-reply-clause-unfetched
-returns-in_err-reply-clause-unfetched g c = λ state h none.
-    let inside = subst (λ (s : Held). StandsFor s state) (sym c.self.view_is) h in
-    c.prepare.ensures.shelf.unfetched (unfetched_in _ state _ (state_is _ state c.self.invariant inside) none)
+pub returns-in_err-prepared-clause-reads : goal.returns-in_err-prepared-clause-reads
+returns-in_err-prepared-clause-reads g c =
+    let asked = asked_of first_version c.args.line.now in
+    subst (λ (s : SessionParts). WereReadBy asked s.stores c.prepare.new.stores c.from_residual.result) c.self.view_is
+    (stopped_reads asked c.self.inside.stores c.prepare.new.stores c.from_residual.result (search rules)
+    c.prepare.ensures.stores.read)
 
-pub returns-clause-unfetched : goal.returns-clause-unfetched
-returns-clause-unfetched g c = λ state h none.
-    let inside = subst (λ (s : Held). StandsFor s state) (sym c.self.view_is) h in
-    c.prepare.ensures.shelf.unfetched (unfetched_in _ state _ (state_is _ state c.self.invariant inside) none)
+pub returns-in_err-prepared-clause-shelf : goal.returns-in_err-prepared-clause-shelf
+returns-in_err-prepared-clause-shelf g c =
+    let line = c.args.line.now in
+    asked_by c.in_err-prepared.ensures.shelf
+    (λ none. needs_no_file _ _ line (λ stores. refl) c.self.invariant
+    (subst (λ (s : SessionParts). AsksNoFile line s) (sym c.self.view_is) none))
+    (passed_on c.from_residual.result _ _ c.from_residual.ensures.1)
+    (passed_back c.from_residual.result _ _ c.from_residual.ensures.1)
 
-pub returns-clause-text : goal.returns-clause-text
-returns-clause-text g c = λ state files h told.
+pub returns-in_err-reply-clause-stop : goal.returns-in_err-reply-clause-stop
+returns-in_err-reply-clause-stop g c = λ state h.
+    let inside = subst (λ (s : SessionParts). StandsFor s state) (sym c.self.view_is) h in
+    on_err c.from_residual-in_err-reply.result
+    (stands_still _ _ state refl refl refl c.prepare.ensures.stores.stands inside)
+
+pub returns-in_err-reply-clause-reads : goal.returns-in_err-reply-clause-reads
+returns-in_err-reply-clause-reads g c =
+    let asked = asked_of first_version c.args.line.now in
+    let stop = c.from_residual-in_err-reply.result in
+    subst (λ (s : SessionParts). WereReadBy asked s.stores c.prepare.new.stores stop) c.self.view_is
+    (stopped_reads asked c.self.inside.stores c.prepare.new.stores stop (search rules) c.prepare.ensures.stores.read)
+
+pub returns-in_err-reply-clause-shelf : goal.returns-in_err-reply-clause-shelf
+returns-in_err-reply-clause-shelf g c =
+    let line = c.args.line.now in
+    asked_by c.in_ok-prepared.ensures.shelf
+    (λ none. needs_no_file _ _ line (λ stores. refl) c.self.invariant
+    (subst (λ (s : SessionParts). AsksNoFile line s) (sym c.self.view_is) none))
+    (λ fault. absurd
+    (no_shelf_fault c.from_residual-in_err-reply.result c.from_residual-in_err-reply.ensures.1 fault))
+    (λ fault. absurd (cc fault))
+
+-- ---- the line was answered
+
+pub returns-clause-told : goal.returns-clause-told
+returns-clause-told g c = λ state files h told.
     let line = c.args.line.now in
     let prepared = c.in_ok-prepared.prepared in
-    let inside = subst (λ (s : Held). StandsFor s state) (sym c.self.view_is) h in
-    let same = state_is _ state c.self.invariant inside in
-    let step = prepared_in _ state files line prepared _ same c.in_ok-prepared.ensures.prepared.ok told in
-    c.in_ok-reply.ensures.text
-    ∙ (ap (λ (n : ℕ). shown (n + 1) prepared.answer) (sym inside.lines_is)
-    ∙ text_is state files line prepared step)
-
-pub returns-clause-kind : goal.returns-clause-kind
-returns-clause-kind g c = λ state files h told.
-    let line = c.args.line.now in
-    let prepared = c.in_ok-prepared.prepared in
-    let inside = subst (λ (s : Held). StandsFor s state) (sym c.self.view_is) h in
-    let same = state_is _ state c.self.invariant inside in
-    let step = prepared_in _ state files line prepared _ same c.in_ok-prepared.ensures.prepared.ok told in
-    c.in_ok-reply.ensures.kind ∙ kind_is state files line prepared step
-
-pub returns-clause-after : goal.returns-clause-after
-returns-clause-after g c = λ state files h told.
-    let line = c.args.line.now in
-    let prepared = c.in_ok-prepared.prepared in
-    let inside = subst (λ (s : Held). StandsFor s state) (sym c.self.view_is) h in
-    let same = state_is _ state c.self.invariant inside in
-    let step = prepared_in _ state files line prepared _ same c.in_ok-prepared.ensures.prepared.ok told in
-    let mid : Held =
+    let inside = subst (λ (s : SessionParts). StandsFor s state) (sym c.self.view_is) h in
+    let step = prepared_in _ state files line prepared _ c.self.invariant inside c.in_ok-prepared.ensures.prepared.ok
+    told in
+    let mid : SessionParts =
     record {
       settings = c.self.inside.settings;
       lines = c.self.inside.lines;
       begun = c.self.inside.begun;
-      slots = c.prepare.new.slots;
+      stores = c.prepare.new.stores;
     } in
-    let stands : StandsFor mid state =
+    let stands = stands_still _ mid state refl refl refl c.prepare.ensures.stores.stands inside in
+    let made =
+    subst (λ (b : Bool). HasCommitted mid c.commit.new.self prepared.change b)
+    (c.is_accepted-accepted.ensures ∙ ap is_accepted c.kind.ensures) c.commit.ensures.committed in
+    replied mid c.commit.new.self state files line prepared c.in_ok-reply.reply
+    (c.prepare.ensures.stores.stands.window_is ∙ c.self.invariant) (c.in_ok-reply.ensures.text state)
+    c.in_ok-reply.ensures.kind made stands step
+
+pub returns-clause-some_files : goal.returns-clause-some_files
+returns-clause-some_files g c =
+    let line = c.args.line.now in
+    let prepared = c.in_ok-prepared.prepared in
+    let some = c.in_ok-prepared.ensures.some_files in
+    let mid : SessionParts =
     record {
-      window_is = inside.window_is;
-      scale_is = inside.scale_is;
-      lines_is = inside.lines_is;
-      begun_is = inside.begun_is;
-      stores_is = inside.stores_is ∙ sym c.prepare.ensures.slots.stores;
+      settings = c.self.inside.settings;
+      lines = c.self.inside.lines;
+      begun = c.self.inside.begun;
+      stores = c.prepare.new.stores;
     } in
     let made =
     subst (λ (b : Bool). HasCommitted mid c.commit.new.self prepared.change b)
     (c.is_accepted-accepted.ensures ∙ ap is_accepted c.kind.ensures) c.commit.ensures.committed in
-    stands_after mid c.commit.new.self state files line prepared stands step made
+    record {
+      files = some.files;
+      is = λ state h.
+          let inside = subst (λ (s : SessionParts). StandsFor s state) (sym c.self.view_is) h in
+          let step = prepared_by _ state some.files line prepared c.self.invariant inside some.is in
+          let stands = stands_still _ mid state refl refl refl c.prepare.ensures.stores.stands inside in
+          replied mid c.commit.new.self state some.files line prepared c.in_ok-reply.reply
+          (c.prepare.ensures.stores.stands.window_is ∙ c.self.invariant) (c.in_ok-reply.ensures.text state)
+          c.in_ok-reply.ensures.kind made stands step;
+    }
 
-pub returns-clause-most_reads : goal.returns-clause-most_reads
-returns-clause-most_reads g c = λ slot fresh.
-    let old = c.self.inside.slots in
-    let mid = c.prepare.new.slots in
-    let new = c.commit.new.self.slots in
-    let asked = asked_of c.args.line.now in
-    let kept = ap (λ (s : Held). s.slots) c.self.view_is in
+pub returns-clause-unaccepted : goal.returns-clause-unaccepted
+returns-clause-unaccepted g c = λ state h. unaccepted_by state _ _ _ _ (returns-clause-some_files g c) h
+
+pub returns-clause-accepted : goal.returns-clause-accepted
+returns-clause-accepted g c = λ state h. accepted_by_some state _ _ _ _ (returns-clause-some_files g c) h
+
+pub returns-clause-file_refused : goal.returns-clause-file_refused
+returns-clause-file_refused g c = λ state h asks. file_refused_by state _ _ _ _ (returns-clause-some_files g c) h asks
+
+pub returns-clause-reads : goal.returns-clause-reads
+returns-clause-reads g c =
+    let asked = asked_of first_version c.args.line.now in
+    let new = c.commit.new.self.stores in
+    let reply = c.in_ok-reply.reply in
     let is = c.in_ok-prepared.ensures in
-    subst (λ (s : Stored). reads_at new slot ≤ reads_at s slot + most_reads s asked slot) kept
-    (most_is old mid new asked c.in_ok-prepared.prepared.change slot fresh (is.ready.renewed slot) is.ready.adds
-    (c.commit.ensures.rest slot) c.commit.ensures.added c.prepare.ensures.slots.m c.prepare.ensures.slots.stores
-    c.prepare.ensures.slots.read)
+    subst (λ (s : SessionParts). WereReadBy {E = Stop} asked s.stores new (Ok reply)) c.self.view_is
+    (answered_reads asked c.self.inside.stores c.prepare.new.stores new c.in_ok-prepared.prepared reply
+    c.in_ok-reply.ensures.kind is.ready is.unread c.prepare.ensures.stores c.commit.ensures.rise c.commit.ensures.rest
+    c.commit.ensures.added)
+
+pub returns-clause-shelf : goal.returns-clause-shelf
+returns-clause-shelf g c =
+    let line = c.args.line.now in
+    asked_by c.in_ok-prepared.ensures.shelf
+    (λ none. needs_no_file _ _ line (λ stores. refl) c.self.invariant
+    (subst (λ (s : SessionParts). AsksNoFile line s) (sym c.self.view_is) none))
+    (λ fault. absurd (cc fault)) (λ fault. absurd (cc fault))

@@ -20,6 +20,7 @@ returns-clause-value c =
     (ap (λ column. column ∷ []) (c.scan_join.ensures.taken
     ∙ ap (λ (w : ℕ). merged_column old.items (nearest_column (has_pair (w - 1) c.tile.result) plan.grid.m
     (row_series plan) (column_series plan))) (c.requires.size ∙ sym size)
-    ∙ ap (λ (t : Tile). merged_column old.items (nearest_column (has_pair (windows (length plan.grid.rows.now) plan.grid.m - 1) t) plan.grid.m
+    ∙ ap (λ (t : Tile). merged_column old.items (nearest_column (has_pair (windows (length plan.grid.rows.now)
+    plan.grid.m - 1) t) plan.grid.m
     (row_series plan) (column_series plan)))
     (sym (get_or_from_slice_get c.self.inside.cut c.args.piece c.tile.result no_tile c.tile.ensures))))

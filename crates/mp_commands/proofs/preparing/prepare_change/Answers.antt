@@ -1,0 +1,19 @@
+use Rattle.std.proofs.Common.{ap, subst, sym}
+use Rattle.std.specs.Prelude.{IfOk}
+use Rattle.mp_replies.specs.Line.{Asked}
+use Rattle.mp_commands.specs.Preparing.{IsPreparedBySome}
+use Rattle.mp_commands.specs.Requests.{changed_in}
+use Rattle.mp_commands.proofs.PreparingLemmas.{some_taken}
+use Rattle.mp_commands.proofs.preparing.prepare_change.Goals as goal
+
+pub returns-in-Open-clause-some_files : goal.returns-in-Open-clause-some_files
+returns-in-Open-clause-some_files g c =
+    subst (λ (what : Asked). IfOk c.prepare_open.result (IsPreparedBySome c.args.context what c.args.stores.now))
+    (sym (ap changed_in c.in-Open.is))
+    (some_taken c.args.context _ c.args.stores.now c.prepare_open.result c.prepare_open.ensures.prepared)
+
+pub returns-in-Append-clause-some_files : goal.returns-in-Append-clause-some_files
+returns-in-Append-clause-some_files g c =
+    subst (λ (what : Asked). IfOk c.prepare_append.result (IsPreparedBySome c.args.context what c.args.stores.now))
+    (sym (ap changed_in c.in-Append.is))
+    (some_taken c.args.context _ c.args.stores.now c.prepare_append.result c.prepare_append.ensures.prepared)

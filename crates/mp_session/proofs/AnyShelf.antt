@@ -1,0 +1,166 @@
+-- What a line does whatever the shelf tells.
+use Rattle.std.proofs.Common.{◌≡◌, ℕ, zero, suc, ◌+◌, ◌==◌, Bool, true, false, List, [], ◌∷◌, ◌++◌, set, refl, ap}
+use Rattle.std.proofs.Common.{◌∙◌, sym, subst, arith}
+use Rattle.std.proofs.lemmas.Bool.Decides.{nat_tests}
+use Rattle.std.specs.Prelude.{Option, Some, None, is_none, if◌then◌else◌}
+use Rattle.mp_commands.specs.Answers.{is_accepted, kind_of}
+use Rattle.mp_commands.specs.declared.answers.ReplyKind.TheVariants as kinds
+use Rattle.mp_replies.specs.declared.causes.Cause.{Cause}
+use Rattle.mp_replies.specs.declared.causes.Cause.TheVariants.{File, FileSize, Record, Rows}
+use Rattle.mp_replies.specs.Change.{Change, changed}
+use Rattle.mp_replies.specs.Command as asked
+use Rattle.mp_replies.specs.Command.{Command}
+use Rattle.mp_replies.specs.Conditions.{Condition, first_cause}
+use Rattle.mp_replies.specs.Line.{Asked, Asks, Faulty, Nothing, asked_of}
+use Rattle.mp_replies.specs.LoadCommand.{file_conditions, file_in, load_conditions}
+use Rattle.mp_replies.specs.Output.{reply}
+use Rattle.mp_replies.specs.Report.{text_of}
+use Rattle.mp_replies.specs.State.{Files, State, Store, store_at}
+use Rattle.mp_replies.specs.Step.{IsAccepted, IsRefused, Passes, Verdict, after, after_by, answer, answer_by}
+use Rattle.mp_replies.specs.Step.{change_by, conditions, counted, fetches, fetches_by, is_last, report_by, verdict}
+use Rattle.mp_replies.specs.Step.{verdict_by, verdict_of}
+use Rattle.mp_commands.specs.declared.replies.Reply.{Reply}
+use Rattle.mp_session.specs.Sessions.{IsFileRefused, IsOfFile, IsReplyBySome, SessionParts, StandsFor, WasAccepted}
+use Rattle.mp_session.specs.Sessions.{changes}
+use Rattle.mp_session.proofs.StepLemmas.{accepted_by}
+use Rattle.mp_replies.specs.State.{version_of}
+
+-- ---- a line that isn't accepted
+
+counted_by : (state later : State) (v : Verdict) → is_accepted (kind_of (answer_by later v)) ≡ false
+    → after_by state v ≡ counted state
+counted_by state later Passes h = refl
+counted_by state later (IsRefused why) h = refl
+counted_by state later (IsAccepted command change) h =
+    absurd (cc (accepted_by (is_last command) (report_by later command), h))
+
+pub unaccepted_after : (state : State) (line : List ℕ) (files : Files)
+    → is_accepted (kind_of (answer state line files)) ≡ false → after state line files ≡ counted state
+unfolding answer after
+unaccepted_after state line files h =
+    counted_by state (after_by state (verdict state line files)) (verdict state line files) h
+
+-- ---- one that is
+
+other_store : (stores : List Store) (at slot : ℕ) (store : Store) → (slot == at) ≡ false
+    → store_at (set stores at store) slot ≡ store_at stores slot
+other_store [] at slot store apart = refl
+other_store (s ∷ stores) zero zero store apart = absurd (cc apart)
+other_store (s ∷ stores) zero (suc slot) store apart = refl
+other_store (s ∷ stores) (suc at) zero store apart = refl
+other_store (s ∷ stores) (suc at) (suc slot) store apart =
+    let rest : (slot == at) ≡ false = grind (arith, nat_tests) in other_store stores at slot store rest
+
+others_stay : (state : State) (files : Files) (command : Command) (slot : ℕ) → changes (Asks command) slot ≡ false
+    → store_at (changed state.stores (change_by state files command)) slot ≡ store_at state.stores slot
+others_stay state files (asked.OpenSlot at channels) slot apart = other_store state.stores at slot _ apart
+others_stay state files (asked.Load at file columns header) slot apart = other_store state.stores at slot _ apart
+others_stay state files (asked.Append at items) slot apart = other_store state.stores at slot _ apart
+others_stay state files other slot apart = refl
+
+accepted_where : (state later : State) (new : SessionParts) (command : Command) (why : Option Cause) (change : Change)
+    → ((slot : ℕ) → changes (Asks command) slot ≡ false
+    → store_at (changed state.stores change) slot ≡ store_at state.stores slot)
+    → is_accepted (kind_of (answer_by later (verdict_by command why change))) ≡ true
+    → StandsFor new (after_by state (verdict_by command why change)) → WasAccepted (Asks command) state new
+accepted_where state later new command (Some why) change stay h stands = absurd (cc h)
+accepted_where state later new command None change stay h stands =
+    record { stores = changed state.stores change; stands = stands; others = stay }
+
+accepted_of : (state later : State) (new : SessionParts) (files : Files) (what : Asked)
+    → is_accepted (kind_of (answer_by later (verdict_of state files what))) ≡ true
+    → StandsFor new (after_by state (verdict_of state files what)) → WasAccepted what state new
+accepted_of state later new files Nothing h stands = absurd (cc h)
+accepted_of state later new files (Faulty why) h stands = absurd (cc h)
+accepted_of state later new files (Asks command) h stands =
+    accepted_where state later new command (first_cause (conditions state files command)) (change_by state files
+    command)
+    (others_stay state files command) h stands
+
+pub was_accepted : (state : State) (new : SessionParts) (line : List ℕ) (files : Files)
+    → is_accepted (kind_of (answer state line files)) ≡ true → StandsFor new (after state line files)
+    → WasAccepted (asked_of (version_of state) line) state new
+unfolding answer after verdict
+was_accepted state new line files h stands =
+    accepted_of state (after_by state (verdict_of state files (asked_of (version_of state) line))) new files (asked_of
+    (version_of state) line) h stands
+
+-- ---- a load that is refused by its file
+
+by_word : (holds : Bool) (word cause : Cause) (others : Option Cause) → IsOfFile word
+    → (others ≡ Some cause → IsOfFile cause) → (if holds then Some word else others) ≡ Some cause → IsOfFile cause
+by_word true word cause others is rest h = let same : word ≡ cause = cc in subst IsOfFile same is
+by_word false word cause others is rest h = rest h
+
+of_file : (scale : ℕ) (cols : List ℕ) (header : Bool) (found : Option (List ℕ)) (cause : Cause)
+    → first_cause (file_conditions scale cols header found) ≡ Some cause → IsOfFile cause
+of_file scale cols header None cause h = by_word true File cause None tt (λ none. absurd (cc none)) h
+of_file scale cols header (Some bytes) cause h =
+    by_word _ FileSize cause _ tt
+    (by_word _ (Record _) cause _ tt (by_word _ Rows cause None tt (λ none. absurd (cc none)))) h
+
+behind_by : (holds : Bool) (word : Cause) (others more : List Condition)
+    → is_none (if holds then Some word else first_cause others) ≡ true
+    → (is_none (first_cause others) ≡ true → first_cause (others ++ more) ≡ first_cause more)
+    → (if holds then Some word else first_cause (others ++ more)) ≡ first_cause more
+behind_by true word others more h rest = absurd (cc h)
+behind_by false word others more h rest = rest h
+
+-- conditions behind others that don't hold
+behind : (conditions more : List Condition) → is_none (first_cause conditions) ≡ true
+    → first_cause (conditions ++ more) ≡ first_cause more
+behind [] more h = refl
+behind (condition ∷ others) more h = behind_by condition.holds condition.word others more h (behind others more)
+
+refused_where : (later : State) (slot line : ℕ) (file cols : List ℕ) (header : Bool) (why : Option Cause)
+    (change : Change) (text : List ℕ) → ((cause : Cause) → why ≡ Some cause → IsOfFile cause)
+    → kinds.Refused ≡ kind_of (answer_by later (verdict_by (asked.Load slot file cols header) why change))
+    → text ≡ text_of line (answer_by later (verdict_by (asked.Load slot file cols header) why change))
+    → IsFileRefused line text
+refused_where later slot line file cols header (Some cause) change text of kind is =
+    record { cause = cause; of_file = of cause refl; text_is = is }
+refused_where later slot line file cols header None change text of kind is = absurd (cc kind)
+
+refused_of : (state later : State) (files : Files) (what : Asked) (line : ℕ) (text : List ℕ)
+    → fetches_by state what ≡ true → kinds.Refused ≡ kind_of (answer_by later (verdict_of state files what))
+    → text ≡ text_of line (answer_by later (verdict_of state files what)) → IsFileRefused line text
+refused_of state later files Nothing line text asks kind is = absurd (cc asks)
+refused_of state later files (Faulty why) line text asks kind is = absurd (cc asks)
+refused_of state later files (Asks (asked.Load slot file cols header)) line text asks kind is =
+    refused_where later slot line file cols header
+    (first_cause (conditions state files (asked.Load slot file cols header)))
+    (change_by state files (asked.Load slot file cols header)) text
+    (λ cause h. of_file state.scale cols header (file_in files file) cause
+    (sym (behind (load_conditions state.stores slot cols)
+    (file_conditions state.scale cols header (file_in files file)) asks) ∙ h))
+    kind is
+refused_of state later files (Asks other) line text asks kind is = absurd (cc asks)
+
+pub file_refused : (state : State) (line : List ℕ) (files : Files) (text : List ℕ) → fetches state line ≡ true
+    → kinds.Refused ≡ kind_of (answer state line files) → text ≡ reply state line files
+    → IsFileRefused (state.lines + 1) text
+unfolding answer verdict fetches reply
+file_refused state line files text asks kind is =
+    refused_of state (after state line files) files (asked_of (version_of state) line) (state.lines + 1) text asks
+    kind is
+
+-- ---- what a reply by some files says of the session
+
+module _ (state : State) (old new : SessionParts) (line : List ℕ) (answered : Reply)
+    (some : IsReplyBySome line old new answered) (h : StandsFor old state) where
+  pub unaccepted_by : is_accepted answered.kind ≡ false → StandsFor new (counted state)
+  unaccepted_by unaccepted =
+      let by = some.is state h in
+      subst (StandsFor new) (unaccepted_after state line some.files (ap is_accepted (sym by.kind)
+      ∙ unaccepted)) by.after
+
+  pub accepted_by_some : is_accepted answered.kind ≡ true → WasAccepted (asked_of (version_of state) line) state new
+  accepted_by_some accepted =
+      let by = some.is state h in
+      was_accepted state new line some.files (ap is_accepted (sym by.kind) ∙ accepted) by.after
+
+  pub file_refused_by : fetches state line ≡ true → answered.kind ≡ kinds.Refused
+      → IsFileRefused (state.lines + 1) answered.text.items
+  file_refused_by asks refused =
+      let by = some.is state h in
+      file_refused state line some.files answered.text.items asks (sym refused ∙ by.kind) by.text

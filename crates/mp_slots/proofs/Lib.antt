@@ -1,4 +1,0 @@
-pub mod ArcLemmas
-pub mod CopyLemmas
-pub mod GroupLemmas
-pub mod SlotLemmas

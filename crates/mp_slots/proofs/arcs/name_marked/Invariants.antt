@@ -1,5 +1,0 @@
-use Rattle.mp_slots.proofs.ArcLemmas.{AreNamed}
-use Rattle.mp_slots.proofs.arcs.name_marked.Given as goal
-
-abbrev pub invariant-loop-block : goal.invariant-loop-block
-invariant-loop-block l = AreNamed l.profile l.changed l.block l.board.items

@@ -1,7 +1,0 @@
-use Rattle.std.proofs.Common.{◌≡◌, ◌-◌, ◌^◌, take}
-use Rattle.std.specs.Prelude.{min}
-use Rattle.mp_slots.specs.Slots.{reads_in}
-use Rattle.mp_slots.proofs.groups.reads_of.Given as goal
-
-abbrev pub invariant-loop-channel : goal.invariant-loop-channel
-invariant-loop-channel l = l.reads ≡ min (reads_in (take l.channel-index l.channels)) (2 ^ 128 - 1)

@@ -1,6 +1,0 @@
-use Rattle.std.proofs.Common.{take}
-use Rattle.mp_slots.proofs.CopyLemmas.{AreCopied}
-use Rattle.mp_slots.proofs.slots.Slots.copies.Given as goal
-
-abbrev pub invariant-loop-at : goal.invariant-loop-at
-invariant-loop-at l = AreCopied l.initial.self (take l.at-index l.refs) l.bundle l.self

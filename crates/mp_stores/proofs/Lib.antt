@@ -1,0 +1,4 @@
+pub mod ArcLemmas
+pub mod CopyLemmas
+pub mod GroupLemmas
+pub mod StoreLemmas

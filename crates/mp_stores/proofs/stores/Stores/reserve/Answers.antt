@@ -1,0 +1,44 @@
+use Rattle.std.proofs.Common.{◌≤◌, ap, arith, set, subst, sym}
+use Rattle.std.specs.Prelude.{All, OnOk, Result, Ok, Err}
+use Rattle.mp_stores.specs.Seen.{held_of}
+use Rattle.mp_stores.specs.StoreLaws.{last_at}
+use Rattle.mp_stores.specs.Stores.{Held, count_of, slot_at, streams_in}
+use Rattle.mp_stores.proofs.StoreLemmas.{AreSeen, IsReadSlot, none_read_at, room_for, seen_read, view}
+use Rattle.mp_stores.proofs.stores.Stores.reserve.Goals as goal
+
+abbrev on_ok : {T E P Q : Type 0} (r : Result T E) → OnOk r P → (P → Q) → OnOk r Q
+on_ok (Ok x) p f = f p
+on_ok (Err e) p f = tt
+
+abbrev all : (c : goal.After-self-1)
+    → AreSeen c.self.inside.m c.self.inside.stored.items c.args.self.now c.args.slot
+all c = record { seen = c.self.view_is; are = c.self.invariant; within = c.requires }
+
+abbrev read : (c : goal.After-self-1)
+    → IsReadSlot c.args.self.now (view c.self.inside.m (set c.self.inside.stored.items c.args.slot c.reserve.new.self))
+    c.args.slot (held_of c.reserve.new.self) 0
+read c =
+    seen_read c.self.inside.m c.self.inside.stored.items c.args.self.now c.args.slot c.index_mut.result.now
+    c.reserve.new.self (λ h. 0) (all c) c.index_mut.ensures.value c.reserve.ensures.read
+
+pub invariant_of-self : goal.invariant_of-self
+invariant_of-self c = (read c).are
+
+pub returns-clause-stands : goal.returns-clause-stands
+returns-clause-stands c = (read c).read.stands
+
+pub returns-clause-reads : goal.returns-clause-reads
+returns-clause-reads c = λ other. none_read_at c.args.self.now _ c.args.slot other (read c).read
+
+pub returns-clause-ok : goal.returns-clause-ok
+returns-clause-ok c =
+    subst (λ (h : Held). OnOk c.reserve.result (All (λ channel. c.args.more ≤ channel.spare) (streams_in h)))
+    (sym (read c).here) c.reserve.ensures.ok
+
+pub returns-clause-room : goal.returns-clause-room
+returns-clause-room c = λ added.
+    let new = view c.self.inside.m (set c.self.inside.stored.items c.args.slot c.reserve.new.self) in
+    let last = last_at c.args.self.now new c.args.slot (read c).read.stands in
+    on_ok c.reserve.result (returns-clause-ok c) (λ spare long lists fits.
+    room_for new.m (slot_at new c.args.slot) added c.args.more ((read c).are.each c.args.slot) spare long lists
+    (omega (arith, fits, ap count_of last.items)))

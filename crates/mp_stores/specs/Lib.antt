@@ -1,0 +1,4 @@
+pub mod Stores
+pub mod Channels
+pub mod Seen
+pub mod StoreLaws

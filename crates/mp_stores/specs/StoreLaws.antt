@@ -1,0 +1,197 @@
+-- What is read of the stores is read of the slots.
+use Rattle.std.specs.Prelude.{◌≡◌, ◌↔◌, ◌==◌, ℕ, ◌<◌, List, [], ◌∷◌, length, map, slice_index_or}
+use Rattle.std.proofs.Common.{zero, suc, refl, ap, ◌∙◌, sym, arith}
+use Rattle.std.proofs.lemmas.Bool.Decides.{nat_tests}
+use Rattle.std.proofs.lemmas.List.{length-map}
+use Rattle.std.proofs.lemmas.Simd.{map-map}
+use Rattle.mp_defs.specs.Series.{Series, reading_of, series_of}
+use Rattle.mp_nums.specs.declared.samples.Sample.{Sample}
+use Rattle.mp_replies.specs.declared.refs.Ref.{Ref}
+use Rattle.mp_replies.specs.State as states
+use Rattle.mp_replies.specs.State.{Store, channels_at, channels_in, is_closed, samples_in, series_at, store_at}
+use Rattle.mp_stores.specs.Stores.{Held, Closed, Open, HoldsAsBefore, IsChannel, StandAsBefore, StandFor}
+use Rattle.mp_stores.specs.Stores.{StandForStore, Stored, channel_at, channel_series, count_in, items_in, lasting}
+use Rattle.mp_stores.specs.Stores.{nothing, series_in, slot_at, streams_at, streams_in}
+use Rattle.mp_stream.specs.Streams.{Streamed}
+
+-- ---- one slot
+
+-- as many channels
+channels_counted : (held : Held) (store : Store) → StandForStore held store
+    → length (channels_in store) ≡ length (streams_in held)
+channels_counted Closed states.Closed stands = refl
+channels_counted Closed (states.Open series) stands = absurd stands
+channels_counted (Open channels) states.Closed stands = absurd stands
+channels_counted (Open channels) (states.Open series) stands =
+    ap length stands ∙ length-map channels (λ (c : Streamed). series_of c.items)
+
+-- the channels of an open slot
+channels_are : (held : Held) (store : Store) → 0 < length (streams_in held) → StandForStore held store
+    → channels_in store ≡ series_in (streams_in held)
+channels_are Closed store some stands = absurd (omega (arith, some))
+channels_are (Open channels) states.Closed some stands = absurd stands
+channels_are (Open channels) (states.Open series) some stands = stands
+
+first_counted : (channels : List Streamed) → samples_in (series_in channels) ≡ count_in channels
+first_counted [] = refl
+first_counted (channel ∷ channels) = length-map channel.items reading_of
+
+samples_counted : (held : Held) (store : Store) → StandForStore held store
+    → samples_in (channels_in store) ≡ count_in (streams_in held)
+samples_counted Closed states.Closed stands = refl
+samples_counted Closed (states.Open series) stands = absurd stands
+samples_counted (Open channels) states.Closed stands = absurd stands
+samples_counted (Open channels) (states.Open series) stands = ap samples_in stands ∙ first_counted channels
+
+closed_by_count : (held : Held) (store : Store) → (streams_in held ≡ [] → held ≡ Closed) → StandForStore held store
+    → is_closed store ≡ (length (streams_in held) == 0)
+closed_by_count Closed states.Closed none stands = refl
+closed_by_count Closed (states.Open series) none stands = absurd stands
+closed_by_count (Open channels) states.Closed none stands = absurd stands
+closed_by_count (Open []) (states.Open series) none stands = absurd (cc (none refl))
+closed_by_count (Open (channel ∷ channels)) (states.Open series) none stands = grind (arith, nat_tests)
+
+closed_for_closed : (held : Held) (store : Store) → StandForStore held store
+    → held ≡ Closed ↔ (store ≡ states.Closed)
+closed_for_closed Closed states.Closed stands = (λ h. refl, λ h. refl)
+closed_for_closed Closed (states.Open series) stands = absurd stands
+closed_for_closed (Open channels) states.Closed stands = absurd stands
+closed_for_closed (Open channels) (states.Open series) stands = (λ h. absurd (cc h), λ h. absurd (cc h))
+
+pub series_in_channel : (channels : List Streamed) (k : ℕ)
+    → slice_index_or (series_in channels) k [] ≡ series_of (slice_index_or channels k nothing).items
+series_in_channel [] k = refl
+series_in_channel (channel ∷ channels) zero = refl
+series_in_channel (channel ∷ channels) (suc k) = series_in_channel channels k
+
+-- ---- several
+
+pub count_stands : (stored : Stored) (stores : List Store) (slot : ℕ) → StandFor stored stores
+    → length (channels_at stores slot) ≡ length (streams_at stored slot)
+count_stands stored stores slot stand =
+    channels_counted (slot_at stored slot) (store_at stores slot) (stand.each slot)
+
+-- how many samples each channel of a slot has
+pub samples_stand : (stored : Stored) (stores : List Store) (slot : ℕ) → StandFor stored stores
+    → samples_in (channels_at stores slot) ≡ count_in (streams_at stored slot)
+samples_stand stored stores slot stand =
+    samples_counted (slot_at stored slot) (store_at stores slot) (stand.each slot)
+
+pub is_closed_stands : (stored : Stored) (stores : List Store) (slot : ℕ) → StandFor stored stores
+    → (streams_at stored slot ≡ [] → slot_at stored slot ≡ Closed)
+    → is_closed (store_at stores slot) ≡ (length (streams_at stored slot) == 0)
+is_closed_stands stored stores slot stand none =
+    closed_by_count (slot_at stored slot) (store_at stores slot) none (stand.each slot)
+
+pub closed_stands : (stored : Stored) (stores : List Store) (slot : ℕ) → StandFor stored stores
+    → slot_at stored slot ≡ Closed ↔ (store_at stores slot ≡ states.Closed)
+closed_stands stored stores slot stand =
+    closed_for_closed (slot_at stored slot) (store_at stores slot) (stand.each slot)
+
+pub channels_stand : (stored : Stored) (stores : List Store) (slot : ℕ) → StandFor stored stores
+    → 0 < length (streams_at stored slot) → channels_at stores slot ≡ series_in (streams_at stored slot)
+channels_stand stored stores slot stand some =
+    channels_are (slot_at stored slot) (store_at stores slot) some (stand.each slot)
+
+-- the series of a channel
+pub series_stands : (stored : Stored) (stores : List Store) (at : Ref) → StandFor stored stores → IsChannel stored at
+    → series_at stores at ≡ channel_series stored at
+series_stands stored stores at stand there =
+    let some = there.channel in
+    ap (λ (ss : List Series). slice_index_or ss at.channel [])
+    (channels_stand stored stores at.slot stand (omega (arith, some)))
+    ∙ series_in_channel (streams_at stored at.slot) at.channel
+
+-- ---- what lasts
+
+pub holds_still : (held : Held) → HoldsAsBefore held held
+holds_still Closed = tt
+holds_still (Open channels) = refl
+
+-- slots that aren't touched
+pub stand_still : (stored : Stored) → StandAsBefore stored stored
+stand_still stored =
+    record { window_is = refl; as_many = refl; each = λ slot. holds_still (slot_at stored slot) }
+
+holds_on : (a b c : Held) → HoldsAsBefore a b → HoldsAsBefore b c → HoldsAsBefore a c
+holds_on Closed Closed c one two = two
+holds_on Closed (Open b) c one two = absurd one
+holds_on (Open a) Closed c one two = absurd one
+holds_on (Open a) (Open b) Closed one two = absurd two
+holds_on (Open a) (Open b) (Open c) one two = two ∙ one
+
+pub stand_on : (a b c : Stored) → StandAsBefore a b → StandAsBefore b c → StandAsBefore a c
+stand_on a b c one two = record {
+  window_is = two.window_is ∙ one.window_is;
+  as_many = two.as_many ∙ one.as_many;
+  each = λ slot. holds_on (slot_at a slot) (slot_at b slot) (slot_at c slot) (one.each slot) (two.each slot);
+}
+
+-- as many channels, with the same samples
+pub record LastAsBefore (old new : List Streamed) : Type 0 where
+  pub count : length new ≡ length old
+  pub items : items_in new ≡ items_in old
+  pub series : series_in new ≡ series_in old
+
+pub last_as_before : (old new : List Streamed) → map lasting new ≡ map lasting old → LastAsBefore old new
+last_as_before old new same =
+    let items : (channels : List Streamed) → items_in (map lasting channels) ≡ items_in channels =
+    map-map (λ (c : Streamed). c.items) lasting in
+    let series : (channels : List Streamed) → series_in (map lasting channels) ≡ series_in channels =
+    map-map (λ (c : Streamed). series_of c.items) lasting in
+    record {
+      count = sym (length-map new lasting) ∙ (ap length same ∙ length-map old lasting);
+      items = sym (items new) ∙ (ap items_in same ∙ items old);
+      series = sym (series new) ∙ (ap series_in same ∙ series old);
+    }
+
+stands_as_before : (old new : Held) (store : Store) → HoldsAsBefore old new → StandForStore old store
+    → StandForStore new store
+stands_as_before Closed Closed store same stands = stands
+stands_as_before Closed (Open new) store same stands = absurd same
+stands_as_before (Open old) Closed store same stands = absurd same
+stands_as_before (Open old) (Open new) states.Closed same stands = absurd stands
+stands_as_before (Open old) (Open new) (states.Open series) same stands =
+    stands ∙ sym (last_as_before old new same).series
+
+-- slots that hold what they held stand for the stores that they stood for
+pub stand_as_before : (old new : Stored) (stores : List Store) → StandAsBefore old new → StandFor old stores
+    → StandFor new stores
+stand_as_before old new stores same stand = record {
+  as_many = stand.as_many ∙ sym same.as_many;
+  each = λ slot.
+      stands_as_before (slot_at old slot) (slot_at new slot) (store_at stores slot) (same.each slot) (stand.each slot);
+}
+
+lasts_in : (old new : Held) → HoldsAsBefore old new → LastAsBefore (streams_in old) (streams_in new)
+lasts_in Closed Closed same = record { count = refl; items = refl; series = refl }
+lasts_in Closed (Open new) same = absurd same
+lasts_in (Open old) Closed same = absurd same
+lasts_in (Open old) (Open new) same = last_as_before old new same
+
+-- the channels of a slot
+pub last_at : (old new : Stored) (slot : ℕ) → StandAsBefore old new
+    → LastAsBefore (streams_at old slot) (streams_at new slot)
+last_at old new slot same = lasts_in (slot_at old slot) (slot_at new slot) (same.each slot)
+
+-- the samples of a channel
+pub items_last : (old new : Stored) (at : Ref) → StandAsBefore old new
+    → (channel_at new at).items ≡ (channel_at old at).items
+items_last old new at same =
+    let last = last_at old new at.slot same in
+    sym (items_in_channel (streams_at new at.slot) at.channel)
+    ∙ (ap (λ (lists : List (List Sample)). slice_index_or lists at.channel []) last.items
+    ∙ items_in_channel (streams_at old at.slot) at.channel)
+  where
+    items_in_channel : (channels : List Streamed) (k : ℕ)
+        → slice_index_or (items_in channels) k [] ≡ (slice_index_or channels k nothing).items
+    items_in_channel [] k = refl
+    items_in_channel (channel ∷ channels) zero = refl
+    items_in_channel (channel ∷ channels) (suc k) = items_in_channel channels k
+
+-- a channel stays
+pub channel_lasts : (old new : Stored) (at : Ref) → StandAsBefore old new → IsChannel old at → IsChannel new at
+channel_lasts old new at same there =
+    let count = (last_at old new at.slot same).count in
+    let inside = there.channel in
+    record { slot = there.slot; channel = omega (arith, inside, count) }

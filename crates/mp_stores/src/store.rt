@@ -1,0 +1,102 @@
+//! What stands in one slot.
+
+ghost use Rattle.std.specs.Prelude.{◌≡◌, ◌↔◌, ◌+◌, ◌-◌, ◌^◌, ◌<◌, ◌≤◌, ◌++◌, ◌∷◌, [], length, min, take, drop};
+ghost use Rattle.std.specs.Prelude.{All, IfOk, OnOk, IsNone, IfSome};
+ghost use Rattle.mp_defs.specs.Limits.{max_samples};
+ghost use Rattle.mp_stores.specs.Channels.{HasGrownBy};
+ghost use Rattle.mp_stores.specs.Seen.{held_of};
+ghost use Rattle.mp_stores.specs.Stores.{Closed, HaveRoom, WasReadIn, lent_of, lists_in, reads_of, stream_in};
+ghost use Rattle.mp_stores.specs.Stores.{streams_in};
+
+use crate::channels::Channel;
+use crate::groups::{add_all, reads_of, reserve_all};
+use mp_nums::{Memory, Sample};
+use mp_series::Bundle;
+use std::alloc::Global;
+
+/// What stands in a slot.
+#[derive(Debug, Drop)]
+pub(crate) enum Store {
+    Closed,
+    /// Channels of the same length, counted from 0.
+    Open(Vec<Channel>),
+}
+
+impl Store {
+    /// Its channels, none where it isn't open.
+    pub(crate) fn channels(&self) -> &[Channel]
+        ensures { result.now ≡ streams_in (held_of self.now) }
+    {
+        match self {
+            Store::Closed => &[],
+            Store::Open(channels) => channels.as_slice(),
+        }
+    }
+
+    /// How often samples were read, `None` where it is closed. The count stays at its greatest value.
+    pub(crate) fn reads(&self) -> Option<u128>
+        ensures closed { IsNone result ↔ (held_of self.now ≡ Closed) }
+        ensures reads { IfSome result (λ reads. reads ≡ min (reads_of (held_of self.now)) (2 ^ 128 - 1)) }
+    {
+        match self {
+            Store::Closed => None,
+            Store::Open(channels) => Some(reads_of(channels.as_slice())),
+        }
+    }
+
+    /// A copy of the samples of a channel's window from `start` on, for which its samples are lent once.
+    pub(crate) fn window(
+        &mut self,
+        alloc: Global,
+        channel: u64,
+        start: u64,
+    ) -> Result<Vec<Sample>, Memory>
+        requires channel { channel < length (streams_in (held_of self.old)) }
+        requires window { start + (stream_in (held_of self.old) channel).m
+            ≤ length (stream_in (held_of self.old) channel).items }
+        ensures window { IfOk result (λ window. window.items
+            ≡ take (stream_in (held_of self.old) channel).m (drop start (stream_in (held_of self.old) channel).items)) }
+        ensures read { WasReadIn (lent_of (held_of self.old) channel) (held_of self.old) (held_of self.new) }
+    {
+        match self {
+            Store::Closed => unreachable!(),
+            Store::Open(channels) => channels[channel as usize].window(alloc, start),
+        }
+    }
+
+    /// Adds a copy of the samples of a channel to a bundle, for which they are lent once.
+    pub(crate) fn copy_to(&mut self, channel: u64, bundle: &mut Bundle) -> Result<(), Memory>
+        requires { channel < length (streams_in (held_of self.old)) }
+        ensures ok { OnOk result (bundle.new ≡ bundle.old ++ (stream_in (held_of self.old) channel).items ∷ []) }
+        ensures within { length (stream_in (held_of self.old) channel).items ≤ max_samples }
+        ensures read { WasReadIn (lent_of (held_of self.old) channel) (held_of self.old) (held_of self.new) }
+    {
+        match self {
+            Store::Closed => unreachable!(),
+            Store::Open(channels) => channels[channel as usize].copy_to(bundle),
+        }
+    }
+
+    /// Makes room for so many more samples in each channel.
+    pub(crate) fn reserve(&mut self, more: u64) -> Result<(), Memory>
+        ensures ok { OnOk result (All (λ channel. more ≤ channel.spare) (streams_in (held_of self.new))) }
+        ensures read { WasReadIn 0 (held_of self.old) (held_of self.new) }
+    {
+        match self {
+            Store::Closed => Ok(()),
+            Store::Open(channels) => reserve_all(channels.as_mut_slice(), more),
+        }
+    }
+
+    /// Appends to each channel its samples, for which there is room.
+    pub(crate) fn add(&mut self, added: &[Vec<Sample>])
+        requires open { 0 < length (streams_in (held_of self.old)) }
+        requires room { HaveRoom (streams_in (held_of self.old)) (lists_in added.now) }
+        ensures { HasGrownBy (lists_in added.now) (held_of self.old) (held_of self.new) }
+    {
+        match self {
+            Store::Closed => unreachable!(),
+            Store::Open(channels) => add_all(channels.as_mut_slice(), added),
+        }
+    }
+}

@@ -1,0 +1,267 @@
+//! The stores.
+
+ghost use Rattle.std.specs.Prelude.{◌≡◌, ◌≢◌, ◌==◌, ◌↔◌, ◌+◌, ◌-◌, ◌*◌, ◌^◌, ◌<◌, ◌≤◌, ℕ, List, [], ◌∷◌, ◌++◌, length};
+ghost use Rattle.std.specs.Prelude.{map, min, sum_by, take, drop, replicate, All, IfOk, OnOk, IsNone, IfSome};
+
+use crate::channels::Channel;
+use crate::store::Store;
+use mp_nums::{Memory, Places, Sample};
+use mp_partial::Profile;
+use mp_replies::Ref;
+use mp_series::Bundle;
+use std::alloc::Global;
+use std::marker::Model;
+use std::thread::Threads;
+
+/// How many slots there are.
+pub const SLOTS: u64 = 8;
+
+/// The most channels of a slot.
+pub const MAX_CHANNELS: u64 = 8;
+
+/// The stores of a session, one in each slot, and the slots counted from 0. A slot is closed, or open with channels of
+/// the same length, counted from 0. All channels have the same window length. They are seen as that length and what
+/// stands in each slot.
+#[derive(Debug, Drop)]
+pub struct Stores {
+    m: u32,
+    stored: Vec<Store>,
+}
+
+impl Model for Stores {
+    ghost use Rattle.std.specs.Prelude.{map};
+    ghost use Rattle.mp_stores.specs.Stores.{AreStores, Stored};
+
+    ghost Value = { Stored };
+
+    ghost use Rattle.mp_stores.specs.Seen.{held_of};
+
+    ghost view = { λ s. record { m = s.m; slots = map held_of s.stored.items } };
+
+    ghost invariant = { λ s. AreStores (record { m = s.m; slots = map held_of s.stored.items }) };
+}
+
+impl Stores {
+    ghost use Rattle.mp_results.specs.Arcs.{arcs_of, indices_of};
+    ghost use Rattle.mp_defs.specs.Limits.{max_samples, max_window, min_window};
+    ghost use Rattle.mp_defs.specs.Profile.{matrix_profile};
+    ghost use Rattle.mp_defs.specs.Series.{series_of};
+    ghost use Rattle.mp_defs.specs.Window.{is_free, windows};
+    ghost use Rattle.mp_nums.specs.declared.samples.Sample.{Sample};
+    ghost use Rattle.mp_replies.specs.Change.{AddSamples, PutChannels};
+    ghost use Rattle.mp_replies.specs.State as states;
+    ghost use Rattle.mp_replies.specs.State.{channels_at, is_closed, samples_in, store_at};
+    ghost use Rattle.mp_replies.specs.Profiles.{columns_in};
+    ghost use Rattle.mp_stores.specs.Stores.{Closed, Open, AreChannels, AreEven, CanOpen, HaveRoom, HaveWindow, IsChannel};
+    ghost use Rattle.mp_stores.specs.Stores.{StandAsBefore, StandChanged, StandFor, WasRead, channel_at, channel_series};
+    ghost use Rattle.mp_stores.specs.Stores.{count_in, lent_of, lent_once, lists_in, reads_at, reads_to_add, series_in};
+    ghost use Rattle.mp_stores.specs.Stores.{slot_at, streams_at};
+
+    /// Slot 0 is open with one empty channel, and the others are closed. Windows have `m` samples.
+    pub fn new<R: Threads + Sync>(rt: &R, alloc: Global, m: u32) -> Result<Stores, Memory>
+        requires shortest { min_window ≤ m }
+        requires longest { m ≤ max_window }
+        ensures stores { IfOk result (λ stores.
+            StandFor stores (states.Open ([] ∷ []) ∷ replicate 7 states.Closed)) }
+        ensures m { IfOk result (λ stores. stores.m ≡ m) }
+        ensures reads { IfOk result (λ stores. (slot : ℕ) → reads_at stores slot ≡ 0) }
+    {
+        let mut first = Vec::new(alloc);
+        first.push(Channel::empty(rt, alloc, m)?)?;
+        let mut stored = Vec::new(alloc);
+        stored.push(Store::Open(first))?;
+        for _ in 1..SLOTS {
+            stored.push(Store::Closed)?;
+        }
+        Ok(Stores { m, stored })
+    }
+
+    /// How many samples a window has, in all channels.
+    pub fn window_len(&self) -> u32
+        ensures m { result ≡ self.now.m }
+        ensures shortest { min_window ≤ result }
+        ensures longest { result ≤ max_window }
+    {
+        self.m
+    }
+
+    /// The channels of a slot, none where it isn't open.
+    fn channels(&self, slot: u64) -> &[Channel]
+        ensures channels { result.now ≡ streams_at self.now slot }
+        ensures closed { result.now ≡ [] → slot_at self.now slot ≡ Closed }
+        ensures few { length result.now ≤ MAX_CHANNELS }
+        ensures open { 0 < length result.now → slot < SLOTS }
+        ensures alike { AreChannels result.now }
+        ensures window { HaveWindow self.now.m result.now }
+    {
+        match self.stored.get(slot as usize) {
+            Some(store) => store.channels(),
+            None => &[],
+        }
+    }
+
+    /// A channel.
+    fn channel(&self, at: Ref) -> &Channel
+        requires { IsChannel self.now at }
+        ensures channel { result.now ≡ channel_at self.now at }
+        ensures m { result.now.m ≡ self.now.m }
+    {
+        &self.channels(at.slot)[at.channel as usize]
+    }
+
+    /// How many channels a slot has, 0 where it isn't open.
+    pub fn count(&self, slot: u64) -> u64
+        ensures count { result ≡ length (streams_at self.now slot) }
+        ensures channels { (stores : List states.Store) → StandFor self.now stores
+            → result ≡ length (channels_at stores slot) }
+        ensures closed { (stores : List states.Store) → StandFor self.now stores
+            → is_closed (store_at stores slot) ≡ (result == 0) }
+        ensures few { result ≤ MAX_CHANNELS }
+        ensures open { 0 < result → slot < SLOTS }
+        ensures alike { AreChannels (streams_at self.now slot) }
+    {
+        self.channels(slot).len() as u64
+    }
+
+    /// How many samples each channel of a slot has.
+    pub fn len(&self, slot: u64) -> u64
+        ensures count { result ≡ count_in (streams_at self.now slot) }
+        ensures length { (stores : List states.Store) → StandFor self.now stores
+            → result ≡ samples_in (channels_at stores slot) }
+        ensures within { result ≤ max_samples }
+    {
+        match self.channels(slot).first() {
+            Some(channel) => channel.len(),
+            None => 0,
+        }
+    }
+
+    /// How many samples a channel has.
+    pub fn channel_len(&self, at: Ref) -> u64
+        requires { IsChannel self.now at }
+        ensures length { result ≡ length (channel_series self.now at) }
+        ensures within { result ≤ max_samples }
+    {
+        self.channel(at).len()
+    }
+
+    /// How often samples of a slot were read, of all its channels together, `None` where it is closed. The count stays
+    /// at its greatest value.
+    pub fn reads(&self, slot: u64) -> Option<u128>
+        ensures closed { IsNone result ↔ (slot_at self.now slot ≡ Closed) }
+        ensures reads { IfSome result (λ reads. reads ≡ min (reads_at self.now slot) (2 ^ 128 - 1)) }
+    {
+        match self.stored.get(slot as usize) {
+            Some(store) => store.reads(),
+            None => None,
+        }
+    }
+
+    /// The matrix profile of a channel, which is kept: no sample is read.
+    pub fn profile(&self, at: Ref) -> &Profile
+        requires { IsChannel self.now at }
+        ensures { columns_in result.now ≡ matrix_profile self.now.m (channel_series self.now at) }
+    {
+        self.channel(at).profile()
+    }
+
+    /// How many of the arcs from each window of a channel to its nearest one pass over each place. No sample is read.
+    pub fn arcs(&self, at: Ref) -> Result<Places, Memory>
+        requires { IsChannel self.now at }
+        ensures { IfOk result (λ counts. counts.items
+            ≡ arcs_of (indices_of (matrix_profile self.now.m (channel_series self.now at)).all)) }
+    {
+        self.channel(at).arcs()
+    }
+
+    /// Whether no sample of a channel's window from `start` on is missing. It is no read.
+    pub fn is_free(&self, at: Ref, start: u64) -> bool
+        requires channel { IsChannel self.now at }
+        requires window { start < windows (length (channel_series self.now at)) self.now.m }
+        ensures { result ≡ is_free self.now.m (channel_series self.now at) start }
+    {
+        self.channel(at).is_free(start)
+    }
+
+    /// A copy of the samples of a channel's window from `start` on, for which its samples are lent once.
+    pub fn window(&mut self, alloc: Global, at: Ref, start: u64) -> Result<Vec<Sample>, Memory>
+        requires channel { IsChannel self.old at }
+        requires window { start + self.old.m ≤ length (channel_series self.old at) }
+        ensures window { IfOk result (λ window. series_of window.items
+            ≡ take self.old.m (drop start (channel_series self.old at))) }
+        ensures read { WasRead self.old self.new at.slot (lent_of (slot_at self.old at.slot) at.channel) }
+    {
+        self.stored[at.slot as usize].window(alloc, at.channel, start)
+    }
+
+    /// Copies of the samples of some channels, in their order. A channel's samples are lent once each time that it is
+    /// named.
+    pub fn copies(&mut self, alloc: Global, refs: &[Ref]) -> Result<Bundle, Memory>
+        requires { All (IsChannel self.old) refs.now }
+        ensures series { IfOk result (λ bundle. map series_of bundle ≡ map (channel_series self.old) refs.now) }
+        ensures small { IfOk result (λ bundle. All (λ samples. length samples ≤ max_samples) bundle) }
+        ensures stands { StandAsBefore self.old self.new }
+        ensures reads_rise { (slot : ℕ) → reads_at self.old slot ≤ reads_at self.new slot }
+        ensures reads { (slot : ℕ) → reads_at self.new slot
+            ≤ reads_at self.old slot + sum_by (λ at. lent_once self.old at slot) refs.now }
+    {
+        let mut bundle = Bundle::new(alloc);
+        for at in refs {
+            self.copy_to(*at, &mut bundle)?;
+        }
+        Ok(bundle)
+    }
+
+    /// Adds a copy of the samples of a channel to a bundle, for which they are lent once.
+    fn copy_to(&mut self, at: Ref, bundle: &mut Bundle) -> Result<(), Memory>
+        requires { IsChannel self.old at }
+        ensures ok { OnOk result (bundle.new ≡ bundle.old ++ (channel_at self.old at).items ∷ []) }
+        ensures within { length (channel_at self.old at).items ≤ max_samples }
+        ensures read { WasRead self.old self.new at.slot (lent_of (slot_at self.old at.slot) at.channel) }
+    {
+        self.stored[at.slot as usize].copy_to(at.channel, bundle)
+    }
+
+    /// Makes room for so many more samples in each channel of a slot.
+    pub fn reserve(&mut self, slot: u64, more: u64) -> Result<(), Memory>
+        requires { slot < SLOTS }
+        ensures ok { OnOk result (All (λ channel. more ≤ channel.spare) (streams_at self.new slot)) }
+        ensures room { (added : List (List Sample)) → OnOk result (length added ≡ length (streams_at self.new slot)
+            → All (λ samples. length samples ≡ more) added
+            → count_in (streams_at self.old slot) + more ≤ max_samples
+            → HaveRoom (streams_at self.new slot) added) }
+        ensures stands { StandAsBefore self.old self.new }
+        ensures reads { (other : ℕ) → reads_at self.new other ≡ reads_at self.old other }
+    {
+        self.stored[slot as usize].reserve(more)
+    }
+
+    /// Appends to each channel of an open slot its samples, as many to each, for which there is room. For each of them
+    /// it reads no more than four samples for each window and for each sample of one.
+    pub fn add(&mut self, slot: u64, added: &[Vec<Sample>])
+        requires slot { slot < SLOTS }
+        requires open { 0 < length (streams_at self.old slot) }
+        requires room { HaveRoom (streams_at self.old slot) (lists_in added.now) }
+        requires same { AreEven (lists_in added.now) }
+        ensures m { self.new.m ≡ self.old.m }
+        ensures stands { StandChanged (AddSamples slot (map series_of (lists_in added.now))) self.old self.new }
+        ensures reads_rise { reads_at self.old slot ≤ reads_at self.new slot }
+        ensures reads { reads_at self.new slot
+            ≤ reads_at self.old slot + reads_to_add self.old slot (lists_in added.now) }
+        ensures others { (other : ℕ) → other ≢ slot → slot_at self.new other ≡ slot_at self.old other }
+    {
+        self.stored[slot as usize].add(added);
+    }
+
+    /// Puts channels of the same length, at the window length of all, in place of what stood in a slot.
+    pub fn put(&mut self, slot: u64, channels: Vec<Channel>)
+        requires slot { slot < SLOTS }
+        requires channels { CanOpen self.old.m channels.items }
+        ensures m { self.new.m ≡ self.old.m }
+        ensures stands { StandChanged (PutChannels slot (series_in channels.items)) self.old self.new }
+        ensures channels { slot_at self.new slot ≡ Open channels.items }
+        ensures others { (other : ℕ) → other ≢ slot → slot_at self.new other ≡ slot_at self.old other }
+    {
+        self.stored[slot as usize] = Store::Open(channels);
+    }
+}
