@@ -12,14 +12,14 @@ use crate::plans::{Plan, count_columns};
 use crate::sizes::GROUP;
 use crate::vectors::LANES;
 
-/// How many diagonals are scanned together behind so many that are done. Near ones are often the nearest, so they bring
-/// limits down first; and on the same diagonals only the first tie is offered to a column.
+/// How many diagonals are scanned together from one on, as many as lie before it. Near ones often have the nearest
+/// windows, so they bring limits down first; and on the same diagonals only the first tie is offered to a column.
 #[inline]
-fn next_width(done: usize) -> usize
+fn next_width(start: usize) -> usize
     ensures some { 1 ≤ result }
     ensures few { result ≤ GROUP }
 {
-    done.max(LANES).min(GROUP)
+    start.max(LANES).min(GROUP)
 }
 
 /// Offers the pairs of the rows from `top` on and before `bottom` and the columns that start from `first` on and before
@@ -45,7 +45,7 @@ pub fn scan<O: Offers>(
     let stop = end.min(columns);
     let mut start = first;
     while start < stop {
-        let width = (stop - start).min(next_width(start - first));
+        let width = (stop - start).min(next_width(start));
         let group = Group {
             plan: *plan,
             first: start,
