@@ -1,5 +1,6 @@
-// Computes the matrix profile of the numbers of its input, none of which is missing, on many diagonals at once and with
-// sums of 64 bits: the plain program beside which the scan of tiles is timed. Word: the window.
+// Computes the matrix profile of the numbers of its input, none of which is missing: the plain program beside which the
+// scan of tiles is timed. Words: the window, and maybe `wide`. It scans many diagonals at once with sums of 64 bits, where
+// these hold the sums of the input; with `wide` one diagonal after another with sums of 128 bits, which hold all.
 #include <chrono>
 #include <cstdint>
 #include <cstdio>
@@ -35,6 +36,61 @@ struct Column {
         for (size_t i = 0; i < windows; i++)
             sum = sum * 31 + (dist[i] == INT64_MAX ? 0 : Wide(dist[i]) * 31 + index[i] + 1);
         return sum;
+    }
+};
+
+// the same with sums of 128 bits
+struct WideColumn {
+    std::vector<Wide> dist;
+    std::vector<uint64_t> index;
+
+    explicit WideColumn(size_t windows) : dist(windows, ~Wide(0)), index(windows, 0) {}
+
+    void offer(size_t i, Wide d, size_t j) {
+        if (d < dist[i] || (d == dist[i] && j < index[i])) {
+            dist[i] = d;
+            index[i] = j;
+        }
+    }
+
+    Wide sum(size_t windows) const {
+        Wide sum = 0;
+        for (size_t i = 0; i < windows; i++)
+            sum = sum * 31 + (dist[i] == ~Wide(0) ? 0 : dist[i] * 31 + index[i] + 1);
+        return sum;
+    }
+};
+
+struct WideScan {
+    const std::vector<int32_t> &x;
+    size_t m, windows;
+    WideColumn left, right;
+
+    WideScan(const std::vector<int32_t> &x, size_t m)
+        : x(x), m(m), windows(x.size() + 1 - m), left(windows), right(windows) {}
+
+    Wide square(size_t i, size_t j) const {
+        int64_t gap = int64_t(x[i]) - x[j];
+        return Wide(uint64_t(gap < 0 ? -gap : gap)) * uint64_t(gap < 0 ? -gap : gap);
+    }
+
+    // the nearest window on either side
+    WideColumn nearest() const {
+        WideColumn all = left;
+        for (size_t i = 0; i < windows; i++) all.offer(i, right.dist[i], right.index[i]);
+        return all;
+    }
+
+    // the pairs whose column comes so far behind its row
+    void scan_diagonal(size_t behind) {
+        Wide d = 0;
+        for (size_t k = 0; k < m; k++) d += square(k, behind + k);
+        for (size_t i = 0, j = behind;; i++, j++) {
+            right.offer(i, d, j);
+            left.offer(j, d, i);
+            if (j + 1 == windows) break;
+            d += square(i + m, j + m) - square(i, j);
+        }
     }
 };
 
@@ -107,17 +163,32 @@ struct Scan {
     }
 };
 
+template <class Body> void time(size_t windows, Body body) {
+    auto start = std::chrono::steady_clock::now();
+    auto scan = body();
+    auto time = std::chrono::steady_clock::now() - start;
+    Wide sum = (scan.nearest().sum(windows) * 31 + scan.left.sum(windows)) * 31 + scan.right.sum(windows);
+    printf("%016llx%016llx\n", (unsigned long long)(sum >> 64), (unsigned long long)sum);
+    printf("%lld nanoseconds\n", (long long)std::chrono::duration_cast<std::chrono::nanoseconds>(time).count());
+}
+
 int main(int count, char **words) {
-    if (count != 2) return 1;
+    if (count != 2 && (count != 3 || std::string(words[2]) != "wide")) return 1;
     std::vector<int32_t> samples;
     for (int32_t number; std::cin >> number;) samples.push_back(number);
     size_t m = std::stoul(words[1]);
     if (samples.size() < m) return 1;
-    auto start = std::chrono::steady_clock::now();
-    Scan scan(samples, m);
-    for (size_t behind = (m + 3) / 4 + 1; behind < scan.windows; behind += LANES) scan.scan_strip(behind);
-    auto time = std::chrono::steady_clock::now() - start;
-    Wide sum = (scan.nearest().sum(scan.windows) * 31 + scan.left.sum(scan.windows)) * 31 + scan.right.sum(scan.windows);
-    printf("%016llx%016llx\n", (unsigned long long)(sum >> 64), (unsigned long long)sum);
-    printf("%lld nanoseconds\n", (long long)std::chrono::duration_cast<std::chrono::nanoseconds>(time).count());
+    size_t windows = samples.size() + 1 - m, first = (m + 3) / 4 + 1;
+    if (count == 3)
+        time(windows, [&] {
+            WideScan scan(samples, m);
+            for (size_t behind = first; behind < windows; behind++) scan.scan_diagonal(behind);
+            return scan;
+        });
+    else
+        time(windows, [&] {
+            Scan scan(samples, m);
+            for (size_t behind = first; behind < windows; behind += LANES) scan.scan_strip(behind);
+            return scan;
+        });
 }

@@ -2,14 +2,14 @@
 use Rattle.std.specs.Prelude.{ℕ, zero, suc, ◌+◌, ◌*◌, ℤ, ◌-ℤ◌, unsigned_abs, Option, Some, None}
 use Rattle.mp_defs.specs.Series.{Series, number_at}
 
-abbrev pub square_gap : ℤ → ℤ → ℕ
-square_gap x y = unsigned_abs (x -ℤ y) * unsigned_abs (x -ℤ y)
+abbrev pub squared_difference : ℤ → ℤ → ℕ
+squared_difference x y = unsigned_abs (x -ℤ y) * unsigned_abs (x -ℤ y)
 
 -- of two numbers that may be missing
 abbrev pub square_between : Option ℤ → Option ℤ → Option ℕ
 square_between None y = None
 square_between (Some x) None = None
-square_between (Some x) (Some y) = Some (square_gap x y)
+square_between (Some x) (Some y) = Some (squared_difference x y)
 
 abbrev pub plus : Option ℕ → Option ℕ → Option ℕ
 plus None b = None

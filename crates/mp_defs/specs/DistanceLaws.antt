@@ -4,7 +4,7 @@ use Rattle.std.specs.Prelude.{Option, Some, None, IsTrue, IsSome, is_some, ◌&&
 use Rattle.std.proofs.lemmas.Int.{ints}
 use Rattle.mp_defs.specs.Series.{Series, number_at}
 use Rattle.mp_defs.specs.Window.{is_free}
-use Rattle.mp_defs.specs.Distance.{square_gap, square_between, plus, distance}
+use Rattle.mp_defs.specs.Distance.{squared_difference, square_between, plus, distance}
 use Rattle.mp_defs.specs.Laws.{GrowsByOneSample, DistanceIsOfFreeWindows, DistanceIsSymmetric}
 
 pub grows_by_one_sample : GrowsByOneSample
@@ -52,7 +52,7 @@ of_free_windows m a i b j = some_test _ _ _ (distance_is_some m a i b j)
 
 -- ---- a distance is the same from either window
 
-gap_same : (x y : ℤ) → square_gap x y ≡ square_gap y x
+gap_same : (x y : ℤ) → squared_difference x y ≡ squared_difference y x
 gap_same x y = let e : unsigned_abs (x -ℤ y) ≡ unsigned_abs (y -ℤ x) = omega (arith, ints) in rw e refl
 
 square_same : (x y : Option ℤ) → square_between x y ≡ square_between y x

@@ -44,7 +44,7 @@ abbrev pub extreme : Series
 extreme =
     least_number ∷ least_number ∷ least_number ∷ greatest_number ∷ greatest_number ∷ greatest_number ∷ []
 
--- twice the square of the gap between both ends
+-- twice the square of the difference of both ends
 abbrev pub far : ℕ
 far = 36893488130239234050
 

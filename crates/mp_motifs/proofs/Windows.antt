@@ -19,7 +19,7 @@ use Rattle.mp_nums.specs.declared.samples.Sample.TheVariants.{Missing}
 use Rattle.mp_defs.specs.Series.{Series, reading_of, series_of, present, number_at}
 use Rattle.mp_defs.specs.Window.{is_free, is_allowed}
 use Rattle.mp_defs.specs.Laws.{DistanceIsOfFreeWindows, EntriesAreNearest, IsNearest, IsNearestWindow}
-use Rattle.mp_defs.specs.Distance.{square_gap, square_between, plus, distance}
+use Rattle.mp_defs.specs.Distance.{squared_difference, square_between, plus, distance}
 use Rattle.mp_defs.specs.Profile.{windows_of}
 use Rattle.mp_results.specs.Slide.{square, distances_of}
 use Rattle.mp_results.specs.Motifs.{HasEntryDistance}
@@ -137,7 +137,7 @@ square_of_one : (x : Option ℤ) (d : ℕ) → square_between x x ≡ Some d →
 square_of_one None d e = cc
 square_of_one (Some x) d e =
     let none : unsigned_abs (x -ℤ x) ≡ 0 = omega (arith, ints) in
-    let same : square_gap x x ≡ d = cc in
+    let same : squared_difference x x ≡ d = cc in
     sym same ∙ (λ k. none k * none k)
 
 sum_of_none : (x y : Option ℕ) (d : ℕ) → plus x y ≡ Some d → ((e : ℕ) → x ≡ Some e → e ≡ 0)

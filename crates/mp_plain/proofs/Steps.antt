@@ -12,7 +12,7 @@ use Rattle.mp_nums.specs.declared.nearest.Near.{Near}
 use Rattle.mp_nums.specs.declared.nearest.Sq.{Sq}
 use Rattle.mp_nums.specs.Near.{nearer_of}
 use Rattle.mp_defs.specs.Series.{Series, reading_of, series_of, number_at}
-use Rattle.mp_defs.specs.Distance.{square_gap, square_between, plus, distance}
+use Rattle.mp_defs.specs.Distance.{squared_difference, square_between, plus, distance}
 use Rattle.mp_defs.specs.Least.{near, near_at, at_distance, candidate}
 use Rattle.mp_defs.specs.Profile.{column}
 use Rattle.mp_defs.specs.SeriesLaws.{series_are_of_samples}
@@ -80,15 +80,15 @@ HasWords a = (n : ℕ) (x : ℤ) → number_at a n ≡ Some x → FitsSigned w32
 gap_small : (x y : ℤ) → FitsSigned w32 x → FitsSigned w32 y → unsigned_abs (x -ℤ y) ≤ 2 ^ 32
 gap_small x y p q = omega (arith, ints)
 
-square_gap_small : (x y : ℤ) → FitsSigned w32 x → FitsSigned w32 y → square_gap x y ≤ 2 ^ 64
-square_gap_small x y p q = mul-le-mul (gap_small x y p q) (gap_small x y p q)
+squared_difference_small : (x y : ℤ) → FitsSigned w32 x → FitsSigned w32 y → squared_difference x y ≤ 2 ^ 64
+squared_difference_small x y p q = mul-le-mul (gap_small x y p q) (gap_small x y p q)
 
 square_small : (p q : Option ℤ) (d : ℕ) → ((x : ℤ) → p ≡ Some x → FitsSigned w32 x)
     → ((x : ℤ) → q ≡ Some x → FitsSigned w32 x) → square_between p q ≡ Some d → d ≤ 2 ^ 64
 square_small None q d h k e = absurd (none_some e)
 square_small (Some x) None d h k e = absurd (none_some e)
-square_small (Some x) (Some y) d h k e = let same : square_gap x y ≡ d = cc in
-    rw (← same) (square_gap_small x y (h x refl) (k y refl))
+square_small (Some x) (Some y) d h k e = let same : squared_difference x y ≡ d = cc in
+    rw (← same) (squared_difference_small x y (h x refl) (k y refl))
 
 plus_small : (p q : Option ℕ) (d s t : ℕ) → ((x : ℕ) → p ≡ Some x → x ≤ s) → ((x : ℕ) → q ≡ Some x → x ≤ t)
     → plus p q ≡ Some d → d ≤ s + t

@@ -14,8 +14,8 @@ fn square_between(x: Sample, y: Sample) -> Option<u64>
 {
     match (x, y) {
         (Sample::Value(x), Sample::Value(y)) => {
-            let gap = u64::from(x.abs_diff(y));
-            Some(gap * gap)
+            let difference = u64::from(x.abs_diff(y));
+            Some(difference * difference)
         }
         _ => None,
     }

@@ -1,4 +1,4 @@
-//! The matrix profile and the AB-join by comparing every pair of windows: the definitions as plain programs, which
+//! The naive matrix profile and AB-join, by comparing every pair of windows: the definitions as plain programs, which
 //! faster ones are tested against.
 #![tactic(auto)]
 

@@ -7,6 +7,7 @@ use Rattle.std.proofs.lemmas.Bool.{cases_eq}
 use Rattle.std.proofs.lemmas.Bool.Decides.{nat_tests}
 use Rattle.std.proofs.lemmas.List.{length-set, get_or-set_same, get_or-set_other}
 use Rattle.std.proofs.Common.{inl, inr, set, ◌∙◌, pos, w32, FitsSigned}
+use Rattle.std.specs.Int.{bit_at}
 use Rattle.mp_defs.specs.Series.{Series, series_of}
 use Rattle.mp_sums.specs.declared.limits.Limit.{Limit}
 use Rattle.mp_sums.specs.Limits.{IsBeyond}
@@ -14,10 +15,10 @@ use Rattle.mp_sums.specs.Grids.{distance_in}
 use Rattle.mp_sums.specs.Residues.{residue_limit, item}
 use Rattle.mp_sums.specs.ResidueLaws.{residues_tell}
 use Rattle.mp_scans.specs.declared.blocks.Block.{Block}
-use Rattle.mp_scans.specs.Blocks.{residue_in, AreAbove}
-use Rattle.mp_scans.specs.Offering.{only, in_block, IsLimiting}
+use Rattle.mp_scans.specs.Blocks.{residue_in, AreAbove, AreResiduesAt}
+use Rattle.mp_scans.specs.Offering.{only, in_row, in_block, IsLimiting}
 use Rattle.mp_defs.specs.Profile.{windows_of}
-use Rattle.mp_scans.specs.Limiting.{IsRow, IsColumn, IsRowLimit, IsColumnLimit, AreLimits, AreQuiet, first_row}
+use Rattle.mp_scans.specs.Limiting.{IsRow, IsColumn, IsRowLimit, IsColumnLimit, AreLimits, AreQuiet, AreKept, first_row}
 use Rattle.mp_scans.specs.Limiting.{first_on}
 
 -- a residue above a limit's is beyond the limit
@@ -229,6 +230,33 @@ quiet_only least fits is_scanned keeps_row keeps_column laws block p c row colum
           (cl column_in p d (omega arith) here (subst (λ z. column <ℤ z) e ca))),
     ))
 
+-- a pair at a distance that gives neither its row nor its column something is scanned
+pub quiet_at : {Into : Type 0} (least : ℕ) (fits : ℕ → Series → Series → Into → Type 0)
+    (is_scanned : ℕ → Series → Series → (ℕ → ℕ → Bool) → Into → Into → Type 0)
+    (keeps_row keeps_column : Into → ℕ → ℕ → ℕ → Type 0) → IsLimiting least fits is_scanned keeps_row keeps_column
+    → (block : Block) (row column dist : ℕ) (into : Into) → row + least ≤ column
+    → fits block.grid.m (series_of block.grid.rows.now) (series_of block.grid.columns.now) into
+    → distance_in block.grid row column ≡ Some dist → keeps_row into row column dist
+    → keeps_column into column row dist
+    → is_scanned block.grid.m (series_of block.grid.rows.now) (series_of block.grid.columns.now)
+    (only row column) into into
+quiet_at least fits is_scanned keeps_row keeps_column laws block row column dist into apart fit is rk ck =
+    laws.quiet block.grid.m (series_of block.grid.rows.now) (series_of block.grid.columns.now) (only row column) into
+    fit
+    (λ i j e. omega (arith, row_is row column i j e, column_is row column i j e, apart))
+    (λ i j d wi wj e there.
+    let ri = row_is row column i j e in
+    let cj = column_is row column i j e in
+    let here : distance_in block.grid row column ≡ Some d =
+    subst (λ n. distance_in block.grid n column ≡ Some d) ri
+    (subst (λ n. distance_in block.grid i n ≡ Some d) cj there) in
+    let same : dist ≡ d = cc in (
+      subst (λ n. keeps_row into n j d) (sym ri)
+          (subst (λ n. keeps_row into row n d) (sym cj) (subst (keeps_row into row column) same rk)),
+      subst (λ n. keeps_column into j n d) (sym ri)
+          (subst (λ n. keeps_column into n row d) (sym cj) (subst (keeps_column into column row) same ck)),
+    ))
+
 -- ---- limits of windows with a missing sample, and of later strips
 
 both_ways : (b : Bool) → b ≡ true → b ≡ false → ⊥
@@ -314,3 +342,90 @@ pub limits_at : {Into : Type 0} (block : Block) (keeps_row keeps_column : Into �
     → AreLimits block (keeps_row into) (keeps_column into) (first_row offset p') rows columns
 limits_at block keeps_row keeps_column offset p p' rows columns into e h =
     subst (λ n. AreLimits block (keeps_row into) (keeps_column into) (first_row offset n) rows columns) e h
+
+-- ---- the columns of a row that are passed over
+
+record IsInRow (r c d row column : ℕ) : Type 0 where
+  same : row ≡ r
+  left : c ≤ column
+  right : column < d
+
+within_row : (r c d row column : ℕ) → in_row r c d row column ≡ true → IsInRow r c d row column
+within_row r c d row column e = record {
+  same = grind (arith, nat_tests);
+  left = grind (arith, nat_tests);
+  right = grind (arith, nat_tests);
+}
+
+-- columns above both limits give nothing
+pub kept_above : (block : Block) (keeps_row keeps_column : ℕ → ℕ → ℕ → Type 0) (offset p bits : ℕ)
+    (rows columns residues : List ℤ) → p < length rows → p + offset + 31 < length columns
+    → AreLimits block keeps_row keeps_column (first_row offset p) rows columns
+    → AreResiduesAt block p (p + offset) residues
+    → ((t : ℕ) → t < 32 → bit_at bits t ≡ 1 → item rows p <ℤ item residues t)
+    → ((t : ℕ) → t < 32 → bit_at bits t ≡ 1 → item columns (p + offset + t) <ℤ item residues t)
+    → AreKept block keeps_row keeps_column p (p + offset) bits
+kept_above block keeps_row keeps_column offset p bits rows columns residues pl cl limits are above_row above_column =
+    record {
+      row = λ t d small e w is.
+          limits.of_rows p pl w (p + offset + t) d (omega arith) is
+          (subst (λ z. item rows p <ℤ z) (are.each t small) (above_row t small e));
+      column = λ t d small e w is.
+          column_limit_at block keeps_column offset p (p + offset + t) (item columns (p + offset + t)) (omega arith)
+          (omega (arith, small)) (limits.of_columns (p + offset + t) (omega (arith, small, cl))) w p d (omega arith) is
+          (subst (λ z. item columns (p + offset + t) <ℤ z) (are.each t small) (above_column t small e));
+    }
+
+-- whatever is offered, and they are scanned
+module _ {Into : Type 0} {least : ℕ} {fits : ℕ → Series → Series → Into → Type 0}
+    {is_scanned : ℕ → Series → Series → (ℕ → ℕ → Bool) → Into → Into → Type 0}
+    {keeps_row keeps_column : Into → ℕ → ℕ → ℕ → Type 0}
+    (laws : IsLimiting least fits is_scanned keeps_row keeps_column) where
+  pub kept_stays : (block : Block) (pairs : ℕ → ℕ → Bool) (old new : Into) (p c bits : ℕ)
+      → fits block.grid.m (series_of block.grid.rows.now) (series_of block.grid.columns.now) old
+      → is_scanned block.grid.m (series_of block.grid.rows.now) (series_of block.grid.columns.now) pairs old new
+      → AreKept block (keeps_row old) (keeps_column old) p c bits
+      → AreKept block (keeps_row new) (keeps_column new) p c bits
+  kept_stays block pairs old new p c bits fit scanned kept = record {
+    row = λ t d small e w is.
+        laws.row_stays block.grid.m (series_of block.grid.rows.now) (series_of block.grid.columns.now) pairs old new fit
+        scanned (block.row + p) (block.column + (c + t)) d w (kept.row t d small e w is);
+    column = λ t d small e w is.
+        laws.column_stays block.grid.m (series_of block.grid.rows.now) (series_of block.grid.columns.now) pairs old new
+        fit scanned (block.column + (c + t)) (block.row + p) d w (kept.column t d small e w is);
+  }
+
+  pub quiet_columns : (block : Block) (p c bits from end : ℕ) (into : Into)
+      → block.row + p + least ≤ block.column + c → end ≤ 32
+      → fits block.grid.m (series_of block.grid.rows.now) (series_of block.grid.columns.now) into
+      → AreKept block (keeps_row into) (keeps_column into) p c bits
+      → ((t : ℕ) → from ≤ t → t < end → bit_at bits t ≡ 1)
+      → is_scanned block.grid.m (series_of block.grid.rows.now) (series_of block.grid.columns.now)
+      (in_row (block.row + p) (block.column + c + from) (block.column + c + end)) into into
+  quiet_columns block p c bits from end into apart few fit kept set =
+      let r : ℕ = block.row + p in
+      let first : ℕ = block.column + c in
+      laws.quiet block.grid.m (series_of block.grid.rows.now) (series_of block.grid.columns.now)
+      (in_row r (first + from) (first + end)) into fit
+      (λ i j is.
+      let h = within_row r (first + from) (first + end) i j is in
+      omega (arith, h.same, h.left, apart))
+      (λ i j d wi wj is there.
+      let h = within_row r (first + from) (first + end) i j is in
+      let t : ℕ = j - first in
+      let at : j ≡ block.column + (c + t) = omega (arith, h.left) in
+      let lt : t < end = omega (arith, h.left, h.right) in
+      let small : t < 32 = omega (arith, lt, few) in
+      let e = set t (omega (arith, h.left)) lt in
+      let here : distance_in block.grid r (block.column + (c + t)) ≡ Some d =
+      subst (λ n. distance_in block.grid n (block.column + (c + t)) ≡ Some d) h.same
+      (subst (λ n. distance_in block.grid i n ≡ Some d) at there) in
+      let row_in : IsRow block p =
+      subst (λ n. n < windows_of block.grid.m (series_of block.grid.rows.now)) h.same wi in
+      let column_in : IsColumn block (c + t) =
+      subst (λ n. n < windows_of block.grid.m (series_of block.grid.columns.now)) at wj in (
+        subst (λ n. keeps_row into n j d) (sym h.same)
+            (subst (λ n. keeps_row into r n d) (sym at) (kept.row t d small e row_in here)),
+        subst (λ n. keeps_column into j n d) (sym h.same)
+            (subst (λ n. keeps_column into n r d) (sym at) (kept.column t d small e column_in here)),
+      ))

@@ -93,6 +93,12 @@ clear_anew a from place le gone = record {
   missing = λ t ge e. subst (λ p. is_some (number_at a p) ≡ false) (omega (arith, e)) gone;
 }
 
+-- where no sample is missing, no window lacks one
+pub all_are_free : (m : ℕ) (a : Series) (start end k : ℕ) → IsClear a start start end → start + k + m ≤ end
+    → true ≡ is_free m a (start + k)
+all_are_free m a start end k h le =
+    sym (all_free m a (start + k) (λ t ge lt. h.present t (omega (arith, ge)) (omega (arith, lt, le))))
+
 pub there_at : (samples : List Sample) (place : ℕ) (sample : Sample) (b : Bool)
     → sample ≡ slice_index_or samples place Missing → b ≡ is_some (reading_of sample)
     → b ≡ is_some (number_at (series_of samples) place)

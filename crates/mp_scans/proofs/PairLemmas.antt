@@ -1,5 +1,5 @@
 -- Pairs of windows, and whether they have a distance.
-use Rattle.std.proofs.Common.{false, ◌≡◌, ℕ, ◌+◌, ◌<◌, ◌≤◌, List, length, true, refl, sym, ap, ◌∙◌, arith}
+use Rattle.std.proofs.Common.{◌≡◌, ℕ, ◌+◌, ◌<◌, ◌≤◌, List, length, true, refl, sym, ap, ◌∙◌, arith}
 use Rattle.std.specs.Prelude.{Option, Some, None, IsTrue, IsSome}
 use Rattle.std.proofs.lemmas.List.{length-map}
 use Rattle.std.specs.Prelude.{◌||◌}
@@ -42,20 +42,11 @@ no_distance m a b i j h =
     none_of (distance m a i b j) (IsTrue (is_free m a i) × IsTrue (is_free m b j)) (of_free_windows m a i b j).0
     (λ both. h both.0 both.1)
 
--- ---- a row, column by column
-
-pub no_columns : (r c d i j : ℕ) → d ≤ c → in_row r c d i j ≡ false
-no_columns r c d i j le = grind (arith, nat_tests)
-
-pub one_column : (r c d d' e i j : ℕ) → c ≤ d → d' ≡ d → e ≡ d + 1
-    → (in_row r c d i j || only r d' i j) ≡ in_row r c e i j
-one_column r c d d' e i j le f g = grind (arith, nat_tests)
-
 -- ---- one column of the row first
 
-pub first_column : (r c d b r' b' i j : ℕ) → d ≤ c → r' ≡ r → b' ≡ b
-    → only r' b' i j ≡ (only r b i j || in_row r c d i j)
-first_column r c d b r' b' i j le e f = grind (arith, nat_tests)
+pub first_columns : (r c d e b r' b' i j : ℕ) → d ≡ c → r' ≡ r → b' ≡ b
+    → (only r' b' i j || in_row r d e i j) ≡ (only r b i j || in_row r c e i j)
+first_columns r c d e b r' b' i j f g h = grind (arith, nat_tests)
 
 pub next_column : (r c d e b r' d' i j : ℕ) → c ≤ d → e ≡ d + 1 → r' ≡ r → d' ≡ d
     → ((only r b i j || in_row r c d i j) || only r' d' i j) ≡ (only r b i j || in_row r c e i j)
@@ -64,6 +55,10 @@ next_column r c d e b r' d' i j le f g h = grind (arith, nat_tests)
 pub taken_column : (r c d e b i j : ℕ) → c ≤ d → b ≡ d → e ≡ d + 1
     → (only r b i j || in_row r c d i j) ≡ (only r b i j || in_row r c e i j)
 taken_column r c d e b i j le f g = grind (arith, nat_tests)
+
+pub columns_on : (r c d e b i j : ℕ) → c ≤ d → d ≤ e
+    → ((only r b i j || in_row r c d i j) || in_row r d e i j) ≡ (only r b i j || in_row r c e i j)
+columns_on r c d e b i j le le' = grind (arith, nat_tests)
 
 pub all_columns : (r c d b e i j : ℕ) → c ≤ b → b < e → d ≡ e
     → (only r b i j || in_row r c d i j) ≡ in_row r c e i j

@@ -22,7 +22,7 @@ residue_lanes block k c v h = record {
 }
 
 -- the part of a list that begins at a place
-part_item : (v : List ℤ) (c n t : ℕ) → t < n → item (take n (drop c v)) t ≡ item v (c + t)
+pub part_item : (v : List ℤ) (c n t : ℕ) → t < n → item (take n (drop c v)) t ≡ item v (c + t)
 part_item v c n t lt = get_or-take n (drop c v) t (pos 0) lt ∙ get_or-drop c v t (pos 0)
 
 pub part_lanes : (v : List ℤ) (c n : ℕ) → n ≡ 32 → c + 32 ≤ length v

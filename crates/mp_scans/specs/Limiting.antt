@@ -1,6 +1,6 @@
 -- What the limits of a block's rows and columns tell.
 use Rattle.std.specs.Prelude.{◌≡◌, ℕ, ◌+◌, ◌-◌, ◌<◌, ◌≤◌, max, min, List, length, ℤ, ◌<ℤ◌, FitsSigned, Some}
-use Rattle.std.specs.Int.{w32}
+use Rattle.std.specs.Int.{w32, bit_at}
 use Rattle.mp_defs.specs.Series.{series_of}
 use Rattle.mp_defs.specs.Profile.{windows_of}
 use Rattle.mp_sums.specs.Grids.{distance_in}
@@ -54,3 +54,13 @@ pub record AreQuiet (block : Block) (keeps_row keeps_column : ℕ → ℕ → �
   pub column : (p t d : ℕ) → from ≤ p → p < end → t < 32 → IsColumn block (p + offset + t)
       → distance_in block.grid (block.row + p) (block.column + (p + offset + t)) ≡ Some d
       → keeps_column (block.column + (p + offset + t)) (block.row + p) d
+
+-- of a row's thirty-two columns from one on, each whose bit is set gives the row nothing, nor does the row give it
+-- something
+pub record AreKept (block : Block) (keeps_row keeps_column : ℕ → ℕ → ℕ → Type 0) (p c bits : ℕ) : Type 0 where
+  pub row : (t d : ℕ) → t < 32 → bit_at bits t ≡ 1 → IsRow block p
+      → distance_in block.grid (block.row + p) (block.column + (c + t)) ≡ Some d
+      → keeps_row (block.row + p) (block.column + (c + t)) d
+  pub column : (t d : ℕ) → t < 32 → bit_at bits t ≡ 1 → IsColumn block (c + t)
+      → distance_in block.grid (block.row + p) (block.column + (c + t)) ≡ Some d
+      → keeps_column (block.column + (c + t)) (block.row + p) d

@@ -11,6 +11,7 @@ ghost use Rattle.mp_scans.specs.Free.{AreFree};
 ghost use Rattle.mp_scans.specs.declared.sizes.TheConstants.{ROWS, COLUMNS, GROUP};
 
 use mp_sums::{Grid, Rounding};
+use std::simd::prelude::*;
 
 /// What comes in and what goes where successive windows move on by one: their differences, and their sums.
 #[derive(Clone, Copy)]
@@ -82,9 +83,13 @@ pub(crate) struct Pair {
     pub(crate) residue: i32,
 }
 
-/// A row, counted from a block's first, and the residues of it and of successive columns.
+/// A row, counted from a block's first, and the residues of it and of thirty-two columns, of which the first are scanned.
 #[derive(Clone, Copy)]
 pub(crate) struct Row<'a> {
     pub(crate) place: usize,
-    pub(crate) residues: &'a [i32],
+    /// How many columns are scanned.
+    pub(crate) width: usize,
+    pub(crate) residues: &'a i32x32,
+    ghost some_columns: { 1 ≤ width },
+    ghost narrow: { width ≤ 32 },
 }

@@ -8,15 +8,39 @@ ghost use Rattle.mp_sums.specs.Rounding.{rounded};
 ghost use Rattle.mp_sums.specs.Residues.{AreChanges};
 ghost use Rattle.mp_sums.specs.Rows.{AreResidues};
 ghost use Rattle.mp_scans.specs.Blocks.{AreStripResidues};
-ghost use Rattle.mp_scans.specs.declared.sizes.TheConstants.{COLUMNS, GROUP, TAKEN};
+ghost use Rattle.mp_scans.specs.declared.sizes.TheConstants.{COLUMNS, GROUP, SHORT, TAKEN};
 
 use crate::plans::Plan;
-use crate::sizes::{COLUMNS, GROUP, TAKEN};
+use crate::sizes::{COLUMNS, GROUP, SHORT, TAKEN};
 use mp_nums::Sample;
 use mp_sums::{Rounding, add_numbers, clear_residues, fill_changes};
 
-/// What comes in and what goes where the windows from `start` on move on by one.
-pub(crate) fn fill_windows(
+/// What comes in and what goes where windows of few samples move on by one, from numbers that are taken once.
+fn fill_short(
+    rounding: &Rounding,
+    samples: &[Sample],
+    start: usize,
+    differences: &mut [i32],
+    sums: &mut [i32],
+)
+    requires short { rounding.now.m ≤ SHORT }
+    requires start { start < 2 ^ 31 }
+    requires few { length differences.old ≤ COLUMNS }
+    requires sums { length sums.old ≡ length differences.old }
+    ensures changes { AreChanges rounding.now.m (rounded rounding.now.shift (numbers_of (series_of samples.now))) start
+        differences.new sums.new }
+    ensures places { length differences.new ≡ length differences.old }
+{
+    let (count, m) = (differences.len(), rounding.m as usize);
+    let mut numbers = [0; COLUMNS + SHORT];
+    let filled = &mut numbers[..count + m];
+    rounding.fill(samples, start, filled);
+    let numbers = &filled[..];
+    fill_changes(&numbers[..count], &numbers[m..], differences, sums);
+}
+
+/// The same of windows of any length.
+fn fill_long(
     rounding: &Rounding,
     samples: &[Sample],
     start: usize,
@@ -36,6 +60,28 @@ pub(crate) fn fill_windows(
     rounding.fill(samples, start, leaves);
     rounding.fill(samples, start + rounding.m as usize, enters);
     fill_changes(leaves, enters, differences, sums);
+}
+
+/// What comes in and what goes where the windows from `start` on move on by one.
+pub(crate) fn fill_windows(
+    rounding: &Rounding,
+    samples: &[Sample],
+    start: usize,
+    differences: &mut [i32],
+    sums: &mut [i32],
+)
+    requires start { start < 2 ^ 31 }
+    requires few { length differences.old ≤ COLUMNS }
+    requires sums { length sums.old ≡ length differences.old }
+    ensures changes { AreChanges rounding.now.m (rounded rounding.now.shift (numbers_of (series_of samples.now))) start
+        differences.new sums.new }
+    ensures places { length differences.new ≡ length differences.old }
+{
+    if rounding.m as usize <= SHORT {
+        fill_short(rounding, samples, start, differences, sums);
+    } else {
+        fill_long(rounding, samples, start, differences, sums);
+    }
 }
 
 /// Takes up to `TAKEN` samples behind the first `taken` of each window into residues, and tells how many are taken

@@ -1,15 +1,16 @@
 //! The limits of a block's rows and columns, as residues.
 
-ghost use Rattle.std.specs.Prelude.{◌≡◌, ℕ, ◌+◌, ◌<◌, ◌≤◌, length, FitsSigned};
+ghost use Rattle.std.specs.Prelude.{◌≡◌, ℕ, ◌+◌, ◌<◌, ◌≤◌, length, FitsSigned, false};
 ghost use Rattle.std.specs.Int.{w32};
 ghost use Rattle.mp_defs.specs.Series.{series_of};
 ghost use Rattle.mp_defs.specs.Window.{is_free};
+ghost use Rattle.mp_sums.specs.Limits.{IsBeyond};
 ghost use Rattle.mp_sums.specs.Residues.{item};
 ghost use Rattle.mp_scans.specs.Limiting.{IsRowLimit, IsColumnLimit, first_on};
 
 use crate::blocks::Block;
 use crate::offers::Offers;
-use mp_sums::NEVER;
+use mp_sums::{Limit, NEVER};
 
 /// Whether no sample of a row is missing.
 #[inline]
@@ -88,4 +89,27 @@ pub(crate) fn fill_column_limits<O: Offers>(
     for c in 0..limits.len() {
         limits[c] = column_limit::<O>(block, (c + 1).saturating_sub(width), c, into);
     }
+}
+
+/// Whether a distance is within a limit.
+#[inline]
+fn is_within(limit: Limit, dist: u128) -> bool
+    ensures { result ≡ false → IsBeyond limit dist }
+{
+    match limit {
+        Limit::Every => true,
+        Limit::Within(most) => dist <= most.0,
+        Limit::Below(end) => dist < end.0,
+    }
+}
+
+/// Whether a row and a column at a distance may give each other something.
+#[inline]
+pub(crate) fn may_give<O: Offers>(row: u64, column: u64, dist: u128, into: &O::Into) -> bool
+    ensures row { result ≡ false → O.keeps_row into.now row column dist }
+    ensures column { result ≡ false → O.keeps_column into.now column row dist }
+{
+    let to_row = is_within(O::row_limit(into, row, column), dist);
+    let to_column = is_within(O::column_limit(into, column, row), dist);
+    to_row | to_column
 }

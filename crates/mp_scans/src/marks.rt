@@ -1,6 +1,6 @@
 //! Marks of the windows of which no sample is missing.
 
-ghost use Rattle.std.specs.Prelude.{◌≡◌, ◌+◌, ◌^◌, ◌<◌, ◌≤◌, length, is_some, nat_le};
+ghost use Rattle.std.specs.Prelude.{◌≡◌, ℕ, ◌+◌, ◌^◌, ◌<◌, ◌≤◌, length, slice_index_or, is_some, nat_le, true, false};
 ghost use Rattle.mp_defs.specs.Series.{reading_of, series_of, number_at};
 ghost use Rattle.mp_scans.specs.Free.{AreFree, IsClear};
 
@@ -54,8 +54,34 @@ fn find_clear(samples: &[Sample], from: usize, end: usize) -> usize
     clear
 }
 
-/// Marks the windows of `m` samples from `start` on of which no sample is missing.
-pub(crate) fn mark_free(samples: &[Sample], m: usize, start: usize, marks: &mut [bool])
+/// Whether it is seen at once that no sample is missing of those from `from` on and before `end`.
+fn are_there(samples: &[Sample], from: usize, end: usize) -> bool
+    requires { from ≤ end }
+    ensures { result ≡ true → IsClear (series_of samples.now) from from end }
+{
+    if samples.len() < end {
+        return false;
+    }
+    for place in from..end {
+        if !is_there(samples[place]) {
+            return false;
+        }
+    }
+    true
+}
+
+/// Marks all windows.
+fn mark_all(marks: &mut [bool])
+    ensures marks { (k : ℕ) → k < length marks.new → slice_index_or marks.new k false ≡ true }
+    ensures places { length marks.new ≡ length marks.old }
+{
+    for k in 0..marks.len() {
+        marks[k] = true;
+    }
+}
+
+/// Marks the windows of `m` samples from `start` on of which no sample is missing, sample by sample.
+fn mark_each(samples: &[Sample], m: usize, start: usize, marks: &mut [bool])
     requires some { 1 ≤ m }
     requires end { start + m + length marks.old < 2 ^ 62 }
     ensures marks { AreFree m (series_of samples.now) start marks.new }
@@ -65,5 +91,19 @@ pub(crate) fn mark_free(samples: &[Sample], m: usize, start: usize, marks: &mut 
     for k in 0..marks.len() {
         clear = clear_after(samples, start, clear, start + m - 1 + k);
         marks[k] = is_clear_at(clear, start + k);
+    }
+}
+
+/// Marks the windows of `m` samples from `start` on of which no sample is missing: mostly all.
+pub(crate) fn mark_free(samples: &[Sample], m: usize, start: usize, marks: &mut [bool])
+    requires some { 1 ≤ m }
+    requires end { start + m + length marks.old < 2 ^ 62 }
+    ensures marks { AreFree m (series_of samples.now) start marks.new }
+    ensures places { length marks.new ≡ length marks.old }
+{
+    if are_there(samples, start, start + m + marks.len()) {
+        mark_all(marks);
+    } else {
+        mark_each(samples, m, start, marks);
     }
 }

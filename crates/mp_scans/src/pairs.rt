@@ -1,21 +1,26 @@
 //! Pairs of windows that are offered to each other.
 
-ghost use Rattle.std.specs.Prelude.{◌≡◌, ◌≢◌, ℕ, ◌+◌, ◌<◌, ◌≤◌, length, true, false};
+ghost use Rattle.std.specs.Prelude.{◌≡◌, ◌≢◌, ℕ, ◌+◌, ◌^◌, ◌<◌, ◌≤◌, length, true, false, Some};
+ghost use Rattle.std.specs.Int.{bit_at};
 ghost use Rattle.mp_defs.specs.Series.{series_of};
 ghost use Rattle.mp_defs.specs.Window.{is_free};
 ghost use Rattle.mp_scans.specs.Exacts.{AreExactsIn};
-ghost use Rattle.mp_scans.specs.Blocks.{residue_in, FitIn, AreScannedIn};
-ghost use Rattle.mp_scans.specs.Limiting.{IsColumn, IsRowLimit, IsColumnLimit, AreLimits, first_row};
+ghost use Rattle.mp_scans.specs.Blocks.{residue_in, AreResiduesAt, FitIn, AreScannedIn};
+ghost use Rattle.mp_scans.specs.Lanes.{AreLanes};
+ghost use Rattle.mp_scans.specs.Limiting.{IsColumn, IsRowLimit, IsColumnLimit, AreLimits, AreKept, first_row};
 ghost use Rattle.mp_scans.specs.Offering.{only, in_row};
+ghost use Rattle.mp_sums.specs.Grids.{distance_in};
 ghost use Rattle.mp_sums.specs.Residues.{item};
 ghost use Rattle.mp_defs.specs.Profile.{windows_of};
 
 use crate::blocks::{Block, Pair, Row, Strip};
 use crate::exacts::{Exact, distance_by};
-use crate::limits::{column_limit, row_limit};
+use crate::limits::{column_limit, may_give, row_limit};
 use crate::offers::Offers;
+use crate::vectors::{LANES, lanes_above, least_lane, next_clear};
 use mp_nums::Sq;
 use mp_sums::passes;
+use std::simd::prelude::*;
 
 /// Whether no sample of a row and of a column is missing.
 #[inline]
@@ -33,14 +38,37 @@ fn are_free(block: &Block, p: usize, c: usize) -> bool
     block.free_rows[p] & block.free_columns[c]
 }
 
-/// Offers a row and a column to each other, where no sample of either is missing.
+/// Offers a row and a column at a distance to each other, where that may give one of them something, and tells whether it
+/// may. Mostly it doesn't where rounding hides the distance, or where its sum wraps.
+#[inline]
+fn offer_at<O: Offers>(block: &Block, p: usize, c: usize, dist: u128, into: &mut O::Into) -> bool
+    requires row { p < length block.now.rows.differences.now }
+    requires is_column { IsColumn block.now c }
+    requires apart { block.now.row + p + O.least ≤ block.now.column + c }
+    requires dist { distance_in block.now.grid (block.now.row + p) (block.now.column + c) ≡ Some dist }
+    requires fits { FitIn O.fits block.now into.old }
+    ensures scanned { AreScannedIn O.is_scanned block.now (only (block.now.row + p) (block.now.column + c))
+        into.old into.new }
+    ensures same { result ≡ false → into.new ≡ into.old }
+{
+    let (row, column) = ((block.row + p) as u64, (block.column + c) as u64);
+    if may_give::<O>(row, column, dist, into) {
+        O::offer(into, row, column, Sq(dist));
+        true
+    } else {
+        false
+    }
+}
+
+/// Offers a row and a column to each other, where no sample of either is missing and their distance may give one of them
+/// something, and tells whether it is so.
 pub(crate) fn offer_pair<O: Offers>(
     strip: &Strip,
     p: usize,
     c: usize,
     exacts: &mut [Option<Exact>],
     into: &mut O::Into,
-)
+) -> bool
     requires row { p < strip.now.end }
     requires first { p + strip.now.offset ≤ c }
     requires last { c < p + strip.now.offset + 32 }
@@ -51,13 +79,16 @@ pub(crate) fn offer_pair<O: Offers>(
     ensures scanned { AreScannedIn O.is_scanned strip.now.block
         (only (strip.now.block.row + p) (strip.now.block.column + c)) into.old into.new }
     ensures exacts { AreExactsIn strip.now.block exacts.new }
+    ensures same { result ≡ false → into.new ≡ into.old }
 {
     let block = &strip.block;
     if are_free(block, p, c) {
         let (row, column) = (block.row + p, block.column + c);
         let first = block.column - block.row;
         let dist = distance_by(&block.grid, first, exacts, row, column);
-        O::offer(into, row as u64, column as u64, Sq(dist));
+        offer_at::<O>(block, p, c, dist, into)
+    } else {
+        false
     }
 }
 
@@ -91,8 +122,8 @@ fn next_column_limit<O: Offers>(strip: &Strip, pair: Pair, limit: i32, into: &O:
     }
 }
 
-/// Offers a row and a column to each other, and makes their limits anew. Only later rows are still offered to
-/// the column. It stands apart, so that the lanes of a row are tested in a short loop.
+/// Offers a row and a column to each other, and makes their limits anew where that may change them. Only later rows are
+/// still offered to the column. It stands apart, so that the lanes of a row are tested in a short loop.
 #[inline(never)]
 fn offer_within<O: Offers>(
     strip: &Strip,
@@ -118,9 +149,10 @@ fn offer_within<O: Offers>(
         (first_row strip.now.offset pair.row) row_limits.new column_limits.new }
 {
     let (p, c) = (pair.row, pair.column);
-    offer_pair::<O>(strip, p, c, exacts, into);
-    row_limits[p] = next_row_limit::<O>(strip, pair, row_limits[p], into);
-    column_limits[c] = next_column_limit::<O>(strip, pair, column_limits[c], into);
+    if offer_pair::<O>(strip, p, c, exacts, into) {
+        row_limits[p] = next_row_limit::<O>(strip, pair, row_limits[p], into);
+        column_limits[c] = next_column_limit::<O>(strip, pair, column_limits[c], into);
+    }
 }
 
 /// Takes a row and a column. They are offered to each other where their residue is within the limit of either.
@@ -158,26 +190,12 @@ fn take_pair<O: Offers>(
     }
 }
 
-/// The place of the least residue.
-fn least_place(residues: &[i32]) -> usize
-    requires { 1 ≤ length residues.now }
-    ensures { result < length residues.now }
-{
-    let mut least = 0;
-    for t in 1..residues.len() {
-        if residues[t] < residues[least] {
-            least = t;
-        }
-    }
-    least
-}
-
 /// The pair of a row and one of the strip's columns.
 #[inline]
 fn pair_at(strip: &Strip, row: &Row, t: usize) -> Pair
     requires row { row.now.place < strip.now.end }
-    requires lane { t < length row.now.residues.now }
-    requires few { length row.now.residues.now ≤ 32 }
+    requires lane { t < row.now.width }
+    requires residues { AreLanes row.now.residues.now }
     ensures row { result.row ≡ row.now.place }
     ensures column { result.column ≡ row.now.place + strip.now.offset + t }
     ensures residue { result.residue ≡ item row.now.residues.now t }
@@ -185,7 +203,7 @@ fn pair_at(strip: &Strip, row: &Row, t: usize) -> Pair
     Pair {
         row: row.place,
         column: row.place + strip.offset + t,
-        residue: row.residues[t],
+        residue: row.residues.as_array()[t],
     }
 }
 
@@ -198,8 +216,44 @@ fn is_other(t: usize, first: usize) -> bool
     t != first
 }
 
-/// Takes a row and the strip's first columns, one for each residue. The one that seems nearest comes first, since it may
-/// bring the limits below the others.
+/// A bit for each of a row's thirty-two columns, set where it is above both limits. Such a pair gives what keeps the
+/// nearest windows nothing, then and later.
+#[inline]
+fn columns_above<O: Offers>(
+    strip: &Strip,
+    row: &Row,
+    row_limits: &[i32],
+    column_limits: &[i32],
+    into: &O::Into,
+) -> u64
+    requires row { row.now.place < strip.now.end }
+    requires residues { AreResiduesAt strip.now.block row.now.place (row.now.place + strip.now.offset)
+        row.now.residues.now }
+    requires limits { AreLimits strip.now.block (O.keeps_row into.now) (O.keeps_column into.now)
+        (first_row strip.now.offset row.now.place) row_limits.now column_limits.now }
+    ensures kept { AreKept strip.now.block (O.keeps_row into.now) (O.keeps_column into.now) row.now.place
+        (row.now.place + strip.now.offset) result }
+    ensures small { result < 2 ^ 32 }
+{
+    let c = row.place + strip.offset;
+    let limits = &column_limits[c..c + LANES];
+    lanes_above(row.residues, &row_limits[row.place], limits)
+}
+
+/// The first of a row's columns from one on whose bit isn't set.
+#[inline]
+fn next_column(row: &Row, above: u64, from: usize) -> usize
+    requires above { above < 2 ^ 32 }
+    requires from { from ≤ row.now.width }
+    ensures behind { from ≤ result }
+    ensures within { result ≤ row.now.width }
+    ensures set { (t : ℕ) → from ≤ t → t < result → bit_at above t ≡ 1 }
+{
+    next_clear(above, from).min(row.width)
+}
+
+/// Takes a row and the strip's first columns. The one that seems nearest comes first, since it may bring the limits
+/// below the others.
 #[inline(never)]
 pub(crate) fn take_row<O: Offers>(
     strip: &Strip,
@@ -210,31 +264,33 @@ pub(crate) fn take_row<O: Offers>(
     into: &mut O::Into,
 )
     requires row { row.now.place < strip.now.end }
-    requires some { 1 ≤ length row.now.residues.now }
-    requires few { length row.now.residues.now ≤ 32 }
-    requires are_columns { strip.now.block.column + (row.now.place + strip.now.offset) + length row.now.residues.now
+    requires are_columns { strip.now.block.column + (row.now.place + strip.now.offset) + row.now.width
         ≤ windows_of strip.now.block.grid.m (series_of strip.now.block.grid.columns.now) }
     requires apart { strip.now.block.row + O.least ≤ strip.now.block.column + strip.now.offset }
-    requires residues { (t : ℕ) → t < length row.now.residues.now
-        → item row.now.residues.now t ≡ residue_in strip.now.block row.now.place (row.now.place + strip.now.offset + t) }
+    requires residues { AreResiduesAt strip.now.block row.now.place (row.now.place + strip.now.offset)
+        row.now.residues.now }
     requires exacts { AreExactsIn strip.now.block exacts.old }
     requires fits { FitIn O.fits strip.now.block into.old }
     requires limits { AreLimits strip.now.block (O.keeps_row into.old) (O.keeps_column into.old)
         (first_row strip.now.offset row.now.place) row_limits.old column_limits.old }
     ensures scanned { AreScannedIn O.is_scanned strip.now.block (in_row (strip.now.block.row + row.now.place)
         (strip.now.block.column + (row.now.place + strip.now.offset))
-        (strip.now.block.column + (row.now.place + strip.now.offset) + length row.now.residues.now)) into.old into.new }
+        (strip.now.block.column + (row.now.place + strip.now.offset) + row.now.width)) into.old into.new }
     ensures exacts { AreExactsIn strip.now.block exacts.new }
     ensures limits { AreLimits strip.now.block (O.keeps_row into.new) (O.keeps_column into.new)
         (first_row strip.now.offset row.now.place) row_limits.new column_limits.new }
 {
-    let least = least_place(row.residues);
-    let nearest = pair_at(strip, row, least);
-    take_pair::<O>(strip, nearest, row_limits, column_limits, exacts, into);
-    for t in 0..row.residues.len() {
-        if is_other(t, least) {
+    let nearest = least_lane(row.residues, row.width);
+    let first = pair_at(strip, row, nearest);
+    take_pair::<O>(strip, first, row_limits, column_limits, exacts, into);
+    let above = columns_above::<O>(strip, row, row_limits, column_limits, into);
+    let mut t = next_column(row, above, 0);
+    while t < row.width {
+        let next = next_column(row, above, t + 1);
+        if is_other(t, nearest) {
             let pair = pair_at(strip, row, t);
             take_pair::<O>(strip, pair, row_limits, column_limits, exacts, into);
         }
+        t = next;
     }
 }

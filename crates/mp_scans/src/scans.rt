@@ -10,7 +10,10 @@ use crate::groups::{Group, scan_group};
 use crate::offers::Offers;
 use crate::plans::{Plan, count_columns};
 use crate::sizes::GROUP;
-use crate::vectors::LANES;
+
+/// How many diagonals are scanned together first. On these most pairs are offered where a series is smooth, since each
+/// row is nearer to its column than those before it.
+const NEAREST: usize = 8;
 
 /// How many diagonals are scanned together from one on, as many as lie before it. Near ones often have the nearest
 /// windows, so they bring limits down first; and on the same diagonals only the first tie is offered to a column.
@@ -19,7 +22,7 @@ fn next_width(start: usize) -> usize
     ensures some { 1 ≤ result }
     ensures few { result ≤ GROUP }
 {
-    start.max(LANES).min(GROUP)
+    start.max(NEAREST).min(GROUP)
 }
 
 /// Offers the pairs of the rows from `top` on and before `bottom` and the columns that start from `first` on and before

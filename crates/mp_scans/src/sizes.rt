@@ -1,7 +1,7 @@
 //! How much is scanned at once.
 
 /// The most diagonals in a group.
-pub(crate) const GROUP: usize = 1_024;
+pub(crate) const GROUP: usize = 2_048;
 
 /// The most rows in a block. What its rows and columns are compared with stays in a small cache.
 pub(crate) const ROWS: usize = 1_024;
@@ -11,3 +11,6 @@ pub(crate) const COLUMNS: usize = ROWS + GROUP;
 
 /// How many samples of a window are taken at once.
 pub(crate) const TAKEN: usize = 256;
+
+/// The most samples of windows whose numbers are taken once for what comes in and for what goes.
+pub(crate) const SHORT: usize = 1_024;

@@ -56,10 +56,10 @@ fn take_next<O: Offers>(
         (first_row strip.now.offset result) row_limits.new column_limits.new }
 {
     if p < strip.end {
-        let width = lanes_at(strip, p);
         let row = Row {
             place: p,
-            residues: &residues.as_array()[..width],
+            width: lanes_at(strip, p),
+            residues,
         };
         take_row::<O>(strip, &row, row_limits, column_limits, exacts, into);
         advance(&strip.block, p, p + strip.offset, residues);

@@ -1,4 +1,3 @@
 pub mod Sums
 pub mod PlainNumbers
-pub mod CloseNumbers
 pub mod PlainDistances

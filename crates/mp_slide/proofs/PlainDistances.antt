@@ -14,12 +14,15 @@ use Rattle.mp_nums.specs.declared.samples.Sample.{Sample}
 use Rattle.mp_nums.specs.declared.samples.Sample.TheVariants.{Missing, Value}
 use Rattle.mp_defs.specs.Series.{Series, reading_of, series_of, number_at}
 use Rattle.mp_defs.specs.Window.{windows}
-use Rattle.mp_defs.specs.Distance.{square_gap, square_between, plus, distance}
+use Rattle.mp_defs.specs.Distance.{squared_difference, square_between, plus, distance}
 use Rattle.mp_defs.specs.Profile.{windows_of}
 use Rattle.mp_results.specs.Slide.{square, distances_of}
-use Rattle.mp_slide.specs.Plain.{filled, plain_numbers, gap, gaps_before, AreGaps, square_at, sum_from, plain_distance}
+use Rattle.mp_sums.specs.Sums.{filled}
+use Rattle.mp_sums.specs.Lists.{list_sum}
+use Rattle.mp_sums.specs.Residues.{item}
+use Rattle.mp_sums.specs.SumLaws.{sum_of_none, sum_suc}
+use Rattle.mp_slide.specs.Plain.{plain_numbers, gap, gaps_before, AreGaps, plain_distance}
 use Rattle.mp_slide.proofs.PlainNumbers.{number_at_place, gaps_more}
-use Rattle.mp_slide.proofs.Sums.{sum_none}
 
 distance_none : (a : Series) (i : ℕ) (b : Series) (j : ℕ) → distance 0 a i b j ≡ Some 0
 unfolding distance
@@ -30,9 +33,13 @@ distance_more : (m : ℕ) (a : Series) (i : ℕ) (b : Series) (j : ℕ)
 unfolding distance
 distance_more m a i b j = refl
 
-sum_one_more : (xs ys : List ℤ) (n : ℕ) → sum_from xs ys 0 (suc n) ≡ sum_from xs ys 0 n + square_at xs ys (0 + n)
-unfolding sum_from
-sum_one_more xs ys n = refl
+-- the squared difference of the numbers at a place
+abbrev square_at : List ℤ → List ℤ → ℕ → ℕ
+square_at xs ys k = squared_difference (item xs k) (item ys k)
+
+sum_one_more : (xs ys : List ℤ) (n : ℕ)
+    → list_sum (suc n) xs 0 ys 0 ≡ list_sum n xs 0 ys 0 + square_at xs ys (0 + n)
+sum_one_more xs ys n = sum_suc n (item xs) 0 (item ys) 0
 
 gaps_one_more : (a : Series) (i n : ℕ) → gaps_before a (i + suc n) ≡ gaps_before a (i + n) + gap (number_at a (i + n))
 gaps_one_more a i n =
@@ -77,29 +84,29 @@ next_number : (a : Series) (i n x sum : ℕ) (p : ℤ) (here : Option ℤ) → n
     → gaps_before a i ≤ gaps_before a (i + n)
     → x ≡ gaps_before a i → (q : ℤ) → ((z : ℤ) → here ≡ Some z → q ≡ z)
     → plus (counted x (gaps_before a (i + n)) sum) (square_between (Some p) here) ≡ counted x
-    (gaps_before a (i + suc n)) (sum + square_gap p q)
+    (gaps_before a (i + suc n)) (sum + squared_difference p q)
 next_number a i n x sum p None e rise f q g =
     let one : gap (number_at a (i + n)) ≡ 1 = ap gap e in
     let more : gaps_before a (i + suc n) ≡ gaps_before a (i + n) + 1 = omega (arith, gaps_one_more a i n, one) in
     plus_none (counted x (gaps_before a (i + n)) sum)
-    ∙ sym (gone x (gaps_before a (i + suc n)) (sum + square_gap p q) (omega arith))
+    ∙ sym (gone x (gaps_before a (i + suc n)) (sum + squared_difference p q) (omega arith))
 next_number a i n x sum p (Some z) e rise f q g =
     let none : gap (number_at a (i + n)) ≡ 0 = ap gap e in
     let same : gaps_before a (i + n) ≡ gaps_before a (i + suc n) = omega (arith, gaps_one_more a i n, none) in
-    ap (λ w. plus (counted x (gaps_before a (i + n)) sum) (Some (square_gap p w))) (sym (g z refl))
-    ∙ there_more x (gaps_before a (i + n)) sum (square_gap p q)
-    ∙ ap (λ y. counted x y (sum + square_gap p q)) same
+    ap (λ w. plus (counted x (gaps_before a (i + n)) sum) (Some (squared_difference p w))) (sym (g z refl))
+    ∙ there_more x (gaps_before a (i + n)) sum (squared_difference p q)
+    ∙ ap (λ y. counted x y (sum + squared_difference p q)) same
 
 -- ---- samples
 
 -- a number of the plain ones, which have 0 in place of a missing one
 plain_at : (samples : List Sample) (k : ℕ)
-    → get_or (plain_numbers (pos 0) samples) k (pos 0) ≡ filled (pos 0) (number_at (series_of samples) k)
+    → get_or (plain_numbers samples) k (pos 0) ≡ filled (number_at (series_of samples) k)
 plain_at samples k =
-    get_or-map (λ sample. filled (pos 0) (reading_of sample)) samples k Missing
-    ∙ ap (filled (pos 0)) (sym (number_at_place samples k))
+    get_or-map (λ sample. filled (reading_of sample)) samples k Missing
+    ∙ ap filled (sym (number_at_place samples k))
 
-filled_is : (here : Option ℤ) (z : ℤ) → here ≡ Some z → filled (pos 0) here ≡ z
+filled_is : (here : Option ℤ) (z : ℤ) → here ≡ Some z → filled here ≡ z
 filled_is None z e = cc
 filled_is (Some x) z e = cc
 
@@ -108,7 +115,7 @@ abbrev pub AreThere : List Sample → Type 0
 AreThere samples = (k : ℕ) → k < length samples → (z : ℤ) × (reading_of (get_or samples k Missing) ≡ Some z)
 
 number_there : (samples : List Sample) → AreThere samples → (k : ℕ) → k < length samples
-    → number_at (series_of samples) k ≡ Some (get_or (plain_numbers (pos 0) samples) k (pos 0))
+    → number_at (series_of samples) k ≡ Some (get_or (plain_numbers samples) k (pos 0))
 number_there samples there k lt =
     let found = there k lt in
     let here = number_at_place samples k ∙ found.1 in
@@ -119,10 +126,10 @@ window_at xs m i k lt = get_or-take m (drop i xs) k (pos 0) lt ∙ get_or-drop i
 
 module _ (pattern series : List Sample) (there : AreThere pattern) (i : ℕ) where
   abbrev plain_pattern : List ℤ
-  plain_pattern = plain_numbers (pos 0) pattern
+  plain_pattern = plain_numbers pattern
 
   abbrev plain_series : List ℤ
-  plain_series = plain_numbers (pos 0) series
+  plain_series = plain_numbers series
 
   abbrev window : List ℤ
   window = take (length pattern) (drop i plain_series)
@@ -131,54 +138,54 @@ module _ (pattern series : List Sample) (there : AreThere pattern) (i : ℕ) whe
   distance_so_far : (n : ℕ) → n ≤ length pattern
       → distance n (series_of pattern) 0 (series_of series) i
       ≡ counted (gaps_before (series_of series) i) (gaps_before (series_of series) (i + n))
-      (sum_from plain_pattern window 0 n)
+      (list_sum n plain_pattern 0 window 0)
   distance_so_far zero le =
       let same : gaps_before (series_of series) i ≡ gaps_before (series_of series) (i + 0) =
       (let none : i ≡ i + 0 = omega arith in ap (gaps_before (series_of series)) none) in
       distance_none (series_of pattern) 0 (series_of series) i
-      ∙ ap Some (sym (sum_none plain_pattern window 0))
+      ∙ ap Some (sym (sum_of_none (item plain_pattern) 0 (item window) 0))
       ∙ sym (counted_same (gaps_before (series_of series) i) (gaps_before (series_of series) (i + 0))
-      (sum_from plain_pattern window 0 0) same)
+      (list_sum 0 plain_pattern 0 window 0) same)
   distance_so_far (suc n) le =
       let p = get_or plain_pattern n (pos 0) in
       let first : number_at (series_of pattern) (0 + n) ≡ Some p =
       (let zero_more : 0 + n ≡ n = omega arith in ap (number_at (series_of pattern)) zero_more
       ∙ number_there pattern there n (omega arith)) in
       let second = window_at plain_series (length pattern) i n (omega arith) ∙ plain_at series (i + n) in
-      let square : square_at plain_pattern window (0 + n) ≡ square_gap p (get_or window n (pos 0)) =
+      let square : square_at plain_pattern window (0 + n) ≡ squared_difference p (get_or window n (pos 0)) =
       (let zero_more : 0 + n ≡ n = omega arith in ap (square_at plain_pattern window) zero_more) in
       distance_more n (series_of pattern) 0 (series_of series) i
       ∙ ap (λ d. plus d (square_between (number_at (series_of pattern) (0 + n))
       (number_at (series_of series) (i + n)))) (distance_so_far n (omega arith))
       ∙ ap (λ o. plus (counted (gaps_before (series_of series) i) (gaps_before (series_of series) (i + n))
-      (sum_from plain_pattern window 0 n)) (square_between o (number_at (series_of series) (i + n)))) first
-      ∙ next_number (series_of series) i n (gaps_before (series_of series) i) (sum_from plain_pattern window 0 n) p
+      (list_sum n plain_pattern 0 window 0)) (square_between o (number_at (series_of series) (i + n)))) first
+      ∙ next_number (series_of series) i n (gaps_before (series_of series) i) (list_sum n plain_pattern 0 window 0) p
       (number_at (series_of series) (i + n)) refl
       (gaps_rise (series_of series) i n) refl (get_or window n (pos 0))
       (λ z e. second ∙ filled_is (number_at (series_of series) (i + n)) z e)
       ∙ ap (counted (gaps_before (series_of series) i) (gaps_before (series_of series) (i + suc n)))
-      (ap (λ s. sum_from plain_pattern window 0 n + s) (sym square) ∙ sym (sum_one_more plain_pattern window n))
+      (ap (λ s. list_sum n plain_pattern 0 window 0 + s) (sym square) ∙ sym (sum_one_more plain_pattern window n))
 
   plain_is : (gaps : List ℕ) → AreGaps (series_of series) gaps → i + length pattern ≤ length series
       → plain_distance plain_pattern plain_series gaps i ≡ option_map square
       (distance (length (series_of pattern)) (series_of pattern) 0 (series_of series) i)
   plain_is gaps h within =
       let m = length pattern in
-      let long : length plain_pattern ≡ m = length-map pattern (λ sample. filled (pos 0) (reading_of sample)) in
+      let long : length plain_pattern ≡ m = length-map pattern (λ sample. filled (reading_of sample)) in
       let same : length (series_of pattern) ≡ m = length-map pattern reading_of in
       let places : length gaps ≡ length series + 1 = h.places ∙ ap (λ n. n + 1) (length-map series reading_of) in
       let before = h.counts i (omega arith) in
       let after = h.counts (i + m) (omega arith) in
       ap (λ n. plain_by n) long
-      ∙ (λ k. cond (before k == after k) (Some (square (sum_from plain_pattern window 0 m))) None)
+      ∙ (λ k. cond (before k == after k) (Some (square (list_sum m plain_pattern 0 window 0))) None)
       ∙ squared (gaps_before (series_of series) i) (gaps_before (series_of series) (i + m))
-      (sum_from plain_pattern window 0 m)
+      (list_sum m plain_pattern 0 window 0)
       ∙ ap (option_map square) (sym (distance_so_far m (omega arith)))
       ∙ ap (λ n. option_map square (distance n (series_of pattern) 0 (series_of series) i)) (sym same)
     where
       plain_by : ℕ → Option Sq
       plain_by n = cond (get_or gaps i 0 == get_or gaps (i + n) 0)
-          (Some (square (sum_from plain_pattern (take n (drop i plain_series)) 0 n))) None
+          (Some (square (list_sum n plain_pattern 0 (take n (drop i plain_series)) 0))) None
 
 same_on_range : (f g : ℕ → Option Sq) (a n : ℕ) → ((i : ℕ) → a ≤ i → i < a + n → f i ≡ g i)
     → map f (range_with_len a n) ≡ map g (range_with_len a n)
@@ -189,7 +196,7 @@ same_on_range f g a (suc n) h =
 
 -- the list of all windows
 pub plain_distances : (pattern series : List Sample) (xs ys : List ℤ) (gaps : List ℕ) (count : ℕ) → AreThere pattern
-    → xs ≡ plain_numbers (pos 0) pattern → ys ≡ plain_numbers (pos 0) series → AreGaps (series_of series) gaps
+    → xs ≡ plain_numbers pattern → ys ≡ plain_numbers series → AreGaps (series_of series) gaps
     → count ≡ windows (length series) (length pattern)
     → map (plain_distance xs ys gaps) (range_with_len 0 count) ≡ distances_of (series_of pattern) (series_of series)
 plain_distances pattern series xs ys gaps count there e f h number =
@@ -198,7 +205,7 @@ plain_distances pattern series xs ys gaps count there e f h number =
     let all : count ≡ windows_of (length (series_of pattern)) (series_of series) = number
     ∙ ap (λ n. windows n (length pattern)) (sym long) ∙ ap (windows (length (series_of series))) (sym same) in
     (λ k. map (plain_distance (e k) (f k) gaps) (range_with_len 0 count))
-    ∙ same_on_range (plain_distance (plain_numbers (pos 0) pattern) (plain_numbers (pos 0) series) gaps)
+    ∙ same_on_range (plain_distance (plain_numbers pattern) (plain_numbers series) gaps)
     (λ i. option_map square (distance (length (series_of pattern)) (series_of pattern) 0 (series_of series) i)) 0 count
     (λ i low high. plain_is pattern series there i gaps h (omega arith))
     ∙ ap (λ n. map (λ i. option_map square

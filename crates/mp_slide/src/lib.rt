@@ -1,4 +1,4 @@
-//! The distances of a pattern to each window of a series.
+//! The distance profile of a pattern: its distances to each window of a series.
 #![tactic(auto)]
 
 mod kernels;

@@ -1,54 +1,60 @@
 //! A pattern slid along a series.
 
-ghost use Rattle.std.specs.Prelude.{◌≡◌, ◌+◌, ◌-◌, ◌<◌, ◌≤◌, ◌↔◌, ◌⊎◌, length, map, true, IfOk, IsErrOf, Contains};
+ghost use Rattle.std.specs.Prelude.{◌≡◌, ◌+◌, ◌-◌, ◌<◌, ◌≤◌, ◌↔◌, ◌⊎◌, length, map, IfOk, IsErrOf, IsTrue, Contains};
 ghost use Rattle.std.specs.List.{range_with_len};
 ghost use Rattle.mp_nums.specs.declared.samples.Sample.TheVariants.{Missing};
 ghost use Rattle.mp_defs.specs.Limits.{max_window, min_window};
 ghost use Rattle.mp_defs.specs.Series.{series_of};
 ghost use Rattle.mp_results.specs.Slide.{distances_of};
-ghost use Rattle.mp_slide.specs.Plain.{AreGaps, IsShort, LieClose, plain_distance, plain_numbers};
+ghost use Rattle.mp_sums.specs.Ranges.{AreWithin, SumsFit};
+ghost use Rattle.mp_slide.specs.declared.kernels.TheConstants.{PART};
+ghost use Rattle.mp_slide.specs.Plain.{AreGaps, IsShort, plain_distance, plain_numbers};
 
-use crate::kernels::{parted_sum, wide_sum};
-use crate::plain::{gaps_of, lie_close, numbers_of};
+use crate::kernels::{PART, parted_sum};
+use crate::plain::{gaps_of, numbers_of};
 use crate::refusal::SlideRefusal;
 use mp_nums::{Items, Sample, Sq, SqList};
 use mp_series::{MAX_WINDOW, MIN_WINDOW, windows};
+use mp_sums::{Number, Range, window_sum};
 use rayon::prelude::*;
 use std::alloc::{AllocError, Global};
 use std::thread::Threads;
 
-/// What stands in place of a missing sample. No window with a missing sample is compared.
-const FILLER: i32 = 0;
-
-/// A pattern and a series, ready to be compared.
+/// A pattern and a series, ready to be compared: their numbers, how many samples of the series are missing before each
+/// place, the range of all numbers, and whether 64 bits hold the sums of its parts.
 #[derive(Drop)]
 struct Slide {
-    pattern: Vec<i32>,
-    numbers: Vec<i32>,
+    pattern: Vec<Number>,
+    numbers: Vec<Number>,
     gaps: Vec<usize>,
-    lie_close: bool,
+    range: Range,
+    is_narrow: bool,
     ghost short: { IsShort pattern.items },
     ghost counted: { length gaps.items ≡ length numbers.items + 1 },
-    ghost close: { lie_close ≡ true → LieClose pattern.items numbers.items },
+    ghost of_pattern: { AreWithin range pattern.items },
+    ghost of_numbers: { AreWithin range numbers.items },
+    ghost narrow: { IsTrue is_narrow ↔ SumsFit PART 64 range },
 }
 
 impl Slide {
     /// Reads samples, of which the pattern's are all there.
     fn of(alloc: Global, pattern: &[Sample], series: &[Sample]) -> Result<Slide, AllocError>
         requires { length pattern.now ≤ max_window }
-        ensures pattern { IfOk result (λ slide. slide.pattern.items ≡ plain_numbers FILLER pattern.now) }
-        ensures numbers { IfOk result (λ slide. slide.numbers.items ≡ plain_numbers FILLER series.now) }
+        ensures pattern { IfOk result (λ slide. slide.pattern.items ≡ plain_numbers pattern.now) }
+        ensures numbers { IfOk result (λ slide. slide.numbers.items ≡ plain_numbers series.now) }
         ensures gaps { IfOk result (λ slide. AreGaps (series_of series.now) slide.gaps.items) }
     {
-        let pattern = numbers_of(alloc, pattern, FILLER)?;
-        let numbers = numbers_of(alloc, series, FILLER)?;
+        let pattern = numbers_of(alloc, pattern)?;
+        let numbers = numbers_of(alloc, series)?;
         let gaps = gaps_of(alloc, series)?;
-        let lie_close = lie_close(pattern.as_slice(), numbers.as_slice());
+        let range = Range::of(pattern.as_slice()).with_numbers(numbers.as_slice());
+        let is_narrow = range.sums_fit(PART as u32, 64);
         Ok(Slide {
             pattern,
             numbers,
             gaps,
-            lie_close,
+            range,
+            is_narrow,
         })
     }
 
@@ -63,10 +69,10 @@ impl Slide {
         }
         let pattern = self.pattern.as_slice();
         let window = &self.numbers[start..end];
-        let sum = if self.lie_close {
+        let sum = if self.is_narrow {
             parted_sum(pattern, window)
         } else {
-            wide_sum(pattern, window)
+            window_sum(pattern, window)
         };
         Some(Sq(sum))
     }
@@ -96,8 +102,8 @@ fn distances_by_start(
         .collect(rt, alloc)
 }
 
-/// The distance of the pattern to each window of the series at the pattern's length, none where the window isn't free.
-/// The windows are compared by as many threads as there are processors.
+/// The distance profile of the pattern: its distance to each window of the series at the pattern's length, none where the
+/// window isn't free. The windows are compared by as many threads as there are processors.
 pub fn distances(
     rt: &(impl Threads + Sync),
     alloc: Global,

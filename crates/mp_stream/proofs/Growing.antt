@@ -1,9 +1,9 @@
 -- What is kept of the windows of a series that has one sample more.
-use Rattle.std.proofs.Common.{◌^◌}
+use Rattle.std.proofs.Common.{◌*◌, ◌^◌}
 use Rattle.std.proofs.Common.{◌≡◌, ℕ, zero, suc, ◌+◌, ◌-◌, ◌<◌, ◌≤◌, inl, inr, List, [], ◌∷◌, ◌++◌, length, get_or}
 use Rattle.std.proofs.Common.{take}
 use Rattle.std.proofs.Common.{Bool, true, false, refl, sym, ap, ◌∙◌, arith, subst}
-use Rattle.std.specs.Prelude.{Option, Some, None, ℤ, pos, ◌≤ℤ◌, nat_eq, nat_lt, ◌&&◌, min}
+use Rattle.std.specs.Prelude.{Option, Some, None, ℤ, pos, ◌-ℤ◌, ◌≤ℤ◌, unsigned_abs, nat_eq, nat_lt, ◌&&◌, min}
 use Rattle.std.specs.List.{range_with_len}
 use Rattle.std.proofs.Math.ListN.{get_or-append}
 use Rattle.std.proofs.Math.Seq.{get_or-append_seam, take-length}
@@ -17,6 +17,7 @@ use Rattle.mp_nums.specs.declared.nearest.Near.{Near}
 use Rattle.mp_nums.specs.declared.samples.Sample.{Sample}
 use Rattle.mp_nums.specs.declared.samples.Sample.TheVariants.{Missing, Value}
 use Rattle.mp_nums.specs.Near.{nearer_of}
+use Rattle.mp_defs.specs.Limits.{max_window}
 use Rattle.mp_defs.specs.Series.{Series, reading_of, series_of}
 use Rattle.mp_defs.specs.SeriesLaws.{series_are_of_samples}
 use Rattle.mp_defs.specs.Window.{is_free, excl, is_allowed, windows}
@@ -30,17 +31,24 @@ use Rattle.mp_partial.specs.Values.{Column, merged_column}
 use Rattle.mp_stream.specs.Blocks.{AreKnown, StayKnown}
 use Rattle.mp_series.specs.Samples.{number_in, numbers_in}
 use Rattle.mp_stream.specs.Limits.{limit_by, StartsAtMost, AllStartAtMost, AreLimits}
-use Rattle.mp_stream.specs.Rows.{IsTaken, row_candidate, sum_at, square_at, offered_before, with_best, IsRow}
-use Rattle.mp_stream.specs.Appended.{with_one, filled, AreNumbers}
-use Rattle.mp_stream.specs.Ranges.{AreWithin, Reaches, SumsFit}
-use Rattle.mp_stream.specs.Streams.{HaveRows, IsKnown, IsOf, IsOffered, Streamed, last_row, without_last}
-use Rattle.mp_stream.specs.declared.kept.Kept.{Kept}
-use Rattle.mp_stream.specs.declared.ranges.Range.{Range}
+use Rattle.mp_stream.specs.Rows.{HavePlaces, IsBefore, IsTaken, row_candidate, sum_at, square_at, offered_before, with_best}
+use Rattle.mp_stream.specs.Rows.{IsRow, last_distance, last_place}
+use Rattle.mp_stream.specs.declared.entries.Entries.{Entries}
+use Rattle.mp_sums.specs.Sums.{filled}
+use Rattle.mp_stream.specs.Appended.{with_one, AreNumbers}
+use Rattle.mp_sums.specs.Ranges.{AreWithin, IsInRange, Reaches, SumsFit}
+use Rattle.mp_sums.specs.RangeLaws.{squares_in_range}
+use Rattle.std.proofs.Math.Nat.{mul-le-mul_left}
+use Rattle.mp_stream.specs.Offers.{AreOffered}
+use Rattle.mp_stream.specs.Streams.{HaveRows, IsGrown, IsKnown, IsOf, IsOfInBits, IsOffered, IsWaiting, Streamed}
+use Rattle.mp_stream.specs.Streams.{offered_to, without_last}
+use Rattle.mp_stream.specs.declared.profiles.GrowingProfile.{GrowingProfile}
+use Rattle.mp_sums.specs.declared.ranges.Range.{Range}
 use Rattle.mp_stream.proofs.Moving.{sum_small}
 use Rattle.mp_stream.proofs.SumLemmas.{sum_none, sum_more}
-use Rattle.mp_stream.proofs.Steps.{push_more}
-use Rattle.mp_stream.proofs.Entries.{free_front, left_stays, left_last, left_last_none, right_entries}
-use Rattle.mp_stream.proofs.Entries.{right_entries_stay, windows_more}
+use Rattle.mp_stream.proofs.Steps.{front_taken, push_more}
+use Rattle.mp_stream.proofs.EntryLemmas.{free_front, left_stays, left_last, left_last_none, right_entries}
+use Rattle.mp_stream.proofs.EntryLemmas.{right_entries_stay, windows_more}
 
 -- ---- columns
 
@@ -64,16 +72,16 @@ all_entries m a all left right e f g =
     ∙ sym (entries_are_of_both_sides (is_allowed m) (zone_is_mutual.irreflexive m) m a i))
 
 -- what is known of a profile is known of that of other samples that it became
-pub known_through : (m : ℕ) (front items : List Sample) (old new : Kept) (known : Column) → IsOf m front old
-    → IsOf m items new → old.profile.all ≡ merged_column old.profile.left old.profile.right
-    → new.profile.all ≡ merged_column new.profile.left new.profile.right → StayKnown old.profile new.profile
-    → AreKnown known (matrix_profile m (series_of front)).all old.profile.changed
-    → AreKnown known (matrix_profile m (series_of items)).all new.profile.changed
+pub known_through : (m : ℕ) (front items : List Sample) (old new : GrowingProfile) (known : Column) → IsOf m front old
+    → IsOf m items new → old.entries.profile.all ≡ merged_column old.entries.profile.left old.entries.profile.right
+    → new.entries.profile.all ≡ merged_column new.entries.profile.left new.entries.profile.right → StayKnown old.entries.profile new.entries.profile
+    → AreKnown known (matrix_profile m (series_of front)).all old.entries.profile.changed
+    → AreKnown known (matrix_profile m (series_of items)).all new.entries.profile.changed
 known_through m front items old new known h k lesser lesser' stay was =
     let before = all_entries m (series_of front) _ _ _ lesser h.left h.right in
     let after = all_entries m (series_of items) _ _ _ lesser' k.left k.right in
-    subst (λ (all : Column). AreKnown known all new.profile.changed) after
-    (stay known (subst (λ (all : Column). AreKnown known all old.profile.changed) (sym before) was))
+    subst (λ (all : Column). AreKnown known all new.entries.profile.changed) after
+    (stay known (subst (λ (all : Column). AreKnown known all old.entries.profile.changed) (sym before) was))
 
 -- what is known of a stream is known of one that differs in room and reads alone
 pub known_same : (known : Column) (old new : Streamed) → new.items ≡ old.items → new.m ≡ old.m
@@ -93,10 +101,6 @@ pub front_is : (front items : List Sample) (sample : Sample) → items ≡ front
 front_is front items sample e =
     let long = length-append front (sample ∷ []) in
     ap without_last e ∙ ap (λ n. take n (front ++ sample ∷ [])) (omega (arith, long)) ∙ front_taken front (sample ∷ [])
-  where
-    front_taken : (xs ys : List Sample) → take (length xs) (xs ++ ys) ≡ xs
-    front_taken [] ys = refl
-    front_taken (x ∷ xs) ys = ap (λ (l : List Sample). x ∷ l) (front_taken xs ys)
 
 pub without_last_long : (items : List Sample) → length (without_last items) ≡ length items - 1
 without_last_long items = length-take-le (length items - 1) items (omega arith)
@@ -105,7 +109,7 @@ pub series_with : (items : List Sample) (s : Sample) → series_of (items ++ s �
     (reading_of s)
 series_with items s = map-append reading_of items (s ∷ [])
 
-number_filled : (s : Sample) → number_in s ≡ filled (reading_of s)
+pub number_filled : (s : Sample) → number_in s ≡ filled (reading_of s)
 number_filled Missing = refl
 number_filled (Value n) = refl
 
@@ -140,23 +144,47 @@ sum_front xs ys (suc m) i j le le' =
     ) refl)
 
 -- the sums before the last window, in a row that has room for one more
-pub row_before : (m : ℕ) (items : List Sample) (row grown : List ℕ) (w : ℕ) → 1 ≤ m → 1 ≤ length items
-    → length row ≡ w → w ≡ windows (length (without_last items)) m
-    → IsRow (numbers_in (without_last items)) m (windows (length (without_last items)) m - 1) row
-    → grown ≡ row ++ 0 ∷ [] → (i : ℕ) → i < w → get_or grown i 0 ≡ sum_at (numbers_in items) m i (w - 1)
-row_before m items row grown w least some long count before e i lt =
+row_before : (m : ℕ) (items : List Sample) (row grown : List ℕ) → 1 ≤ m → m ≤ length items
+    → length row ≡ last_place m items → IsRow (numbers_in (without_last items)) m (last_place m (without_last items)) row
+    → grown ≡ row ++ 0 ∷ [] → (i : ℕ) → i < last_place m items
+    → get_or grown i 0 ≡ sum_at (numbers_in items) m i (last_place m items - 1)
+row_before m items row grown least long places before e i lt =
     let front = without_last items in
     let last = get_or items (length items - 1) Missing in
     let whole : numbers_in items ≡ numbers_in front ++ number_in last ∷ [] =
-    ap numbers_in (split_last items some) ∙ map-append number_in front (last ∷ []) in
+    ap numbers_in (split_last items (omega arith)) ∙ map-append number_in front (last ∷ []) in
     let many : length (numbers_in front) ≡ length front = length-map front number_in in
-    let here : windows (length front) m - 1 ≡ w - 1 = omega (arith, count) in
-    let below : i < length row = omega (arith, lt, long) in
+    let count = without_last_long items in
+    let here : last_place m front ≡ last_place m items - 1 = omega (arith, count) in
+    let below : i < length row = omega (arith, lt, places) in
     ap (λ list. get_or list i 0) e ∙ get_or-append row (0 ∷ []) 0 i below ∙ before i below
     ∙ ap (sum_at (numbers_in front) m i) here
-    ∙ sym (sum_front (numbers_in front) (number_in last ∷ []) m i (w - 1) (omega (arith, lt, count, many))
-    (omega (arith, lt, count, many)))
-    ∙ ap (λ list. sum_at list m i (w - 1)) (sym whole)
+    ∙ sym (sum_front (numbers_in front) (number_in last ∷ []) m i (last_place m items - 1)
+    (omega (arith, lt, count, many)) (omega (arith, lt, count, many)))
+    ∙ ap (λ list. sum_at list m i (last_place m items - 1)) (sym whole)
+
+-- a row and room for the next, with a place more
+places_wait : (m : ℕ) (items : List Sample) (row grown next : List ℕ) → 1 ≤ m → m ≤ length items
+    → length row ≡ windows (length (without_last items)) m → grown ≡ row ++ 0 ∷ []
+    → length next ≡ windows (length (without_last items)) m + 1 → HavePlaces (windows (length items) m) grown next
+places_wait m items row grown next least long places e more =
+    let count = without_last_long items in
+    record {
+      sums_are = ap length e ∙ length-append row (0 ∷ []) ∙ omega (arith, count, places);
+      next_are = omega (arith, count, more);
+    }
+
+row_waits : (m : ℕ) (items : List Sample) (row grown next : List ℕ) → 1 ≤ m → m ≤ max_window → m ≤ length items
+    → length row ≡ windows (length (without_last items)) m
+    → IsRow (numbers_in (without_last items)) m (last_place m (without_last items)) row → grown ≡ row ++ 0 ∷ []
+    → length next ≡ windows (length (without_last items)) m + 1 → IsBefore m items grown next
+row_waits m items row grown next least width long places before e more = record {
+  least = least;
+  width = width;
+  long = long;
+  places = places_wait m items row grown next least long places e more;
+  row = row_before m items row grown least long (omega (arith, without_last_long items, places)) before e;
+}
 
 -- ---- one window more
 
@@ -192,7 +220,7 @@ best_long column w None = refl
 best_long column w (Some found) = length-set column w (nearer_of (get_or column w None) (Some found))
 
 -- the windows that were there, one sample before
-pub record IsBefore (m : ℕ) (a : Series) (s : Option ℤ) (xs : List ℤ) : Type 0 where
+pub record IsBeforeLast (m : ℕ) (a : Series) (s : Option ℤ) (xs : List ℤ) : Type 0 where
   pub long : m ≤ length a + 1
   pub numbers : AreNumbers (with_one a s) xs
 
@@ -205,138 +233,72 @@ frees_grow m a s free is_free_last le long before last =
     push_more false (λ i x. x ≡ is_free m (with_one a s) i) free (windows_of m a) is_free_last long
     (λ i lt. before i lt ∙ sym (free_front m a s i (omega (arith, lt)))) last
 
--- the left column where the last window is free
-pub lefts_grow : (m : ℕ) (a : Series) (s : Option ℤ) (xs : List ℤ) (free : List Bool)
-    (left new : List (Option Near)) → IsBefore m a s xs
-    → ((i : ℕ) → i < windows_of m a + 1 → get_or free i false ≡ is_free m (with_one a s) i)
-    → is_free m (with_one a s) (windows_of m a) ≡ true
-    → left ≡ (matrix_profile m a).left
-    → new ≡ with_best (left ++ None ∷ []) (windows_of m a)
-    (near (row_candidate free (λ i. sum_at xs m i (windows_of m a))) (windows_of m a - excl m))
-    → new ≡ (matrix_profile m (with_one a s)).left
-lefts_grow m a s xs free left new h frees last e f =
+-- the left column, by what the last window finds
+lefts_grow : (m : ℕ) (a : Series) (s : Option ℤ) (left new : List (Option Near)) (best : Option Near)
+    → m ≤ length a + 1 → left ≡ (matrix_profile m a).left → new ≡ with_best (left ++ None ∷ []) (windows_of m a) best
+    → best ≡ left_entry (is_allowed m) m (with_one a s) (windows_of m a) → new ≡ (matrix_profile m (with_one a s)).left
+lefts_grow m a s left new best le e f found =
     let b = with_one a s in
     let w = windows_of m a in
-    let more = windows_more m a s h.long in
+    let more = windows_more m a s le in
     let grown = left ++ None ∷ [] in
-    let best = near (row_candidate free (λ i. sum_at xs m i w)) (w - excl m) in
     let count : length left ≡ w = ap length e ∙ columns_have_places.count (left_entry (is_allowed m) m a) w in
-    let found : best ≡ left_entry (is_allowed m) m b w = left_last m a s xs free h.long h.numbers frees last in
-    let long : length new ≡ w + 1 = ap length f ∙ best_long grown w best ∙ length-append left (None ∷ [])
-    ∙ ap (λ n. n + 1) count in
     f ∙ column_is (left_entry (is_allowed m) m b) (windows_of m b) (with_best grown w best)
-    (ap length (sym f) ∙ long ∙ sym more)
+    (best_long grown w best ∙ length-append left (None ∷ []) ∙ ap (λ n. n + 1) count ∙ sym more)
     (λ i lt. elim (cases_lt i w) [
       | inl less ↦ best_other grown w i best (λ same. omega (arith, same, less))
           ∙ pushed_before left i (omega (arith, less, count))
           ∙ ap (λ list. get_or list i None) e
           ∙ columns_have_places.at_place (left_entry (is_allowed m) m a) w i less
-          ∙ sym (left_stays (is_allowed m) m a s i h.long less)
+          ∙ sym (left_stays (is_allowed m) m a s i le less)
       | inr ge ↦ let same : w ≡ i = omega (arith, ge, lt, more) in
           subst (λ k. get_or (with_best grown w best) k None ≡ left_entry (is_allowed m) m b k) same
           (best_here grown w best (omega (arith, length-append left (None ∷ []), count)) (pushed_last left w count)
           ∙ found)
     ])
 
--- where the last window isn't free
-pub lefts_stay : (m : ℕ) (a : Series) (s : Option ℤ) (xs : List ℤ) (left new : List (Option Near)) → IsBefore m a s xs
-    → is_free m (with_one a s) (windows_of m a) ≡ false → left ≡ (matrix_profile m a).left
-    → new ≡ left ++ None ∷ [] → new ≡ (matrix_profile m (with_one a s)).left
-lefts_stay m a s xs left new h last e f =
-    let b = with_one a s in
-    let w = windows_of m a in
-    let more = windows_more m a s h.long in
-    let count : length left ≡ w = ap length e ∙ columns_have_places.count (left_entry (is_allowed m) m a) w in
-    f ∙ column_is (left_entry (is_allowed m) m b) (windows_of m b) (left ++ None ∷ [])
-    (length-append left (None ∷ []) ∙ ap (λ n. n + 1) count ∙ sym more)
-    (λ i lt. elim (cases_lt i w) [
-      | inl less ↦ pushed_before left i (omega (arith, less, count)) ∙ ap (λ list. get_or list i None) e
-          ∙ columns_have_places.at_place (left_entry (is_allowed m) m a) w i less
-          ∙ sym (left_stays (is_allowed m) m a s i h.long less)
-      | inr ge ↦ let same : w ≡ i = omega (arith, ge, lt, more) in
-          subst (λ k. get_or (left ++ None ∷ []) k None ≡ left_entry (is_allowed m) m b k) same
-          (pushed_last left w count ∙ sym (left_last_none m a s xs h.long h.numbers last))
-    ])
-
--- the right column where the last window is free
-pub rights_grow : (m : ℕ) (a : Series) (s : Option ℤ) (xs : List ℤ) (free : List Bool)
-    (right new : List (Option Near)) → IsBefore m a s xs
-    → ((i : ℕ) → i < windows_of m a + 1 → get_or free i false ≡ is_free m (with_one a s) i)
-    → is_free m (with_one a s) (windows_of m a) ≡ true
-    → right ≡ (matrix_profile m a).right
-    → IsTaken free (λ i. sum_at xs m i (windows_of m a)) (windows_of m a) 0 (windows_of m a - excl m)
-    (right ++ None ∷ []) new
-    → new ≡ (matrix_profile m (with_one a s)).right
-rights_grow m a s xs free right new h frees last e taken =
-    let b = with_one a s in
-    let w = windows_of m a in
-    let more = windows_more m a s h.long in
-    let count : length right ≡ w = ap length e ∙ columns_have_places.count (right_entry (is_allowed m) m a) w in
-    column_is (right_entry (is_allowed m) m b) (windows_of m b) new
-    (taken.places ∙ length-append right (None ∷ []) ∙ ap (λ n. n + 1) count ∙ sym more)
-    (λ i lt. right_entries m a s xs free (right ++ None ∷ []) new h.long h.numbers frees last
-    (λ k less. pushed_before right k (omega (arith, less, count)) ∙ ap (λ list. get_or list k None) e
-    ∙ columns_have_places.at_place (right_entry (is_allowed m) m a) w k less)
-    (pushed_last right w count) taken i (omega (arith, lt, more)))
-
-pub rights_stay : (m : ℕ) (a : Series) (s : Option ℤ) (xs : List ℤ) (right new : List (Option Near)) → IsBefore m a s xs
-    → is_free m (with_one a s) (windows_of m a) ≡ false → right ≡ (matrix_profile m a).right
-    → new ≡ right ++ None ∷ [] → new ≡ (matrix_profile m (with_one a s)).right
-rights_stay m a s xs right new h last e f =
-    let b = with_one a s in
-    let w = windows_of m a in
-    let more = windows_more m a s h.long in
-    let count : length right ≡ w = ap length e ∙ columns_have_places.count (right_entry (is_allowed m) m a) w in
-    f ∙ column_is (right_entry (is_allowed m) m b) (windows_of m b) (right ++ None ∷ [])
-    (length-append right (None ∷ []) ∙ ap (λ n. n + 1) count ∙ sym more)
-    (λ i lt. right_entries_stay m a s xs (right ++ None ∷ []) h.long h.numbers last
-    (λ k less. pushed_before right k (omega (arith, less, count)) ∙ ap (λ list. get_or list k None) e
-    ∙ columns_have_places.at_place (right_entry (is_allowed m) m a) w k less)
-    (pushed_last right w count) i (omega (arith, lt, more)))
-
 -- ---- all that is kept
 
--- what is kept once the last window has its place
-pub record IsGrown (last_free : Bool) (before grown : Kept) : Type 0 where
-  pub left : grown.profile.left ≡ before.profile.left ++ None ∷ []
-  pub right : grown.profile.right ≡ before.profile.right ++ None ∷ []
-  pub free : grown.free.items ≡ before.free.items ++ last_free ∷ []
-  pub range : grown.range ≡ before.range
-  pub is_narrow : grown.is_narrow ≡ before.is_narrow
+-- the distances of a window at place w
+abbrev row_at : ℕ → List Sample → ℕ → ℕ → ℕ
+row_at m items w i = sum_at (numbers_in items) m i w
 
 -- the series with its last sample, and the windows that it had before
-pub record IsSplit (m : ℕ) (items : List Sample) (w : ℕ) : Type 0 where
+pub record IsSplit (m : ℕ) (items : List Sample) : Type 0 where
   pub series : series_of items
       ≡ with_one (series_of (without_last items)) (reading_of (get_or items (length items - 1) Missing))
-  pub count : windows_of m (series_of (without_last items)) ≡ w
-  pub more : windows (length items) m ≡ w + 1
-  pub before : IsBefore m (series_of (without_last items)) (reading_of (get_or items (length items - 1) Missing))
+  pub count : windows_of m (series_of (without_last items)) ≡ last_place m items
+  pub front : windows (length (without_last items)) m ≡ last_place m items
+  pub more : windows (length items) m ≡ last_place m items + 1
+  pub before : IsBeforeLast m (series_of (without_last items)) (reading_of (get_or items (length items - 1) Missing))
       (numbers_in items)
 
-pub is_split : (m : ℕ) (items : List Sample) (w : ℕ) → 1 ≤ m → m ≤ length items
-    → w ≡ windows (length (without_last items)) m → IsSplit m items w
-is_split m items w least le e =
+pub is_split : (m : ℕ) (items : List Sample) → 1 ≤ m → m ≤ length items → IsSplit m items
+is_split m items least le =
     let front = without_last items in
     let last = get_or items (length items - 1) Missing in
     let long = without_last_long items in
+    let fewer : windows (length front) m ≡ last_place m items = omega (arith, long) in
     let series : series_of items ≡ with_one (series_of front) (reading_of last) =
     ap series_of (split_last items (omega arith)) ∙ series_with front last in
     record {
       series = series;
-      count = ap (λ n. windows n m) (length-map front reading_of) ∙ sym e;
-      more = omega (arith, long, e);
+      count = ap (λ n. windows n m) (length-map front reading_of) ∙ fewer;
+      front = fewer;
+      more = omega (arith, long);
       before = record {
         long = omega (arith, long, length-map front reading_of);
         numbers = subst (λ a. AreNumbers a (numbers_in items)) series (numbers_are items);
       };
     }
 
-frees_of : (m : ℕ) (items : List Sample) (last_free : Bool) (w : ℕ) (before grown : Kept)
-    → IsOf m (without_last items) before → IsSplit m items w → IsGrown last_free before grown
-    → last_free ≡ is_free m (series_of items) w → (i : ℕ) → i < windows_of m (series_of (without_last items)) + 1
+frees_of : (m : ℕ) (items : List Sample) (last_free : Bool) (before grown : GrowingProfile)
+    → IsOf m (without_last items) before → IsSplit m items → IsGrown last_free before grown
+    → last_free ≡ is_free m (series_of items) (last_place m items)
+    → (i : ℕ) → i < windows_of m (series_of (without_last items)) + 1
     → get_or grown.free.items i false
     ≡ is_free m (with_one (series_of (without_last items)) (reading_of (get_or items (length items - 1) Missing))) i
-frees_of m items last_free w before grown h split grown_is last i lt =
+frees_of m items last_free before grown h split grown_is last i lt =
     let front = without_last items in
     let t = reading_of (get_or items (length items - 1) Missing) in
     let v = windows_of m (series_of front) in
@@ -346,143 +308,104 @@ frees_of m items last_free w before grown h split grown_is last i lt =
     (λ k less. h.free k (omega (arith, less, many)))
     (last ∙ ap (is_free m (series_of items)) (sym split.count) ∙ ap (λ a. is_free m a v) split.series) i lt
 
-last_is : (m : ℕ) (items : List Sample) (last_free value : Bool) (w : ℕ) → IsSplit m items w
-    → last_free ≡ is_free m (series_of items) w → last_free ≡ value
+last_is : (m : ℕ) (items : List Sample) (last_free value : Bool) → IsSplit m items
+    → last_free ≡ is_free m (series_of items) (last_place m items) → last_free ≡ value
     → is_free m (with_one (series_of (without_last items)) (reading_of (get_or items (length items - 1) Missing)))
     (windows_of m (series_of (without_last items))) ≡ value
-last_is m items last_free value w split last e =
+last_is m items last_free value split last e =
     ap (λ a. is_free m a (windows_of m (series_of (without_last items)))) (sym split.series)
     ∙ ap (is_free m (series_of items)) split.count ∙ sym last ∙ e
 
--- a column to which no window was offered
-taken_nothing : (free : List Bool) (dist : ℕ → ℕ) (j : ℕ) (old new : List (Option Near))
-    → IsTaken free dist j 0 0 old new
-    → new ≡ old
-taken_nothing free dist j old new h = ext_get_or None new old h.places (λ i lt. h.behind i (omega arith))
+-- what the last window finds to its left
+best_found : (m : ℕ) (items : List Sample) (last_free : Bool) (before grown : GrowingProfile)
+    → IsOf m (without_last items) before → IsSplit m items → IsGrown last_free before grown
+    → last_free ≡ is_free m (series_of items) (last_place m items) → (t : Bool) → last_free ≡ t
+    → near (row_candidate grown.free.items (last_distance m items)) (offered_to m items last_free)
+    ≡ left_entry (is_allowed m) m
+    (with_one (series_of (without_last items)) (reading_of (get_or items (length items - 1) Missing)))
+    (windows_of m (series_of (without_last items)))
+best_found m items last_free before grown h split grown_is last true some =
+    let free = grown.free.items in
+    ap (λ t. near (row_candidate free (last_distance m items)) (offered_before t m (last_place m items))) some
+    ∙ ap (λ j. near (row_candidate free (row_at m items j)) (j - excl m)) (sym split.count)
+    ∙ left_last m _ _ (numbers_in items) free split.before.long split.before.numbers
+    (frees_of m items last_free before grown h split grown_is last) (last_is m items last_free true split last some)
+best_found m items last_free before grown h split grown_is last false none =
+    let c = row_candidate grown.free.items (last_distance m items) in
+    ap (λ t. near c (offered_before t m (last_place m items))) none ∙ grows_by_one_candidate.no_candidates c
+    ∙ sym (left_last_none m _ _ (numbers_in items) split.before.long split.before.numbers
+    (last_is m items last_free false split last none))
 
-best_of_none : (column : List (Option Near)) (w : ℕ) (c : ℕ → Option Near) → with_best column w (near c 0) ≡ column
-best_of_none column w c = ap (with_best column w) (grows_by_one_candidate.no_candidates c)
-
-left_after : (m : ℕ) (items : List Sample) (last_free : Bool) (w : ℕ) (before grown after : Kept)
-    → IsOf m (without_last items) before → IsSplit m items w → IsGrown last_free before grown
-    → IsOffered m items last_free w grown after → last_free ≡ is_free m (series_of items) w → (t : Bool)
-    → last_free ≡ t → after.profile.left ≡ (matrix_profile m (series_of items)).left
-left_after m items last_free w before grown after h split grown_is offered last true some =
-    let front = without_last items in
-    let c = row_candidate grown.free.items (last_row m items w) in
-    let frees = frees_of m items last_free w before grown h split grown_is last in
-    let found : after.profile.left ≡ with_best (before.profile.left ++ None ∷ []) w (near c (w - excl m)) =
-    offered.left ∙ ap (λ t. with_best grown.profile.left w (near c (offered_before t m w))) some
-    ∙ ap (λ column. with_best column w (near c (w - excl m))) grown_is.left in
-    lefts_grow m (series_of front) (reading_of (get_or items (length items - 1) Missing)) (numbers_in items)
-    grown.free.items before.profile.left after.profile.left split.before frees
-    (last_is m items last_free true w split last some) h.left
-    (subst (λ j. after.profile.left ≡ with_best (before.profile.left ++ None ∷ []) j
-    (near (row_candidate grown.free.items (last_row m items j)) (j - excl m))) (sym split.count) found)
+left_after : (m : ℕ) (items : List Sample) (last_free : Bool) (before grown after : GrowingProfile)
+    → IsOf m (without_last items) before → IsSplit m items → IsGrown last_free before grown
+    → IsOffered m items last_free grown after → last_free ≡ is_free m (series_of items) (last_place m items)
+    → after.entries.profile.left ≡ (matrix_profile m (series_of items)).left
+left_after m items last_free before grown after h split grown_is offered last =
+    let w = last_place m items in
+    let best = near (row_candidate grown.free.items (last_distance m items)) (offered_to m items last_free) in
+    let column = before.entries.profile.left ++ None ∷ [] in
+    lefts_grow m (series_of (without_last items)) (reading_of (get_or items (length items - 1) Missing))
+    before.entries.profile.left after.entries.profile.left best split.before.long h.left
+    (subst (λ j. after.entries.profile.left ≡ with_best column j best) (sym split.count)
+    (offered.left ∙ ap (λ list. with_best list w best) grown_is.left))
+    (best_found m items last_free before grown h split grown_is last last_free refl)
     ∙ ap (λ a. (matrix_profile m a).left) (sym split.series)
-left_after m items last_free w before grown after h split grown_is offered last false none =
-    let front = without_last items in
-    let c = row_candidate grown.free.items (last_row m items w) in
-    let found : after.profile.left ≡ before.profile.left ++ None ∷ [] =
-    offered.left ∙ ap (λ t. with_best grown.profile.left w (near c (offered_before t m w))) none
-    ∙ best_of_none grown.profile.left w c ∙ grown_is.left in
-    lefts_stay m (series_of front) (reading_of (get_or items (length items - 1) Missing)) (numbers_in items)
-    before.profile.left after.profile.left split.before (last_is m items last_free false w split last none) h.left found
-    ∙ ap (λ a. (matrix_profile m a).left) (sym split.series)
 
-right_after : (m : ℕ) (items : List Sample) (last_free : Bool) (w : ℕ) (before grown after : Kept)
-    → IsOf m (without_last items) before → IsSplit m items w → IsGrown last_free before grown
-    → IsOffered m items last_free w grown after → last_free ≡ is_free m (series_of items) w → (t : Bool)
-    → last_free ≡ t → after.profile.right ≡ (matrix_profile m (series_of items)).right
-right_after m items last_free w before grown after h split grown_is offered last true some =
-    let front = without_last items in
-    let frees = frees_of m items last_free w before grown h split grown_is last in
-    let taken : IsTaken grown.free.items (last_row m items w) w 0 (w - excl m) (before.profile.right ++ None ∷ [])
-    after.profile.right =
-    subst (λ column. IsTaken grown.free.items (last_row m items w) w 0 (w - excl m) column after.profile.right)
-    grown_is.right
-    (subst (λ t. IsTaken grown.free.items (last_row m items w) w 0 (offered_before t m w) grown.profile.right
-    after.profile.right) some offered.right) in
-    rights_grow m (series_of front) (reading_of (get_or items (length items - 1) Missing)) (numbers_in items)
-    grown.free.items before.profile.right after.profile.right split.before frees
-    (last_is m items last_free true w split last some) h.right
-    (subst (λ j. IsTaken grown.free.items (last_row m items j) j 0 (j - excl m) (before.profile.right ++ None ∷ [])
-    after.profile.right) (sym split.count) taken)
+-- what stands to the right of each window
+rights_found : (m : ℕ) (items : List Sample) (last_free : Bool) (before grown : GrowingProfile)
+    (old new : List (Option Near)) → IsOf m (without_last items) before → IsSplit m items → IsGrown last_free before grown
+    → last_free ≡ is_free m (series_of items) (last_place m items)
+    → ((i : ℕ) → i < windows_of m (series_of (without_last items))
+    → get_or old i None ≡ right_entry (is_allowed m) m (series_of (without_last items)) i)
+    → get_or old (windows_of m (series_of (without_last items))) None ≡ None
+    → IsTaken grown.free.items (last_distance m items) (last_place m items) 0 (offered_to m items last_free) old new
+    → (t : Bool) → last_free ≡ t → (i : ℕ) → i < windows_of m (series_of (without_last items)) + 1
+    → get_or new i None ≡ right_entry (is_allowed m) m
+    (with_one (series_of (without_last items)) (reading_of (get_or items (length items - 1) Missing))) i
+rights_found m items last_free before grown old new h split grown_is last stood none taken true some i lt =
+    let free = grown.free.items in
+    let w = last_place m items in
+    right_entries m _ _ (numbers_in items) free old new split.before.long split.before.numbers
+    (frees_of m items last_free before grown h split grown_is last) (last_is m items last_free true split last some)
+    stood none
+    (subst (λ j. IsTaken free (row_at m items j) j 0 (j - excl m) old new) (sym split.count)
+    (subst (λ t. IsTaken free (last_distance m items) w 0 (offered_before t m w) old new) some taken)) i lt
+rights_found m items last_free before grown old new h split grown_is last stood none taken false kind i lt =
+    let free = grown.free.items in
+    let w = last_place m items in
+    let nothing = subst (λ t. IsTaken free (last_distance m items) w 0 (offered_before t m w) old new) kind taken in
+    nothing.behind i (omega arith)
+    ∙ right_entries_stay m _ _ (numbers_in items) old split.before.long split.before.numbers
+    (last_is m items last_free false split last kind) stood none i lt
+
+right_after : (m : ℕ) (items : List Sample) (last_free : Bool) (before grown after : GrowingProfile)
+    → IsOf m (without_last items) before → IsSplit m items → IsGrown last_free before grown
+    → IsOffered m items last_free grown after → last_free ≡ is_free m (series_of items) (last_place m items)
+    → after.entries.profile.right ≡ (matrix_profile m (series_of items)).right
+right_after m items last_free before grown after h split grown_is offered last =
+    let a = series_of (without_last items) in
+    let b = with_one a (reading_of (get_or items (length items - 1) Missing)) in
+    let right = before.entries.profile.right in
+    let new = after.entries.profile.right in
+    let w = windows_of m a in
+    let more = windows_more m a (reading_of (get_or items (length items - 1) Missing)) split.before.long in
+    let count : length right ≡ w = ap length h.right ∙ columns_have_places.count (right_entry (is_allowed m) m a) w in
+    let taken : IsTaken grown.free.items (last_distance m items) (last_place m items) 0 (offered_to m items last_free)
+    (right ++ None ∷ []) new =
+    subst (λ column. IsTaken grown.free.items (last_distance m items) (last_place m items) 0
+    (offered_to m items last_free) column new) grown_is.right offered.right in
+    column_is (right_entry (is_allowed m) m b) (windows_of m b) new
+    (taken.places ∙ length-append right (None ∷ []) ∙ ap (λ n. n + 1) count ∙ sym more)
+    (λ i lt. rights_found m items last_free before grown (right ++ None ∷ []) new h split grown_is last
+    (λ k less. pushed_before right k (omega (arith, less, count)) ∙ ap (λ list. get_or list k None) h.right
+    ∙ columns_have_places.at_place (right_entry (is_allowed m) m a) w k less)
+    (pushed_last right w count) taken last_free refl i (omega (arith, lt, more)))
     ∙ ap (λ a. (matrix_profile m a).right) (sym split.series)
-right_after m items last_free w before grown after h split grown_is offered last false none =
-    let front = without_last items in
-    let taken : IsTaken grown.free.items (last_row m items w) w 0 0 grown.profile.right after.profile.right =
-    subst (λ t. IsTaken grown.free.items (last_row m items w) w 0 (offered_before t m w) grown.profile.right
-    after.profile.right) none offered.right in
-    rights_stay m (series_of front) (reading_of (get_or items (length items - 1) Missing)) (numbers_in items)
-    before.profile.right after.profile.right split.before (last_is m items last_free false w split last none) h.right
-    (taken_nothing grown.free.items (last_row m items w) w grown.profile.right after.profile.right taken
-    ∙ grown_is.right)
-    ∙ ap (λ a. (matrix_profile m a).right) (sym split.series)
-
-pub true_false : (t : Bool) → t ≡ true → t ≡ false → ⊥
-true_false t e f = cc
-
--- what the offers are, by a row of n sums
-pub is_offered : (m : ℕ) (items : List Sample) (last_free : Bool) (w n end : ℕ) (free : List Bool)
-    (new : List (Option Near)) (best : Option Near) (grown after : Kept) → n - 1 ≡ w → free ≡ grown.free.items
-    → end ≡ offered_before last_free m w
-    → IsTaken free (last_row m items (n - 1)) (n - 1) 0 end grown.profile.right new → after.profile.right ≡ new
-    → best ≡ near (row_candidate free (last_row m items (n - 1))) end
-    → after.profile.left ≡ with_best grown.profile.left w best → after.free ≡ grown.free → after.range ≡ grown.range
-    → after.is_narrow ≡ grown.is_narrow → IsOffered m items last_free w grown after
-is_offered m items last_free w n end free new best grown after at free_is end_is taken right best_is left frees range
-    is_narrow =
-    let old = grown.profile.right in
-    record {
-      right = subst (IsTaken grown.free.items (last_row m items w) w 0 (offered_before last_free m w) old) (sym right)
-          (subst (λ e. IsTaken grown.free.items (last_row m items w) w 0 e old new) end_is
-          (subst (λ j. IsTaken grown.free.items (last_row m items j) j 0 end old new) at
-          (subst (λ f. IsTaken f (last_row m items (n - 1)) (n - 1) 0 end old new) free_is taken)));
-      left = left ∙ ap (with_best grown.profile.left w) (best_is
-          ∙ ap (λ f. near (row_candidate f (last_row m items (n - 1))) end) free_is
-          ∙ ap (λ j. near (row_candidate grown.free.items (last_row m items j)) end) at
-          ∙ ap (near (row_candidate grown.free.items (last_row m items w))) end_is);
-      free = frees;
-      range = range;
-      is_narrow = is_narrow;
-    }
-
--- with the last window offered, in 64 or in 128 bits
-pub kept_grows : (m : ℕ) (items : List Sample) (last_free : Bool) (w : ℕ) (before grown after : Kept)
-    → IsOf m (without_last items) before → IsSplit m items w → IsGrown last_free before grown
-    → IsOffered m items last_free w grown after → last_free ≡ is_free m (series_of items) w
-    → w ≡ windows (length (without_last items)) m → HaveRows (w + 1) after → AreWithin grown.range (numbers_in items)
-    → AreLimits (limit_by grown.is_narrow) after.profile.right after.limits.items
-    → (grown.is_narrow ≡ true → SumsFit m grown.range × IsRow (numbers_in items) m w after.narrow.sums.items)
-    → (grown.is_narrow ≡ false → IsRow (numbers_in items) m w after.wide.sums.items)
-    → IsOf m items after
-kept_grows m items last_free w before grown after h split grown_is offered last at rows range limits narrow wide =
-    let row_at : w ≡ windows (length items) m - 1 = omega (arith, split.more) in
-    record {
-      left = left_after m items last_free w before grown after h split grown_is offered last last_free refl;
-      right = right_after m items last_free w before grown after h split grown_is offered last last_free refl;
-      frees = ap (λ free. length free.items) offered.free ∙ ap length grown_is.free
-          ∙ length-append before.free.items (last_free ∷ []) ∙ ap (λ n. n + 1) (h.frees ∙ sym at) ∙ sym split.more;
-      free = λ i lt. ap (λ free. get_or free.items i false) offered.free
-          ∙ frees_of m items last_free w before grown h split grown_is last i
-          (omega (arith, lt, split.more, split.count)) ∙ ap (λ a. is_free m a i) (sym split.series);
-      range = subst (λ range. AreWithin range (numbers_in items)) (sym offered.range) range;
-      limits =
-          subst (λ t. AreLimits (limit_by t) after.profile.right after.limits.items) (sym offered.is_narrow) limits;
-      rows = subst (λ n. HaveRows n after) (sym split.more) rows;
-      narrow = λ is. let facts = narrow (sym offered.is_narrow ∙ is) in record {
-        fits = subst (SumsFit m) (sym offered.range) facts.0;
-        row = subst (λ j. IsRow (numbers_in items) m j after.narrow.sums.items) row_at facts.1;
-      };
-      wide = λ is. subst (λ j. IsRow (numbers_in items) m j after.wide.sums.items) row_at
-          (wide (sym offered.is_narrow ∙ is));
-    }
 
 -- the columns have a place for each window
-pub rights_count : (m : ℕ) (items : List Sample) (kept : Kept) → IsOf m items kept
-    → length kept.profile.right ≡ windows (length items) m
-rights_count m items kept h =
+pub rights_count : (m : ℕ) (items : List Sample) (growing : GrowingProfile) → IsOf m items growing
+    → length growing.entries.profile.right ≡ windows (length items) m
+rights_count m items growing h =
     ap length h.right
     ∙ columns_have_places.count (right_entry (is_allowed m) m (series_of items)) (windows_of m (series_of items))
     ∙ ap (λ n. windows n m) (length-map items reading_of)
@@ -540,6 +463,138 @@ rights_start m items w right at e i =
     pushed_from (x ∷ column) zero le = absurd (omega (arith, le))
     pushed_from (x ∷ column) (suc i) le = pushed_from column i (omega (arith, le))
 
+-- with a place for the last window
+pub grown_waits : (m : ℕ) (items : List Sample) (last_free : Bool) (before grown : GrowingProfile) → 1 ≤ m
+    → m ≤ max_window → m ≤ length items → IsOf m (without_last items) before → IsSplit m items
+    → IsGrown last_free before grown → length before.entries.profile.all ≡ length before.entries.profile.right
+    → AreWithin before.range (numbers_in items) → IsWaiting m items grown
+grown_waits m items last_free before grown least width long h split grown_is all range =
+    let front = without_last items in
+    let w = last_place m items in
+    let right = before.entries.profile.right in
+    let rights : length right ≡ w = rights_count m front before h ∙ split.front in
+    let next = ap (λ n. n + 1) h.rows.narrow.next_are in
+    let wide_next = ap (λ n. n + 1) h.rows.wide.next_are in
+    record {
+      frees = ap length grown_is.free ∙ length-append before.free.items (last_free ∷ [])
+          ∙ ap (λ n. n + 1) (h.frees ∙ split.front) ∙ sym split.more;
+      range = subst (λ r. AreWithin r (numbers_in items)) (sym grown_is.range) range;
+      rows = record {
+        narrow = places_wait m items _ _ _ least long h.rows.narrow.sums_are grown_is.narrow (grown_is.narrow_next ∙ next);
+        wide = places_wait m items _ _ _ least long h.rows.wide.sums_are grown_is.wide (grown_is.wide_next ∙ wide_next);
+      };
+      ready = record {
+        all = grown_is.all ∙ ap (λ n. n + 1) (all ∙ rights);
+        rights = ap length grown_is.right ∙ length-append right (None ∷ []) ∙ ap (λ n. n + 1) rights;
+        starts = subst (AllStartAtMost w) (sym grown_is.right) (rights_start m front w right split.count h.right);
+        limits = subst (λ t. AreLimits (limit_by t) grown.entries.profile.right grown.entries.limits.items)
+            (sym grown_is.is_narrow)
+            (subst (λ column. AreLimits (limit_by before.is_narrow) column grown.entries.limits.items) (sym grown_is.right)
+            (subst (AreLimits (limit_by before.is_narrow) (right ++ None ∷ [])) (sym grown_is.limits)
+            (limits_grow before.is_narrow right before.entries.limits.items h.limits)));
+      };
+      fits = λ is. subst (SumsFit m 63) (sym grown_is.range) (h.fits (sym grown_is.is_narrow ∙ is));
+      narrow = λ is. row_waits m items _ _ _ least width long h.rows.narrow.sums_are
+          (h.narrow (sym grown_is.is_narrow ∙ is)) grown_is.narrow (grown_is.narrow_next ∙ next);
+      wide = λ is. row_waits m items _ _ _ least width long h.rows.wide.sums_are
+          (h.wide (sym grown_is.is_narrow ∙ is)) grown_is.wide (grown_is.wide_next ∙ wide_next);
+    }
+
+-- what the offers are, by a row of the kind that is kept
+pub is_offered : (t : Bool) (m : ℕ) (items : List Sample) (last_free : Bool) (end last : ℕ) (free : List Bool)
+    (best : Option Near) (middle : Entries) (grown after : GrowingProfile) → grown.is_narrow ≡ t
+    → free ≡ grown.free.items → last ≡ last_place m items → end ≡ offered_before last_free m last
+    → AreOffered (limit_by t) free (last_distance m items) (last_place m items) 0 end grown.entries middle
+    → best ≡ near (row_candidate free (last_distance m items)) end
+    → after.entries.profile.right ≡ middle.profile.right
+    → after.entries.profile.left ≡ with_best middle.profile.left last best → after.entries.limits ≡ middle.limits
+    → after.free ≡ grown.free → after.range ≡ grown.range → after.is_narrow ≡ grown.is_narrow
+    → HaveRows (windows (length items) m) after
+    → (t ≡ true → IsRow (numbers_in items) m (last_place m items) after.narrow.sums.items)
+    → (t ≡ false → IsRow (numbers_in items) m (last_place m items) after.wide.sums.items)
+    → IsOffered m items last_free grown after
+is_offered t m items last_free end last free best middle grown after kind free_is last_is end_is offered best_is right
+    left limits frees range is_narrow rows narrow wide =
+    let w = last_place m items in
+    let to : end ≡ offered_to m items last_free = end_is ∙ ap (offered_before last_free m) last_is in
+    let old = grown.entries.profile in
+    record {
+      right = subst (IsTaken grown.free.items (last_distance m items) w 0 (offered_to m items last_free) old.right)
+          (sym right)
+          (subst (λ e. IsTaken grown.free.items (last_distance m items) w 0 e old.right middle.profile.right) to
+          (subst (λ f. IsTaken f (last_distance m items) w 0 end old.right middle.profile.right) free_is offered.right));
+      left = left ∙ ap (λ column. with_best column last best) offered.only.left
+          ∙ ap (λ j. with_best old.left j best) last_is
+          ∙ ap (with_best old.left w) (best_is ∙ ap (λ f. near (row_candidate f (last_distance m items)) end) free_is
+          ∙ ap (near (row_candidate grown.free.items (last_distance m items))) to);
+      free = frees;
+      range = range;
+      is_narrow = is_narrow;
+      limits = subst (λ column. AreLimits (limit_by grown.is_narrow) column after.entries.limits.items) (sym right)
+          (subst (λ items. AreLimits (limit_by grown.is_narrow) middle.profile.right items.items) (sym limits)
+          (subst (λ k. AreLimits (limit_by k) middle.profile.right middle.limits.items) (sym kind) offered.ready.limits));
+      rows = rows;
+      narrow = λ is. narrow (sym kind ∙ is);
+      wide = λ is. wide (sym kind ∙ is);
+    }
+
+-- with the last window offered
+pub kept_grows : (m : ℕ) (items : List Sample) (last_free : Bool) (before grown after : GrowingProfile)
+    → IsOf m (without_last items) before → IsSplit m items → IsGrown last_free before grown
+    → IsOffered m items last_free grown after → last_free ≡ is_free m (series_of items) (last_place m items)
+    → IsWaiting m items grown → IsOf m items after
+kept_grows m items last_free before grown after h split grown_is offered last waiting = record {
+  left = left_after m items last_free before grown after h split grown_is offered last;
+  right = right_after m items last_free before grown after h split grown_is offered last;
+  frees = ap (λ free. length free.items) offered.free ∙ ap length grown_is.free
+      ∙ length-append before.free.items (last_free ∷ []) ∙ ap (λ n. n + 1) (h.frees ∙ split.front) ∙ sym split.more;
+  free = λ i lt. ap (λ free. get_or free.items i false) offered.free
+      ∙ frees_of m items last_free before grown h split grown_is last i
+      (omega (arith, lt, split.more, split.count)) ∙ ap (λ a. is_free m a i) (sym split.series);
+  range = subst (λ range. AreWithin range (numbers_in items)) (sym offered.range) waiting.range;
+  limits = subst (λ t. AreLimits (limit_by t) after.entries.profile.right after.entries.limits.items)
+      (sym offered.is_narrow) offered.limits;
+  rows = offered.rows;
+  fits = λ is. subst (SumsFit m 63) (sym offered.range) (waiting.fits (sym offered.is_narrow ∙ is));
+  exact = λ fits. offered.is_narrow ∙ grown_is.is_narrow
+      ∙ h.exact (subst (SumsFit m 63) (offered.range ∙ grown_is.range) fits);
+  none = λ zero. subst (SumsFit m 63) (sym (offered.range ∙ grown_is.range))
+      (h.none (omega (arith, zero, without_last_long items)));
+  narrow = λ is. offered.narrow (sym offered.is_narrow ∙ is);
+  wide = λ is. offered.wide (sym offered.is_narrow ∙ is);
+}
+
+-- ---- whether 64 bits hold the sums
+
+-- a number alone has no differences
+number_fits : (m : ℕ) (range : Range) → range.greatest ≡ range.least → SumsFit m 63 range
+number_fits m range same =
+    let zero : unsigned_abs (range.greatest -ℤ range.least) ≡ 0 = omega (arith, ints, same) in
+    subst (λ n. m * (n * n) < 2 ^ 63) (sym zero) (omega arith)
+
+-- those of a range fit where those of a wider one do
+narrower_fits : (m : ℕ) (old new : Range) → old.least ≤ℤ old.greatest → Reaches new old → SumsFit m 63 new
+    → SumsFit m 63 old
+narrower_fits m old new ordered reach fits =
+    let greatest : IsInRange new old.greatest = (omega (arith, ints, ordered, reach.0), reach.1) in
+    let least : IsInRange new old.least = (reach.0, omega (arith, ints, ordered, reach.1)) in
+    let squares = squares_in_range new old.greatest old.least greatest least in
+    omega (arith, mul-le-mul_left m squares, fits)
+
+narrow_by : (m n : ℕ) (items : List Sample) (before : GrowingProfile) (range : Range) → length items ≡ n
+    → IsOf m items before → (0 < length items → Reaches range before.range) → SumsFit m 63 range
+    → before.is_narrow ≡ true
+narrow_by m zero items before range is h wider fits = h.exact (h.none is)
+narrow_by m (suc n) items before range is h wider fits =
+    let some : 0 < length items = omega (arith, is) in
+    let first = h.range 0 (omega (arith, some, length-map items number_in)) in
+    h.exact (narrower_fits m before.range range (omega (arith, ints, first)) (wider some) fits)
+
+-- where 64 bits hold those of a range that reaches further, the row has 64 bits before
+pub narrow_before : (m : ℕ) (items : List Sample) (before : GrowingProfile) (range : Range) → IsOf m items before
+    → (0 < length items → Reaches range before.range) → SumsFit m 63 range → before.is_narrow ≡ true
+narrow_before m items before range = narrow_by m (length items) items before range refl
+
 -- ---- the first time
 
 saturated_sum : (sum wide narrow : ℕ) → narrow ≡ min wide (2 ^ 64 - 1) → wide ≡ sum → sum < 2 ^ 63 → narrow ≡ sum
@@ -547,7 +602,7 @@ saturated_sum sum wide narrow e f lt = omega (arith, e, f, lt)
 
 pub narrow_first : (m : ℕ) (items : List Sample) (range : Range) (wide narrow : List ℕ) → 1 ≤ m
     → length wide ≡ windows (length items) m → length narrow ≡ length wide → AreWithin range (numbers_in items)
-    → SumsFit m range → IsRow (numbers_in items) m (windows (length items) m - 1) wide
+    → SumsFit m 63 range → IsRow (numbers_in items) m (windows (length items) m - 1) wide
     → ((i : ℕ) → i < length wide → get_or narrow i 0 ≡ min (get_or wide i 0) (2 ^ 64 - 1))
     → IsRow (numbers_in items) m (windows (length items) m - 1) narrow
 narrow_first m items range wide narrow least long same within fit row sums i lt =
@@ -557,40 +612,35 @@ narrow_first m items range wide narrow least long same within fit row sums i lt 
     (sum_small range (numbers_in items) m i (windows (length items) m - 1) within fit
     (omega (arith, below, long, many, least)) (omega (arith, below, long, many, least)))
 
-pub kept_first : (m : ℕ) (items : List Sample) (kept : Kept) → 1 ≤ m
-    → kept.profile.left ≡ (matrix_profile m (series_of items)).left
-    → kept.profile.right ≡ (matrix_profile m (series_of items)).right
-    → length kept.free.items ≡ windows (length items) m
-    → ((i : ℕ) → i < windows (length items) m → get_or kept.free.items i false ≡ is_free m (series_of items) i)
-    → AreWithin kept.range (numbers_in items) → (kept.is_narrow ≡ true → SumsFit m kept.range)
-    → length kept.wide.sums.items ≡ windows (length items) m → length kept.wide.next.items ≡ windows (length items) m
-    → IsRow (numbers_in items) m (windows (length items) m - 1) kept.wide.sums.items
-    → length kept.narrow.sums.items ≡ length kept.wide.sums.items
-    → length kept.narrow.next.items ≡ length kept.wide.sums.items
-    → ((i : ℕ) → i < length kept.wide.sums.items
-    → get_or kept.narrow.sums.items i 0 ≡ min (get_or kept.wide.sums.items i 0) (2 ^ 64 - 1))
-    → AreLimits (limit_by kept.is_narrow) kept.profile.right kept.limits.items → IsOf m items kept
-kept_first m items kept least left right frees free range fits wide next row narrow narrow_next sums limits =
-    record {
-      left = left;
-      right = right;
-      frees = frees;
-      free = free;
-      range = range;
-      limits = limits;
-      rows = record {
-        narrow_sums = narrow ∙ wide;
-        narrow_next = narrow_next ∙ wide;
-        wide_sums = wide;
-        wide_next = next;
-      };
-      narrow = λ is. record {
-        fits = fits is;
-        row = narrow_first m items kept.range kept.wide.sums.items kept.narrow.sums.items least wide narrow range
-            (fits is) row sums;
-      };
-      wide = λ _. row;
-    }
+pub kept_first : (m : ℕ) (items : List Sample) (growing : GrowingProfile) → 1 ≤ m
+    → growing.entries.profile.left ≡ (matrix_profile m (series_of items)).left
+    → growing.entries.profile.right ≡ (matrix_profile m (series_of items)).right
+    → length growing.free.items ≡ windows (length items) m
+    → ((i : ℕ) → i < windows (length items) m → get_or growing.free.items i false ≡ is_free m (series_of items) i)
+    → AreWithin growing.range (numbers_in items) → (growing.is_narrow ≡ true → SumsFit m 63 growing.range)
+    → (SumsFit m 63 growing.range → growing.is_narrow ≡ true)
+    → (length items ≡ 0 → growing.range.greatest ≡ growing.range.least)
+    → HaveRows (windows (length items) m) growing
+    → IsRow (numbers_in items) m (last_place m items) growing.wide.sums.items
+    → ((i : ℕ) → i < length growing.wide.sums.items
+    → get_or growing.narrow.sums.items i 0 ≡ min (get_or growing.wide.sums.items i 0) (2 ^ 64 - 1))
+    → AreLimits (limit_by growing.is_narrow) growing.entries.profile.right growing.entries.limits.items
+    → IsOf m items growing
+kept_first m items growing least left right frees free range fits exact none rows row sums limits = record {
+  left = left;
+  right = right;
+  frees = frees;
+  free = free;
+  range = range;
+  limits = limits;
+  rows = rows;
+  fits = fits;
+  exact = exact;
+  none = λ zero. number_fits m growing.range (none zero);
+  narrow = λ is. narrow_first m items growing.range growing.wide.sums.items growing.narrow.sums.items least
+      rows.wide.sums_are (rows.narrow.sums_are ∙ sym rows.wide.sums_are) range (fits is) row sums;
+  wide = λ _. row;
+}
 
 -- ---- a sample without a window
 
@@ -605,7 +655,7 @@ no_windows m items f g list lt e =
     ap length e ∙ columns_have_places.count f (windows_of m (series_of front)) ∙ before ∙ sym after in
     column_is g (windows_of m (series_of items)) list none (λ i less. absurd (omega (arith, less, after)))
 
-pub kept_waits : (m : ℕ) (items : List Sample) (before : Kept) → length items < m
+pub kept_waits : (m : ℕ) (items : List Sample) (before : GrowingProfile) → length items < m
     → AreWithin before.range (numbers_in items) → IsOf m (without_last items) before → IsOf m items before
 kept_waits m items before lt range h =
     let front = without_last items in
@@ -613,19 +663,19 @@ kept_waits m items before lt range h =
     let zeros : windows (length items) m ≡ 0 = omega arith in
     record {
       left = no_windows m items (left_entry (is_allowed m) m (series_of front))
-          (left_entry (is_allowed m) m (series_of items)) before.profile.left lt h.left;
+          (left_entry (is_allowed m) m (series_of items)) before.entries.profile.left lt h.left;
       right = no_windows m items (right_entry (is_allowed m) m (series_of front))
-          (right_entry (is_allowed m) m (series_of items)) before.profile.right lt h.right;
+          (right_entry (is_allowed m) m (series_of items)) before.entries.profile.right lt h.right;
       frees = h.frees ∙ none;
       free = λ i less. absurd (omega (arith, less, zeros));
       range = range;
       limits = h.limits;
       rows = subst (λ n. HaveRows n before) none h.rows;
-      narrow = λ is. record {
-        fits = (h.narrow is).fits;
-        row = λ i less. absurd (omega (arith, less, h.rows.narrow_sums, none, zeros));
-      };
-      wide = λ is i less. absurd (omega (arith, less, h.rows.wide_sums, none, zeros));
+      fits = h.fits;
+      exact = h.exact;
+      none = λ zero. h.none (omega (arith, zero, without_last_long items));
+      narrow = λ is i less. absurd (omega (arith, less, h.rows.narrow.sums_are, none, zeros));
+      wide = λ is i less. absurd (omega (arith, less, h.rows.wide.sums_are, none, zeros));
     }
 
 -- ---- a wider range
@@ -643,7 +693,7 @@ range_grows new front items sample e h last =
     let whole : numbers_in items ≡ numbers_in front ++ number_in sample ∷ [] =
     ap numbers_in e ∙ map-append number_in front (sample ∷ []) in
     subst (AreWithin new) (sym whole)
-    (λ k lt. push_more (pos 0) (λ _ x. (new.low ≤ℤ x) × (x ≤ℤ new.high)) (numbers_in front) (length (numbers_in front))
+    (λ k lt. push_more (pos 0) (λ _ x. (new.least ≤ℤ x) × (x ≤ℤ new.greatest)) (numbers_in front) (length (numbers_in front))
     (number_in sample) refl h (last 0 (omega arith)) k
     (omega (arith, lt, length-append (numbers_in front) (number_in sample ∷ []))))
 
@@ -663,3 +713,50 @@ front_within items old new count e wider =
       length-map front number_in,
       without_last_long items,
     ))))
+
+-- ---- a range that is taken
+
+pub in_bits : (m : ℕ) (items : List Sample) (growing : GrowingProfile) → IsOf m items growing → IsOfInBits m items growing
+in_bits m items growing h = record {
+  left = h.left;
+  right = h.right;
+  frees = h.frees;
+  free = h.free;
+  range = h.range;
+  limits = h.limits;
+  rows = h.rows;
+  fits = h.fits;
+  narrow = h.narrow;
+  wide = h.wide;
+}
+
+only_first : (count long before : ℕ) → count ≡ long → long ≡ before + 1 → before ≡ 0 → nat_eq count 1 ≡ true
+only_first count long before e f g = grind (arith, nat_tests)
+
+-- with the range of one sample more, the row of those before it has 64 bits exactly where these hold its sums
+pub covered : (m : ℕ) (items : List Sample) (sample : Sample) (before after : GrowingProfile) (range : Range) (count : ℕ)
+    → items ≡ without_last items ++ sample ∷ [] → count ≡ length items
+    → (nat_eq count 1 ≡ true → range.greatest ≡ range.least) → (nat_eq count 1 ≡ false → Reaches range before.range)
+    → after.range ≡ range → (SumsFit m 63 range → after.is_narrow ≡ before.is_narrow)
+    → IsOf m (without_last items) before → IsOfInBits m (without_last items) after → IsOf m (without_last items) after
+covered m items sample before after range count whole is first wider taken bits h now =
+    let front = without_last items in
+    let more : length items ≡ length front + 1 = ap length whole ∙ length-append front (sample ∷ []) in
+    record {
+      left = now.left;
+      right = now.right;
+      frees = now.frees;
+      free = now.free;
+      range = now.range;
+      limits = now.limits;
+      rows = now.rows;
+      fits = now.fits;
+      exact = λ fits.
+          let fit : SumsFit m 63 range = subst (SumsFit m 63) taken fits in
+          bits fit ∙ narrow_before m front before range h
+          (λ some. wider (first_only count (length items) is (omega (arith, some, more)))) fit;
+      none = λ zero. subst (SumsFit m 63) (sym taken)
+          (number_fits m range (first (only_first count (length items) (length front) is more zero)));
+      narrow = now.narrow;
+      wide = now.wide;
+    }

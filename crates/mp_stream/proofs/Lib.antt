@@ -2,5 +2,5 @@ pub mod SumLemmas
 pub mod Steps
 pub mod Taken
 pub mod Moving
-pub mod Entries
+pub mod EntryLemmas
 pub mod Growing

@@ -1,17 +1,21 @@
 -- A row of sums one place on.
 use Rattle.std.proofs.Common.{◌≡◌, ℕ, zero, suc, ◌+◌, ◌-◌, ◌*◌, ◌^◌, ◌<◌, ◌≤◌, ◌%◌, List, length, get_or, ap, ◌∙◌, sym}
 use Rattle.std.proofs.Common.{arith}
-use Rattle.std.proofs.Common.{subst, mul-le-mul, take, drop, FitsSigned, w32}
-use Rattle.std.specs.Prelude.{ℤ, pos, ◌≤ℤ◌, ◌-ℤ◌, unsigned_abs}
-use Rattle.std.proofs.lemmas.Int.{ints}
-use Rattle.std.proofs.lemmas.List.{length-map}
+use Rattle.std.proofs.Common.{take, drop, FitsSigned, w32}
+use Rattle.std.specs.Prelude.{ℤ, pos}
+use Rattle.std.proofs.lemmas.List.{get_or-take, length-map, length-take-le}
 use Rattle.std.proofs.Math.Nat.{mul-le-mul_left}
 use Rattle.mp_nums.specs.declared.samples.Sample.{Sample}
-use Rattle.mp_defs.specs.Distance.{square_gap}
+use Rattle.mp_defs.specs.Distance.{squared_difference}
+use Rattle.mp_defs.specs.Limits.{max_window}
+use Rattle.mp_defs.specs.Window.{windows}
 use Rattle.mp_series.specs.Samples.{number_in, numbers_in}
-use Rattle.mp_stream.specs.Ranges.{AreWithin, SumsFit}
-use Rattle.mp_stream.specs.Rows.{IsRow, sum_at, square_at, next_of, last_of, moved, moved_row, CanMove}
-use Rattle.mp_stream.specs.declared.ranges.Range.{Range}
+use Rattle.mp_sums.specs.RangeLaws.{squares_in_range, sums_in_range}
+use Rattle.mp_sums.specs.Residues.{item}
+use Rattle.mp_sums.specs.Ranges.{AreWithin, SumsFit}
+use Rattle.mp_stream.specs.Rows.{IsBefore, IsRow, LieClose, last_distance, last_place, sum_at, square_at, next_of}
+use Rattle.mp_stream.specs.Rows.{last_of, moved, moved_row, CanMove}
+use Rattle.mp_sums.specs.declared.ranges.Range.{Range}
 use Rattle.mp_stream.proofs.SumLemmas.{ArePassed, at_most, can_move, moves_on, square_fits, greatest_square}
 
 -- behind the first window
@@ -38,71 +42,100 @@ pub below_tells : (sum limit : ℕ) → sum < 2 ^ 64 → limit ≤ 2 ^ 63 → (s
     → limit ≤ sum
 below_tells sum limit h k lt = omega (arith, lt)
 
--- the sums of the row
-pub row_is : (xs : List ℤ) (m first : ℕ) (before : List ℕ) (enters leaves : List ℤ)
-    → ArePassed xs m before enters leaves
-    → first ≡ sum_at xs m 0 (length before) → (i : ℕ) → i ≤ length before
-    → moved_row first before enters leaves i ≡ sum_at xs m i (length before)
-row_is xs m first before enters leaves h e zero le = e
-row_is xs m first before enters leaves h e (suc i) le =
-    let one : i + 1 ≡ suc i = omega arith in
-    subst (λ k. moved before enters leaves i ≡ sum_at xs m k (length before)) one
-    (moves_on xs m before enters leaves h i (omega (arith, le)))
+-- a row of the windows before the last one, the parts of the samples that it moves by, and its first sum
+pub record AreParts (m : ℕ) (items : List Sample) (first : ℕ) (before : List ℕ) (enters leaves : List ℤ) : Type 0 where
+  pub count : length before ≡ last_place m items
+  pub passed : ArePassed (numbers_in items) m before enters leaves
+  pub first_is : first ≡ sum_at (numbers_in items) m 0 (length before)
 
--- what two parts of the samples are to a row
-pub parts_passed : (items now : List Sample) (m k count : ℕ) (before : List ℕ) (enters leaves : List ℤ) → 1 ≤ m
-    → length items + 1 ≡ count + m → count ≡ length before + 1
-    → IsRow (numbers_in items) m (count - 1 - 1) before → now ≡ items → k ≡ m
-    → enters ≡ take (length before) (drop k (numbers_in now))
-    → leaves ≡ take (length before) (drop 0 (numbers_in now)) → ArePassed (numbers_in items) m before enters leaves
-parts_passed items now m k count before enters leaves least all more sums same from enter leave =
-    let last : count - 1 - 1 ≡ length before - 1 = omega (arith, more) in
+pub are_parts : (m : ℕ) (items now : List Sample) (last k first : ℕ) (sums next before : List ℕ) (enters leaves : List
+    ℤ)
+    → IsBefore m items sums next → last ≡ length sums - 1 → before ≡ take last sums → now ≡ items → k ≡ m
+    → enters ≡ take last (drop k (numbers_in now)) → leaves ≡ take last (drop 0 (numbers_in now))
+    → first ≡ sum_at (numbers_in items) m 0 last → AreParts m items first before enters leaves
+are_parts m items now last k first sums next before enters leaves h at part same from enter leave first_is =
+    let xs = numbers_in items in
+    let count : length before ≡ last =
+    ap length part ∙ length-take-le last sums (omega (arith, at)) in
+    let place : last ≡ last_place m items = omega (arith, at, h.places.sums_are) in
     record {
-      least = least;
-      long = omega (arith, length-map items number_in, all, more);
-      sums = subst (λ j. IsRow (numbers_in items) m j before) last sums;
-      enter = enter ∙ ap (λ list. take (length before) (drop k (numbers_in list))) same
-          ∙ ap (λ n. take (length before) (drop n (numbers_in items))) from;
-      leave = leave ∙ ap (λ list. take (length before) (numbers_in list)) same;
+      count = count ∙ place;
+      passed = record {
+        least = h.least;
+        long = omega (arith, length-map items number_in, count, place, h.long);
+        sums = λ i lt. ap (λ list. get_or list i 0) part ∙ get_or-take last sums i 0 (omega (arith, lt, count))
+            ∙ h.row i (omega (arith, lt, count, place))
+            ∙ ap (λ n. sum_at xs m i (n - 1)) (sym place ∙ sym count);
+        enter = enter ∙ ap (λ list. take last (drop k (numbers_in list))) same ∙ ap (λ n. take last (drop n xs)) from
+            ∙ ap (λ n. take n (drop m xs)) (sym count);
+        leave = leave ∙ ap (λ list. take last (numbers_in list)) same ∙ ap (λ n. take n xs) (sym count);
+      };
+      first_is = first_is ∙ ap (sum_at xs m 0) (sym count);
     }
+
+-- the sums of the row
+pub row_is : (m : ℕ) (items : List Sample) (first : ℕ) (before : List ℕ) (enters leaves : List ℤ)
+    → AreParts m items first before enters leaves → (i : ℕ) → i ≤ length before
+    → moved_row first before enters leaves i ≡ last_distance m items i
+row_is m items first before enters leaves h zero le = h.first_is ∙ ap (sum_at (numbers_in items) m 0) h.count
+row_is m items first before enters leaves h (suc i) le =
+    let one : i + 1 ≡ suc i = omega arith in
+    moves_on (numbers_in items) m before enters leaves h.passed i (omega (arith, le))
+    ∙ ap (sum_at (numbers_in items) m (i + 1)) h.count ∙ ap (last_distance m items) one
 
 -- ---- sums below 2 ^ 63
 
-gap_within : (low high x y : ℤ) → low ≤ℤ x → x ≤ℤ high → low ≤ℤ y → y ≤ℤ high
-    → unsigned_abs (x -ℤ y) ≤ unsigned_abs (high -ℤ low)
-gap_within low high x y a b c d = omega (arith, ints)
-
-square_within : (low high x y : ℤ) → low ≤ℤ x → x ≤ℤ high → low ≤ℤ y → y ≤ℤ high → square_gap x y ≤ square_gap high low
-square_within low high x y a b c d = let gap = gap_within low high x y a b c d in mul-le-mul gap gap
-
 pub squares_within : (range : Range) (xs : List ℤ) → AreWithin range xs → (p q : ℕ) → p < length xs → q < length xs
-    → square_at xs p q ≤ square_gap range.high range.low
-squares_within range xs within p q lt lt' =
-    square_within range.low range.high _ _ (within p lt).0 (within p lt).1 (within q lt').0 (within q lt').1
+    → square_at xs p q ≤ squared_difference range.greatest range.least
+squares_within range xs within p q lt lt' = squares_in_range range (item xs p) (item xs q) (within p lt) (within q lt')
 
-pub sum_small : (range : Range) (xs : List ℤ) (m i j : ℕ) → AreWithin range xs → SumsFit m range → i + m ≤ length xs
+pub sum_small : (range : Range) (xs : List ℤ) (m i j : ℕ) → AreWithin range xs → SumsFit m 63 range → i + m ≤ length xs
     → j + m ≤ length xs → sum_at xs m i j < 2 ^ 63
 sum_small range xs m i j within fit le le' =
-    let each = at_most xs (square_gap range.high range.low) m i j (λ k lt.
-    squares_within range xs within (i + k) (j + k) (omega (arith, lt, le)) (omega (arith, lt, le'))) in
-    omega (arith, each, fit)
+    sums_in_range m m 63 range (item xs) i (item xs) j (omega arith) fit
+    (λ k lt. within (i + k) (omega (arith, lt, le))) (λ k lt. within (j + k) (omega (arith, lt, le')))
 
-pub can_move_narrow : (range : Range) (xs : List ℤ) (m : ℕ) (before : List ℕ) (enters leaves : List ℤ)
-    → ArePassed xs m before enters leaves → AreWithin range xs → SumsFit m range → CanMove (2 ^ 64) before enters leaves
-can_move_narrow range xs m before enters leaves h within fit =
-    let bound = square_gap range.high range.low in
-    let one : bound * 1 ≤ bound * m = mul-le-mul_left bound h.least in
-    can_move (2 ^ 64) bound xs m before enters leaves h (squares_within range xs within) (omega (arith, one, fit))
+pub distance_small : (m : ℕ) (items : List Sample) (i : ℕ) → LieClose m (numbers_in items) → 1 ≤ m → m ≤ length items
+    → i ≤ last_place m items → last_distance m items i < 2 ^ 63
+distance_small m items i close least long le =
+    let many = length-map items number_in in
+    sum_small close.range (numbers_in items) m i (last_place m items) close.within close.fits
+    (omega (arith, many, long, le)) (omega (arith, many, long, least))
+
+pub can_move_narrow : (m : ℕ) (items : List Sample) (first : ℕ) (before : List ℕ) (enters leaves : List ℤ)
+    → AreParts m items first before enters leaves → LieClose m (numbers_in items)
+    → CanMove (2 ^ 64) before enters leaves
+can_move_narrow m items first before enters leaves h close =
+    let bound = squared_difference close.range.greatest close.range.least in
+    let one : bound * 1 ≤ bound * m = mul-le-mul_left bound h.passed.least in
+    can_move (2 ^ 64) bound (numbers_in items) m before enters leaves h.passed
+    (squares_within close.range (numbers_in items) close.within) (omega (arith, one, close.fits))
+
+pub can_move_wide : (m : ℕ) (items : List Sample) (range : Range) (first : ℕ) (before : List ℕ) (enters leaves : List ℤ)
+    → FitsSigned w32 range.least → FitsSigned w32 range.greatest → m ≤ max_window
+    → AreParts m items first before enters leaves → AreWithin range (numbers_in items)
+    → CanMove (2 ^ 128) before enters leaves
+can_move_wide m items range first before enters leaves low high width h within =
+    can_move (2 ^ 128) greatest_square (numbers_in items) m before enters leaves h.passed
+    (λ p q lt lt'. square_fits range.least range.greatest _ _ low high (within p lt).0 (within p lt).1 (within q lt').0
+    (within q lt').1) (omega (arith, width))
 
 -- the sums of a row in 128 bits
-pub sums_small : (range : Range) (m : ℕ) (items : List Sample) (w : ℕ) (row : List ℕ) → FitsSigned w32 range.low
-    → FitsSigned w32 range.high → m ≤ 16384 → length items + 1 ≡ length row + m → w + 1 ≡ length row
-    → AreWithin range (numbers_in items) → IsRow (numbers_in items) m w row
-    → (i : ℕ) → i < length row → get_or row i 0 < 2 ^ 79
-sums_small range m items w row low high width all at within is_row i lt =
+pub sums_small : (range : Range) (m : ℕ) (items : List Sample) (row : List ℕ) → FitsSigned w32 range.least
+    → FitsSigned w32 range.greatest → 1 ≤ m → m ≤ max_window → m ≤ length items
+    → length row ≡ windows (length items) m → AreWithin range (numbers_in items)
+    → IsRow (numbers_in items) m (last_place m items) row → (i : ℕ) → i < length row → get_or row i 0 < 2 ^ 79
+sums_small range m items row low high least width long places within is_row i lt =
     let xs = numbers_in items in
+    let w = last_place m items in
     let many = length-map items number_in in
-    let sum = at_most xs greatest_square m i w (λ k less. square_fits range.low range.high _ _ low high
-    (within (i + k) (omega (arith, lt, less, many, all))).0 (within (i + k) (omega (arith, lt, less, many, all))).1
-    (within (w + k) (omega (arith, at, less, many, all))).0 (within (w + k) (omega (arith, at, less, many, all))).1) in
+    let sum = at_most xs greatest_square m i w (λ k less. square_fits range.least range.greatest _ _ low high
+    (within (i + k) (omega (arith, lt, less, many, places))).0 (within (i + k) (omega (
+      arith,
+      lt,
+      less,
+      many,
+      places,
+    ))).1
+    (within (w + k) (omega (arith, long, less, many))).0 (within (w + k) (omega (arith, long, less, many))).1) in
     omega (arith, is_row i lt, sum, width)

@@ -1,6 +1,6 @@
 -- One place more of a list that is written or that grows.
 use Rattle.std.proofs.Common.{◌≡◌, ℕ, ◌+◌, ◌<◌, inl, inr, List, [], ◌∷◌, ◌++◌, length, get_or, set, sym, arith}
-use Rattle.std.proofs.Common.{subst, ap}
+use Rattle.std.proofs.Common.{subst, ap, refl, take, drop}
 use Rattle.std.proofs.Common.{◌∙◌, below_more}
 use Rattle.std.proofs.Math.ListN.{get_or-append}
 use Rattle.std.proofs.Math.Seq.{get_or-append_seam}
@@ -24,3 +24,13 @@ push_more none P xs t y long before here =
     below_more (λ q. P q (get_or (xs ++ y ∷ []) q none)) t
     (λ q less. subst (P q) (sym (get_or-append xs (y ∷ []) none q (omega (arith, less, long)))) (before q less))
     (subst (P t) (sym (ap (λ q. get_or (xs ++ y ∷ []) q none) (sym long) ∙ get_or-append_seam xs y [] none)) here)
+
+-- a list that was lent and given back
+pub front_taken : {A : Type 0} (xs ys : List A) → take (length xs) (xs ++ ys) ≡ xs
+front_taken [] ys = refl
+front_taken (x ∷ xs) ys = ap (λ l. x ∷ l) (front_taken xs ys)
+
+pub given_back : (whole old new : List ℕ) → whole ≡ take (length old) (new ++ drop (length new) old)
+    → length new ≡ length old → whole ≡ new
+given_back whole old new e same =
+    e ∙ ap (λ n. take n (new ++ drop (length new) old)) (sym same) ∙ front_taken new (drop (length new) old)

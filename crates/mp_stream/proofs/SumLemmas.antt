@@ -1,78 +1,48 @@
 -- Sums of squares: one place on, and how large they are.
 use Rattle.std.proofs.Common.{◌≡◌, ℕ, zero, suc, ◌+◌, ◌-◌, ◌*◌, ◌^◌, ◌<◌, ◌≤◌, List, length, get_or, take, drop}
-use Rattle.std.proofs.Common.{refl, sym, ap, ◌∙◌, arith, subst, add-one, w32, FitsSigned, to_z, of_z}
+use Rattle.std.proofs.Common.{refl, sym, ap, ◌∙◌, arith, subst, w32, FitsSigned, to_z, of_z}
 use Rattle.std.proofs.Common.{mul-le-mul}
 use Rattle.std.specs.Prelude.{ℤ, pos, ◌-ℤ◌, ◌≤ℤ◌, unsigned_abs}
 use Rattle.std.proofs.lemmas.Int.{ints, to_z-of_z}
 use Rattle.std.proofs.lemmas.List.{get_or-take, get_or-drop, length-take-le, length-drop}
-use Rattle.mp_defs.specs.Distance.{square_gap}
-use Rattle.mp_stream.specs.Rows.{square_at, sum_at, sum_between, next_of, CanStep, moved, CanMove, last_of, IsRow}
+use Rattle.mp_defs.specs.Distance.{squared_difference}
+use Rattle.mp_sums.specs.Lists.{list_sum}
+use Rattle.mp_sums.specs.Residues.{item}
+use Rattle.mp_sums.specs.SumLaws.{sum_of_none, sum_suc, sum_more as one_more, moved_on, first_of_all, sum_bounded}
+use Rattle.mp_sums.specs.SumLaws.{sum_grows}
+use Rattle.mp_sums.specs.SumLaws.{difference_turned}
+use Rattle.mp_stream.specs.Rows.{square_at, sum_at, next_of, CanStep, moved, CanMove, last_of, IsRow}
 
 -- ---- sums in one list
 
 pub sum_none : (xs : List ℤ) (i j : ℕ) → sum_at xs 0 i j ≡ 0
-unfolding sum_at
-sum_none xs i j = refl
+sum_none xs i j = sum_of_none (item xs) i (item xs) j
 
 pub sum_more : (xs : List ℤ) (m i j : ℕ)
     → sum_at xs (m + 1) i j ≡ sum_at xs m i j + square_at xs (i + m) (j + m)
-unfolding sum_at
-sum_more xs m i j = rw add-one refl
+sum_more xs m i j = one_more m (item xs) i (item xs) j
 
 -- one place on: what is left behind and what is new
 pub sum_on : (xs : List ℤ) (m i j : ℕ)
     → sum_at xs m (i + 1) (j + 1) + square_at xs i j ≡ sum_at xs m i j + square_at xs (i + m) (j + m)
-sum_on xs zero i j =
-    let here : i + 0 ≡ i = omega arith in
-    let there : j + 0 ≡ j = omega arith in
-    rw (sum_none xs (i + 1) (j + 1), sum_none xs i j, here, there) refl
-sum_on xs (suc m) i j =
-    let one : m + 1 ≡ suc m = omega arith in
-    subst (λ k. sum_at xs k (i + 1) (j + 1) + square_at xs i j ≡ sum_at xs k i j + square_at xs (i + k) (j + k)) one (
-    let here : i + 1 + m ≡ i + (m + 1) = omega arith in
-    let there : j + 1 + m ≡ j + (m + 1) = omega arith in
-    rw (sum_more xs m (i + 1) (j + 1), sum_more xs m i j, here, there) (omega (arith, sum_on xs m i j)))
+sum_on xs m i j = moved_on m (item xs) i (item xs) j
 
 -- the first square is in the sum
 pub first_within : (xs : List ℤ) (m i j : ℕ) → 1 ≤ m → square_at xs i j ≤ sum_at xs m i j
-first_within xs zero i j le = absurd (omega arith)
-first_within xs (suc zero) i j le =
-    let here : i + 0 ≡ i = omega arith in
-    let there : j + 0 ≡ j = omega arith in
-    rw (sum_more xs 0 i j, sum_none xs i j, here, there) (omega arith)
-first_within xs (suc (suc m)) i j le =
-    let one : m + 1 + 1 ≡ suc (suc m) = omega arith in
-    let before : m + 1 ≡ suc m = omega arith in
-    subst (λ k. square_at xs i j ≤ sum_at xs k i j) one
-    (omega (
+first_within xs m i j le =
+    omega (
       arith,
-      sum_more xs (m + 1) i j,
-      subst (λ k. square_at xs i j ≤ sum_at xs k i j) (sym before) (first_within xs (suc m) i j (omega arith)),
-    ))
-
--- the same from either side
-pub swapped : (x y : ℤ) → square_gap x y ≡ square_gap y x
-swapped x y = let e : unsigned_abs (x -ℤ y) ≡ unsigned_abs (y -ℤ x) = omega (arith, ints) in rw e refl
+      first_of_all 1 m (item xs) i (item xs) j le,
+      sum_grows 0 1 (item xs) i i (item xs) j j 0 (square_at xs i j) refl (omega arith) (omega arith)
+          (sym (sum_none xs i j)) refl,
+    )
 
 -- a bound on each square
 pub at_most : (xs : List ℤ) (bound m i j : ℕ)
     → ((k : ℕ) → k < m → square_at xs (i + k) (j + k) ≤ bound) → sum_at xs m i j ≤ m * bound
-at_most xs bound zero i j h = rw sum_none (omega arith)
-at_most xs bound (suc m) i j h =
-    let one : m + 1 ≡ suc m = omega arith in
-    subst (λ k. sum_at xs k i j ≤ k * bound) one
-    (omega (arith, sum_more xs m i j, h m (omega arith), at_most xs bound m i j (λ k lt. h k (omega (arith, lt)))))
+at_most xs bound m i j h = sum_bounded bound m (item xs) i (item xs) j h
 
--- ---- sums between two lists
-
-pub between_none : (xs ys : List ℤ) → sum_between xs ys 0 ≡ 0
-unfolding sum_between
-between_none xs ys = refl
-
-pub between_more : (xs ys : List ℤ) (m : ℕ)
-    → sum_between xs ys (m + 1) ≡ sum_between xs ys m + square_gap (get_or xs m (pos 0)) (get_or ys m (pos 0))
-unfolding sum_between
-between_more xs ys m = rw add-one refl
+-- ---- two windows that were lent
 
 -- two parts of one list
 pub part_at : (xs : List ℤ) (first count k : ℕ) → k < count
@@ -81,35 +51,37 @@ part_at xs first count k lt = get_or-take count (drop first xs) k (pos 0) lt ∙
 
 pub between_parts : (xs ys zs : List ℤ) (first second count n : ℕ) → n ≤ count
     → ys ≡ take count (drop first xs) → zs ≡ take count (drop second xs)
-    → sum_between ys zs n ≡ sum_at xs n first second
-between_parts xs ys zs first second count zero le e f = between_none ys zs ∙ sym (sum_none xs first second)
+    → list_sum n ys 0 zs 0 ≡ sum_at xs n first second
+between_parts xs ys zs first second count zero le e f =
+    sum_of_none (item ys) 0 (item zs) 0 ∙ sym (sum_none xs first second)
 between_parts xs ys zs first second count (suc n) le e f =
-    let one : n + 1 ≡ suc n = omega arith in
     let here : get_or ys n (pos 0) ≡ get_or xs (first + n) (pos 0) =
     ap (λ list. get_or list n (pos 0)) e ∙ part_at xs first count n (omega arith) in
     let there : get_or zs n (pos 0) ≡ get_or xs (second + n) (pos 0) =
     ap (λ list. get_or list n (pos 0)) f ∙ part_at xs second count n (omega arith) in
-    subst (λ k. sum_between ys zs k ≡ sum_at xs k first second) one
-    (between_more ys zs n ∙ sym (sum_more xs n first second
-    ∙ ap (λ sum. sum + square_at xs (first + n) (second + n))
-    (sym (between_parts xs ys zs first second count n (omega arith) e f))
-    ∙ ap (λ x. sum_between ys zs n + square_gap x (get_or xs (second + n) (pos 0))) (sym here)
-    ∙ ap (λ y. sum_between ys zs n + square_gap (get_or ys n (pos 0)) y) (sym there)))
+    let square : square_at xs (first + n) (second + n) ≡ squared_difference (item ys n) (item zs n) =
+    ap (λ x. squared_difference x (get_or xs (second + n) (pos 0))) (sym here)
+    ∙ ap (squared_difference (get_or ys n (pos 0))) (sym there) in
+    let before = between_parts xs ys zs first second count n (omega arith) e f in
+    let more = sum_grows n (suc n) (item ys) 0 n (item zs) 0 n (sum_at xs n first second)
+    (square_at xs (first + n) (second + n)) (omega arith) (omega arith) (omega arith) (sym before) square in
+    sym more ∙ sym (sum_suc n (item xs) first (item xs) second)
 
 -- ---- the bounds of squares and sums
 
-gap_within : (low high x y : ℤ) → FitsSigned w32 low → FitsSigned w32 high → low ≤ℤ x → x ≤ℤ high → low ≤ℤ y → y ≤ℤ high
+difference_within : (low high x y : ℤ) → FitsSigned w32 low → FitsSigned w32 high → low ≤ℤ x → x ≤ℤ high → low ≤ℤ y
+    → y ≤ℤ high
     → unsigned_abs (x -ℤ y) ≤ 2 ^ 32 - 1
-gap_within low high x y f g a b c d = omega (arith, ints)
+difference_within low high x y f g a b c d = omega (arith, ints)
 
 -- the greatest square of a difference of 32 bits
 abbrev pub greatest_square : ℕ
 greatest_square = (2 ^ 32 - 1) * (2 ^ 32 - 1)
 
 pub square_fits : (low high x y : ℤ) → FitsSigned w32 low → FitsSigned w32 high → low ≤ℤ x → x ≤ℤ high → low ≤ℤ y
-    → y ≤ℤ high → square_gap x y ≤ greatest_square
+    → y ≤ℤ high → squared_difference x y ≤ greatest_square
 square_fits low high x y f g a b c d =
-    let gap = gap_within low high x y f g a b c d in mul-le-mul gap gap
+    let difference = difference_within low high x y f g a b c d in mul-le-mul difference difference
 
 -- ---- all sums one place on
 
@@ -120,12 +92,12 @@ steps_can : (limit bound : ℕ) (xs : List ℤ) (m i j sum : ℕ) (enters leaves
     → last_enters ≡ get_or xs (j + m) (pos 0) → last_leaves ≡ get_or xs j (pos 0)
     → CanStep limit sum enters leaves last_enters last_leaves
 steps_can limit bound xs m i j sum enters leaves last_enters last_leaves le lt lt' each small e a b c d =
-    let left : square_gap last_leaves leaves ≡ square_at xs i j =
-    ap (λ x. square_gap x leaves) d ∙ ap (square_gap (get_or xs j (pos 0))) b
-    ∙ swapped (get_or xs j (pos 0)) (get_or xs i (pos 0)) in
-    let entered : square_gap last_enters enters ≡ square_at xs (i + m) (j + m) =
-    ap (λ x. square_gap x enters) c ∙ ap (square_gap (get_or xs (j + m) (pos 0))) a
-    ∙ swapped (get_or xs (j + m) (pos 0)) (get_or xs (i + m) (pos 0)) in
+    let left : squared_difference last_leaves leaves ≡ square_at xs i j =
+    ap (λ x. squared_difference x leaves) d ∙ ap (squared_difference (get_or xs j (pos 0))) b
+    ∙ difference_turned (get_or xs j (pos 0)) (get_or xs i (pos 0)) in
+    let entered : squared_difference last_enters enters ≡ square_at xs (i + m) (j + m) =
+    ap (λ x. squared_difference x enters) c ∙ ap (squared_difference (get_or xs (j + m) (pos 0))) a
+    ∙ difference_turned (get_or xs (j + m) (pos 0)) (get_or xs (i + m) (pos 0)) in
     let whole = at_most xs bound m i j (λ k below. each (i + k) (j + k) (omega arith) (omega arith)) in
     record {
       leaves_sum = omega (arith, left, e, first_within xs m i j le);
@@ -137,12 +109,12 @@ pub steps_on : (xs : List ℤ) (m i j sum next : ℕ) (enters leaves last_enters
     → last_enters ≡ get_or xs (j + m) (pos 0) → last_leaves ≡ get_or xs j (pos 0)
     → next ≡ next_of sum enters leaves last_enters last_leaves → next ≡ sum_at xs m (i + 1) (j + 1)
 steps_on xs m i j sum next enters leaves last_enters last_leaves le e a b c d f =
-    let left : square_gap last_leaves leaves ≡ square_at xs i j =
-    ap (λ x. square_gap x leaves) d ∙ ap (square_gap (get_or xs j (pos 0))) b
-    ∙ swapped (get_or xs j (pos 0)) (get_or xs i (pos 0)) in
-    let entered : square_gap last_enters enters ≡ square_at xs (i + m) (j + m) =
-    ap (λ x. square_gap x enters) c ∙ ap (square_gap (get_or xs (j + m) (pos 0))) a
-    ∙ swapped (get_or xs (j + m) (pos 0)) (get_or xs (i + m) (pos 0)) in
+    let left : squared_difference last_leaves leaves ≡ square_at xs i j =
+    ap (λ x. squared_difference x leaves) d ∙ ap (squared_difference (get_or xs j (pos 0))) b
+    ∙ difference_turned (get_or xs j (pos 0)) (get_or xs i (pos 0)) in
+    let entered : squared_difference last_enters enters ≡ square_at xs (i + m) (j + m) =
+    ap (λ x. squared_difference x enters) c ∙ ap (squared_difference (get_or xs (j + m) (pos 0))) a
+    ∙ difference_turned (get_or xs (j + m) (pos 0)) (get_or xs (i + m) (pos 0)) in
     omega (arith, left, entered, e, f, sum_on xs m i j)
 
 -- what leaves and what enters the windows before a last one, in a list with just as many numbers
@@ -225,19 +197,3 @@ next_passed sum enters leaves last_enters last_leaves r f g h k e =
     (to_z-of_z w32 leaves g)
     ∙ ap (λ z. next_of sum enters leaves z (to_z w32 (of_z w32 last_leaves))) (to_z-of_z w32 last_enters h)
     ∙ ap (λ z. next_of sum enters leaves last_enters z) (to_z-of_z w32 last_leaves k)
-
-pub square_passed : (x y : ℤ) (square : ℕ) → FitsSigned w32 x → FitsSigned w32 y
-    → square ≡ square_gap (to_z w32 (of_z w32 x)) (to_z w32 (of_z w32 y)) → square ≡ square_gap x y
-square_passed x y square f g e =
-    e ∙ ap (λ z. square_gap z (to_z w32 (of_z w32 y))) (to_z-of_z w32 x f) ∙ ap (square_gap x) (to_z-of_z w32 y g)
-
--- the row of the last window, by its first sum and those of the windows one place on
-pub row_whole : (xs : List ℤ) (m : ℕ) (before : List ℕ) (enters leaves : List ℤ) (new : List ℕ)
-    → ArePassed xs m before enters leaves → get_or new 0 0 ≡ sum_at xs m 0 (length before)
-    → ((i : ℕ) → i < length before → get_or new (i + 1) 0 ≡ moved before enters leaves i)
-    → (i : ℕ) → i < length before + 1 → get_or new i 0 ≡ sum_at xs m i (length before)
-row_whole xs m before enters leaves new h first next zero lt = first
-row_whole xs m before enters leaves new h first next (suc i) lt =
-    let one : i + 1 ≡ suc i = omega arith in
-    subst (λ k. get_or new k 0 ≡ sum_at xs m k (length before)) one
-    (next i (omega arith) ∙ moves_on xs m before enters leaves h i (omega arith))

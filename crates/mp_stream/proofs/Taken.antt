@@ -1,8 +1,8 @@
 -- What offers of one window make of a column, and of its own best.
-use Rattle.std.proofs.Common.{◌≡◌, ℕ, zero, suc, ◌+◌, ◌^◌, ◌<◌, ◌≤◌, inl, inr, List, length, get_or, set, Bool, true}
+use Rattle.std.proofs.Common.{◌≡◌, ℕ, zero, suc, ◌+◌, ◌-◌, ◌^◌, ◌<◌, ◌≤◌, inl, inr, List, [], ◌∷◌, length, get_or, set, Bool, true}
 use Rattle.std.proofs.Common.{false}
 use Rattle.std.proofs.Common.{refl, sym, ap, ◌∙◌, arith, subst}
-use Rattle.std.specs.Prelude.{Option, Some, None, IfSome, if◌then◌else◌}
+use Rattle.std.specs.Prelude.{Option, Some, None, IfSome, nat_lt, if◌then◌else◌}
 use Rattle.std.proofs.lemmas.Bool.{cases_eq, cases_lt}
 use Rattle.std.proofs.lemmas.Bool.Decides.{nat_tests}
 use Rattle.std.proofs.lemmas.List.{get_or-set_same, get_or-set_other, length-set}
@@ -11,8 +11,10 @@ use Rattle.mp_nums.specs.Near.{nearer_of}
 use Rattle.mp_defs.specs.Least.{near, near_at}
 use Rattle.mp_defs.specs.LeastLaws.{grows_by_one_candidate, near_same}
 use Rattle.mp_partial.specs.Values.{offered}
-use Rattle.mp_stream.specs.Limits.{limit_of, coarse, coarse_limit, StartsAtMost, AllStartAtMost, AreLimits}
-use Rattle.mp_stream.specs.Rows.{IsTaken, row_candidate, lowered, offered_before}
+use Rattle.mp_stream.specs.Limits.{limit_of, coarse, coarse_limit, StartsAtMost, AreLimits}
+use Rattle.mp_stream.specs.Offers.{AreOffered, IsReady, OnlyRightChanges}
+use Rattle.mp_stream.specs.declared.entries.Entries.{Entries}
+use Rattle.mp_stream.specs.Rows.{IsTaken, row_candidate, lowered}
 
 -- ---- the column
 
@@ -93,7 +95,7 @@ index_more true (Some a) d n h = grind (arith, nat_tests)
 index_more false None d n h = h
 index_more false (Some a) d n h = omega (arith, h)
 
-pub best_below : (free : List Bool) (dist : ℕ → ℕ) (n : ℕ)
+best_below : (free : List Bool) (dist : ℕ → ℕ) (n : ℕ)
     → IfSome (near (row_candidate free dist) n) (λ best. best.index < n)
 best_below free dist zero =
     subst (λ best. IfSome best (λ found. found.index < 0))
@@ -104,6 +106,16 @@ best_below free dist (suc n) =
     (subst (λ best. IfSome best (λ found. found.index < n + 1))
     (sym (grows_by_one_candidate.one_more (row_candidate free dist) n))
     (index_more (get_or free n false) (near (row_candidate free dist) n) (dist n) n (best_below free dist n)))
+
+index_within : (best : Option Near) (n last : ℕ) → n ≤ last → IfSome best (λ best. best.index < n)
+    → IfSome best (λ best. best.index < last)
+index_within None n last le h = tt
+index_within (Some best) n last le h = omega (arith, le, h)
+
+pub best_before : (free : List Bool) (dist : ℕ → ℕ) (n last : ℕ) (best : Option Near) → n ≤ last
+    → best ≡ near (row_candidate free dist) n → IfSome best (λ best. best.index < last)
+best_before free dist n last best le e =
+    index_within best n last le (subst (λ x. IfSome x (λ found. found.index < n)) (sym e) (best_below free dist n))
 
 -- the same distances, otherwise told
 pub taken_as : (free : List Bool) (dist dist' : ℕ → ℕ) (j first end : ℕ) (old new : List (Option Near))
@@ -161,22 +173,6 @@ nearer_starts : (old : Option Near) (d j : ℕ) → StartsAtMost j old → Start
 nearer_starts None d j h = omega arith
 nearer_starts (Some a) d j h = grind (arith, nat_tests)
 
-lowered_starts : (t : Bool) (old : Option Near) (d j : ℕ) → StartsAtMost j old
-    → StartsAtMost j (if t then nearer_of old (Some (near_at j d)) else old)
-lowered_starts true old d j h = nearer_starts old d j h
-lowered_starts false old d j h = h
-
-pub starts_taken : (free : List Bool) (dist : ℕ → ℕ) (j first end : ℕ) (old new : List (Option Near))
-    → IsTaken free dist j first end old new → AllStartAtMost j old → AllStartAtMost j new
-starts_taken free dist j first end old new h most i = elim (cases_lt i first) [
-  | inl lt ↦ subst (StartsAtMost j) (sym (h.before i lt)) (most i)
-  | inr ge ↦ elim (cases_lt i end) [
-    | inl lt ↦ subst (StartsAtMost j) (sym (h.within i ge lt))
-        (lowered_starts (get_or free i false) (get_or old i None) (dist i) j (most i))
-    | inr ge' ↦ subst (StartsAtMost j) (sym (h.behind i ge')) (most i)
-  ]
-]
-
 if_some : (j : ℕ) (found : Option Near) → IfSome found (λ best. best.index < j) → StartsAtMost j found
 if_some j None h = tt
 if_some j (Some a) h = omega (arith, h)
@@ -185,42 +181,170 @@ pub best_starts : (free : List Bool) (dist : ℕ → ℕ) (n : ℕ) → StartsAt
 best_starts free dist n = if_some n (near (row_candidate free dist) n) (best_below free dist n)
 
 -- what is not nearer than the best changes nothing
-pub best_kept : (free : List Bool) (dist : ℕ → ℕ) (first n : ℕ) (best : Option Near)
+best_on : (free : List Bool) (dist : ℕ → ℕ) (first n : ℕ) (best : Option Near)
     → best ≡ near (row_candidate free dist) first
     → ((i : ℕ) → first ≤ i → i < first + n → nearer_of best (Some (near_at i (dist i))) ≡ best)
     → best ≡ near (row_candidate free dist) (first + n)
-best_kept free dist first zero best e h =
+best_on free dist first zero best e h =
     let same : first ≡ first + 0 = omega arith in subst (λ k. best ≡ near (row_candidate free dist) k) same e
-best_kept free dist first (suc n) best e h =
+best_on free dist first (suc n) best e h =
     let same : first + n + 1 ≡ first + suc n = omega arith in
     subst (λ k. best ≡ near (row_candidate free dist) k) same
-    (best_more free dist (first + n) best best (best_kept free dist first n best e (λ i low high. h i low (omega
+    (best_more free dist (first + n) best best (best_on free dist first n best e (λ i low high. h i low (omega
     (arith, high))))
     (sym (lowered_kept (get_or free (first + n) false) best _ (h (first + n) (omega arith) (omega arith)))))
 
+pub best_kept : (free : List Bool) (dist : ℕ → ℕ) (first end : ℕ) (best : Option Near) → first ≤ end
+    → best ≡ near (row_candidate free dist) first
+    → ((i : ℕ) → first ≤ i → i < end → nearer_of best (Some (near_at i (dist i))) ≡ best)
+    → best ≡ near (row_candidate free dist) end
+best_kept free dist first end best le e h =
+    let whole : first + (end - first) ≡ end = omega arith in
+    subst (λ n. best ≡ near (row_candidate free dist) n) whole
+    (best_on free dist first (end - first) best e (λ i low high. h i low (omega (arith, high))))
+
 -- ---- limits
 
-pub limits_one : (limit_by : Option Near → ℕ) (free : List Bool) (dist : ℕ → ℕ) (j i : ℕ)
-    (old new : List (Option Near)) (limits : List ℕ) (limit : ℕ)
-    → i < length old → IsTaken free dist j i (i + 1) old new → AreLimits limit_by old limits
-    → limit ≡ limit_by (get_or new i None) → AreLimits limit_by new (set limits i limit)
-limits_one limit_by free dist j i old new limits limit lt h are e = record {
-  places = length-set limits i limit ∙ are.places ∙ sym h.places;
+-- a place of a column and its limit
+limits_set : (limit_by : Option Near → ℕ) (old : List (Option Near)) (limits : List ℕ) (i : ℕ) (y : Option Near)
+    → i < length old → AreLimits limit_by old limits → AreLimits limit_by (set old i y) (set limits i (limit_by y))
+limits_set limit_by old limits i y lt are = record {
+  places = length-set limits i (limit_by y) ∙ are.places ∙ sym (length-set old i y);
   each = λ q below. elim (cases_eq q i) [
-    | inl same ↦ subst (λ p. get_or (set limits i limit) p 0 ≡ limit_by (get_or new p None)) (sym same)
-        (get_or-set_same limits i limit 0 (omega (arith, lt, are.places)) ∙ e)
-    | inr other ↦ get_or-set_other limits i q limit 0 other ∙ are.each q (omega (arith, below, h.places))
-        ∙ ap limit_by (sym (elsewhere q other))
+    | inl same ↦ subst (λ p. get_or (set limits i (limit_by y)) p 0 ≡ limit_by (get_or (set old i y) p None)) (sym same)
+        (get_or-set_same limits i (limit_by y) 0 (omega (arith, lt, are.places))
+        ∙ ap limit_by (sym (get_or-set_same old i y None lt)))
+    | inr other ↦ get_or-set_other limits i q (limit_by y) 0 other
+        ∙ are.each q (omega (arith, below, length-set old i y))
+        ∙ ap limit_by (sym (get_or-set_other old i q y None other))
   ];
 }
-  where
-    elsewhere : (q : ℕ) → (q ≡ i → ⊥) → get_or new q None ≡ get_or old q None
-    elsewhere q other = elim (cases_lt q i) [
-      | inl less ↦ h.before q less
-      | inr ge ↦ h.behind q (omega (arith, ge, other))
-    ]
 
--- the last window is offered to windows before it
-pub offered_within : (is_free : Bool) (m last : ℕ) → offered_before is_free m last ≤ last
-offered_within true m last = omega arith
-offered_within false m last = omega arith
+-- ---- entries of which only those on the right change
+
+pub only_same : (entries : Entries) → OnlyRightChanges entries entries
+only_same entries = record { left = refl; spare = refl; limits = refl; known = λ known was. was }
+
+pub only_then : (a b c : Entries) → OnlyRightChanges a b → OnlyRightChanges b c → OnlyRightChanges a c
+only_then a b c h g = record {
+  left = g.left ∙ h.left;
+  spare = g.spare ∙ h.spare;
+  limits = g.limits ∙ h.limits;
+  known = λ known was. g.known known (h.known known was);
+}
+
+-- after one window
+pub ready_one : (limit_by : Option Near → ℕ) (last i d limit : ℕ) (old new : Entries) → i < last → IsReady limit_by last old
+    → length new.profile.all ≡ length old.profile.all
+    → new.profile.right ≡ offered old.profile.right i (near_at last d)
+    → limit ≡ limit_by (get_or new.profile.right i None) → new.limits.items ≡ set old.limits.items i limit
+    → IsReady limit_by last new
+ready_one limit_by last i d limit old new lt h all right limit_is limits =
+    let column = old.profile.right in
+    let y = nearer_of (get_or column i None) (Some (near_at last d)) in
+    let within : i < length column = omega (arith, lt, h.rights) in
+    let here : get_or new.profile.right i None ≡ y =
+    ap (λ list. get_or list i None) right ∙ get_or-set_same column i y None within in
+    record {
+      all = all ∙ h.all;
+      rights = ap length right ∙ length-set column i y ∙ h.rights;
+      starts = λ q. subst (λ list. StartsAtMost last (get_or list q None)) (sym right) (elim (cases_eq q i) [
+        | inl same ↦ subst (λ p. StartsAtMost last (get_or (set column i y) p None)) (sym same)
+            (subst (StartsAtMost last) (sym (get_or-set_same column i y None within))
+            (nearer_starts (get_or column i None) d last (h.starts i)))
+        | inr other ↦ subst (StartsAtMost last) (sym (get_or-set_other column i q y None other)) (h.starts q)
+      ]);
+      limits = subst (λ list. AreLimits limit_by list new.limits.items) (sym right)
+          (subst (AreLimits limit_by (set column i y)) (sym (limits
+          ∙ ap (set old.limits.items i) (limit_is ∙ ap limit_by here)))
+          (limits_set limit_by column old.limits.items i y within h.limits));
+    }
+
+-- which side a window is offered to
+pub when_less : (i j : ℕ) (x y : List (Option Near)) → i < j → (if nat_lt i j then x else y) ≡ x
+when_less i j x y lt = grind (arith, nat_tests)
+
+limit_taken : (old : Option Near) (d j : ℕ) → d < limit_of old → d < 2 ^ 63
+    → d ≡ limit_of (nearer_of old (Some (near_at j d)))
+limit_taken None d j lt small = omega arith
+limit_taken (Some a) d j lt small = let near : d < a.dist.0 = omega (arith, lt) in grind (arith, nat_tests)
+
+-- after a window that is nearer than its limit
+pub limit_less : (last i d : ℕ) (old : Entries) (seen : List ℕ) (right : List (Option Near)) → i < last → d < 2 ^ 63
+    → IsReady limit_of last old → seen ≡ old.limits.items → d < get_or seen i 0
+    → right ≡ offered old.profile.right i (near_at last d) → d ≡ limit_of (get_or right i None)
+limit_less last i d old seen right lt small h seen_is below right_is =
+    let column = old.profile.right in
+    let within : i < length column = omega (arith, lt, h.rights) in
+    let less : d < limit_of (get_or column i None) =
+    omega (arith, below, ap (λ list. get_or list i 0) seen_is, h.limits.each i within) in
+    limit_taken (get_or column i None) d last less small
+    ∙ ap limit_of (sym (ap (λ list. get_or list i None) right_is ∙ get_or-set_same column i _ None within))
+
+-- window after window
+pub offered_none : (limit_by : Option Near → ℕ) (free : List Bool) (dist : ℕ → ℕ) (last first : ℕ) (entries : Entries)
+    → IsReady limit_by last entries → AreOffered limit_by free dist last first first entries entries
+offered_none limit_by free dist last first entries h = record {
+  right = taken_none free dist last first entries.profile.right;
+  only = only_same entries;
+  ready = h;
+}
+
+pub offered_then : (limit_by : Option Near → ℕ) (free : List Bool) (dist : ℕ → ℕ) (last first middle end : ℕ)
+    (a b c : Entries) → first ≤ middle → middle ≤ end → AreOffered limit_by free dist last first middle a b
+    → AreOffered limit_by free dist last middle end b c → AreOffered limit_by free dist last first end a c
+offered_then limit_by free dist last first middle end a b c le le' h g = record {
+  right = taken_then free dist last first middle end _ _ _ le le' h.right g.right;
+  only = only_then a b c h.only g.only;
+  ready = g.ready;
+}
+
+pub offered_one : (limit_by : Option Near → ℕ) (free : List Bool) (dist : ℕ → ℕ) (last i : ℕ) (old new : Entries)
+    → i < last → IsReady limit_by last old
+    → new.profile.right ≡ (if get_or free i false then offered old.profile.right i (near_at last (dist i)) else
+    old.profile.right)
+    → OnlyRightChanges old new → IsReady limit_by last new → AreOffered limit_by free dist last i (i + 1) old new
+offered_one limit_by free dist last i old new lt h right only ready = record {
+  right = taken_one free dist last i old.profile.right new.profile.right (omega (arith, lt, h.rights)) right;
+  only = only;
+  ready = ready;
+}
+
+-- the same distances, otherwise told, and the same last place
+pub offered_as : (limit_by : Option Near → ℕ) (free : List Bool) (dist dist' : ℕ → ℕ) (last last' first end : ℕ)
+    (old new : Entries) → last ≡ last' → ((i : ℕ) → i < end → dist i ≡ dist' i)
+    → AreOffered limit_by free dist last first end old new → AreOffered limit_by free dist' last' first end old new
+offered_as limit_by free dist dist' last last' first end old new at same h =
+    subst (λ j. AreOffered limit_by free dist' j first end old new) at
+    (record {
+      right = taken_as free dist dist' last first end _ _ same h.right;
+      only = h.only;
+      ready = h.ready;
+    })
+
+-- no window is nearer than what its limit tells
+pub offered_kept : (limit_by : Option Near → ℕ) (free : List Bool) (dist : ℕ → ℕ) (last first end : ℕ)
+    (entries : Entries) → IsReady limit_by last entries
+    → ((i : ℕ) → first ≤ i → i < end → nearer_of (get_or entries.profile.right i None) (Some (near_at last (dist i)))
+    ≡ get_or entries.profile.right i None)
+    → AreOffered limit_by free dist last first end entries entries
+offered_kept limit_by free dist last first end entries h kept = record {
+  right = taken_kept free dist last first end entries.profile.right kept;
+  only = only_same entries;
+  ready = h;
+}
+
+-- a window that is not nearer than its limit changes no column
+pub same_right : (last i d : ℕ) (entries : Entries) → i < last → d < 2 ^ 63 → IsReady limit_of last entries
+    → get_or entries.limits.items i 0 ≤ d
+    → entries.profile.right ≡ offered entries.profile.right i (near_at last d)
+same_right last i d entries lt small h le =
+    let column = entries.profile.right in
+    let each = h.limits.each i (omega (arith, lt, h.rights)) in
+    let kept = same_kept (get_or column i None) d last small (omega (arith, le, each)) (h.starts i) in
+    sym (ap (set column i) kept ∙ set_same column i)
+  where
+    set_same : (xs : List (Option Near)) (i : ℕ) → set xs i (get_or xs i None) ≡ xs
+    set_same [] i = refl
+    set_same (x ∷ xs) zero = refl
+    set_same (x ∷ xs) (suc i) = ap (λ l. x ∷ l) (set_same xs i)

@@ -1,11 +1,12 @@
 -- What one more sample makes of the entries of a series.
 use Rattle.std.specs.Prelude.{◌≡◌, ℕ, ◌+◌, ◌<◌, ◌≤◌, List, [], ◌∷◌, ◌++◌, length, slice_index_or, ℤ, pos}
-use Rattle.std.specs.Prelude.{Bool, ◌&&◌, nat_lt, Option, Some, None}
+use Rattle.std.specs.Prelude.{Bool, ◌&&◌, nat_lt, Option, None}
 use Rattle.mp_nums.specs.Near.{nearer_of}
 use Rattle.mp_defs.specs.Series.{Series, number_at}
 use Rattle.mp_defs.specs.Distance.{distance}
 use Rattle.mp_defs.specs.Least.{candidate}
 use Rattle.mp_defs.specs.Profile.{windows_of, left_entry, right_entry}
+use Rattle.mp_sums.specs.Sums.{filled}
 
 abbrev pub with_one : Series → Option ℤ → Series
 with_one a s = a ++ s ∷ []
@@ -26,11 +27,6 @@ pub record EntriesGrow : Type 0 where
       → right_entry may m (with_one a s) (windows_of m a) ≡ None
 
 -- ---- numbers
-
--- a number, 0 where it is missing
-abbrev pub filled : Option ℤ → ℤ
-filled None = pos 0
-filled (Some x) = x
 
 -- numbers stand for a series
 abbrev pub AreNumbers : Series → List ℤ → Type 0

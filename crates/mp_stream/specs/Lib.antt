@@ -1,8 +1,9 @@
 pub mod Blocks
-pub mod Ranges
+pub mod Reads
 pub mod Limits
 pub mod Rows
 pub mod Moves
+pub mod Offers
 pub mod Appended
 pub mod Streams
 pub mod Lending

@@ -4,42 +4,73 @@ use Rattle.std.specs.Prelude.{slice_index}
 use Rattle.std.specs.Prelude.{slice_index_or, ℤ, pos, Option, Some, None}
 use Rattle.mp_nums.specs.declared.nearest.Near.{Near}
 use Rattle.mp_nums.specs.Near.{nearer_of}
-use Rattle.mp_defs.specs.Window.{excl}
-use Rattle.mp_defs.specs.Distance.{square_gap}
+use Rattle.mp_nums.specs.declared.samples.Sample.{Sample}
+use Rattle.mp_defs.specs.Limits.{max_window}
+use Rattle.mp_defs.specs.Window.{excl, windows}
+use Rattle.mp_defs.specs.Distance.{squared_difference}
 use Rattle.mp_defs.specs.Least.{near_at}
 use Rattle.mp_partial.specs.Values.{Column, offered}
+use Rattle.mp_sums.specs.Lists.{list_sum}
+use Rattle.mp_sums.specs.Residues.{item}
+use Rattle.mp_sums.specs.Ranges.{AreWithin, SumsFit}
+use Rattle.mp_sums.specs.declared.ranges.Range.{Range}
+use Rattle.mp_series.specs.Samples.{numbers_in}
 
 -- ---- sums
 
 -- the squared difference of the numbers at two places
 abbrev pub square_at : List ℤ → ℕ → ℕ → ℕ
-square_at xs i j = square_gap (slice_index_or xs i (pos 0)) (slice_index_or xs j (pos 0))
+square_at xs i j = squared_difference (item xs i) (item xs j)
 
 -- the sum of the squared differences of the m numbers from i and those from j on
-unfoldable pub sum_at : List ℤ → ℕ → ℕ → ℕ → ℕ
-sum_at xs zero i j = 0
-sum_at xs (suc m) i j = sum_at xs m i j + square_at xs (i + m) (j + m)
+abbrev pub sum_at : List ℤ → ℕ → ℕ → ℕ → ℕ
+sum_at xs m i j = list_sum m xs i xs j
 
--- the sum of the squared differences of two lists, over their first m places
-unfoldable pub sum_between : List ℤ → List ℤ → ℕ → ℕ
-sum_between xs ys zero = 0
-sum_between xs ys (suc m) = sum_between xs ys m + square_gap (slice_index_or xs m (pos 0)) (slice_index_or ys m (pos 0))
+-- 63 bits hold the sum of m squared differences of any of these numbers
+pub record LieClose (m : ℕ) (xs : List ℤ) : Type 0 where
+  pub range : Range
+  pub within : AreWithin range xs
+  pub fits : SumsFit m 63 range
 
 -- the sums of the first windows with window j
 abbrev pub IsRow : List ℤ → ℕ → ℕ → List ℕ → Type 0
 IsRow xs m j sums = (i : ℕ) → i < length sums → slice_index sums i ≡ sum_at xs m i j
+
+-- ---- the last window
+
+-- its place
+abbrev pub last_place : ℕ → List Sample → ℕ
+last_place m items = windows (length items) m - 1
+
+-- its distance from window i
+abbrev pub last_distance : ℕ → List Sample → ℕ → ℕ
+last_distance m items i = sum_at (numbers_in items) m i (last_place m items)
+
+-- two lists have a place for each of so many windows
+pub record HavePlaces (count : ℕ) (sums next : List ℕ) : Type 0 where
+  pub sums_are : length sums ≡ count
+  pub next_are : length next ≡ count
+
+-- the last window has its places, and the windows before it have their sums with the window before it
+pub record IsBefore (m : ℕ) (items : List Sample) (sums next : List ℕ) : Type 0 where
+  pub least : 1 ≤ m
+  pub width : m ≤ max_window
+  pub long : m ≤ length items
+  pub places : HavePlaces (windows (length items) m) sums next
+  pub row : (i : ℕ) → i < last_place m items
+      → slice_index sums i ≡ sum_at (numbers_in items) m i (last_place m items - 1)
 
 -- ---- one place on
 
 -- the sum of two windows one place on: with two numbers that enter, and without two that leave
 abbrev pub next_of : ℕ → ℤ → ℤ → ℤ → ℤ → ℕ
 next_of sum enters leaves last_enters last_leaves =
-    sum + square_gap last_enters enters - square_gap last_leaves leaves
+    sum + squared_difference last_enters enters - squared_difference last_leaves leaves
 
 -- it can be computed below a limit
 pub record CanStep (limit sum : ℕ) (enters leaves last_enters last_leaves : ℤ) : Type 0 where
-  pub leaves_sum : square_gap last_leaves leaves ≤ sum
-  pub fits : sum + square_gap last_enters enters < limit
+  pub leaves_sum : squared_difference last_leaves leaves ≤ sum
+  pub fits : sum + squared_difference last_enters enters < limit
 
 abbrev pub last_of : List ℤ → ℤ
 last_of xs = slice_index_or xs (length xs - 1) (pos 0)

@@ -1,5 +1,6 @@
 -- What is seen of a stream, and what it keeps of its windows.
-use Rattle.std.specs.Prelude.{◌≡◌, ℕ, ◌-◌, ◌<◌, min, List, length, take, Bool, true, false, slice_index_or}
+use Rattle.std.specs.Prelude.{◌≡◌, ℕ, ◌+◌, ◌-◌, ◌^◌, ◌<◌, min, List, [], ◌∷◌, ◌++◌, length, take, Bool, true, false}
+use Rattle.std.specs.Prelude.{slice_index_or, None}
 use Rattle.mp_nums.specs.declared.samples.Sample.{Sample}
 use Rattle.mp_defs.specs.Series.{series_of}
 use Rattle.mp_defs.specs.Window.{is_free, windows}
@@ -8,10 +9,12 @@ use Rattle.mp_defs.specs.Profile.{matrix_profile}
 use Rattle.mp_series.specs.Samples.{numbers_in}
 use Rattle.mp_partial.specs.Values.{Column}
 use Rattle.mp_stream.specs.Blocks.{AreKnown}
-use Rattle.mp_stream.specs.Ranges.{AreWithin, SumsFit}
+use Rattle.mp_sums.specs.Ranges.{AreWithin, SumsFit}
 use Rattle.mp_stream.specs.Limits.{AreLimits, limit_by}
-use Rattle.mp_stream.specs.Rows.{sum_at, IsRow, IsTaken, row_candidate, offered_before, with_best}
-use Rattle.mp_stream.specs.declared.kept.Kept.{Kept}
+use Rattle.mp_stream.specs.Offers.{IsReady}
+use Rattle.mp_stream.specs.Rows.{HavePlaces, IsBefore, IsRow, IsTaken, last_place, last_distance, row_candidate}
+use Rattle.mp_stream.specs.Rows.{offered_before, with_best}
+use Rattle.mp_stream.specs.declared.profiles.GrowingProfile.{GrowingProfile}
 use Rattle.mp_stream.specs.declared.narrow.Narrow.{Narrow}
 use Rattle.mp_stream.specs.declared.wide.Wide.{Wide}
 
@@ -29,6 +32,11 @@ abbrev pub IsKnown : Column → Streamed → Type 0
 IsKnown known stream =
     AreKnown known (matrix_profile stream.m (series_of stream.items)).all stream.changed
 
+-- a profile is that of some samples
+pub record IsProfile (m : ℕ) (items : List Sample) (left right : Column) : Type 0 where
+  pub left_is : left ≡ (matrix_profile m (series_of items)).left
+  pub right_is : right ≡ (matrix_profile m (series_of items)).right
+
 -- for how many more windows there is room
 abbrev pub narrow_room : Narrow → ℕ
 narrow_room narrow = min narrow.sums.spare narrow.next.spare
@@ -36,52 +44,97 @@ narrow_room narrow = min narrow.sums.spare narrow.next.spare
 abbrev pub wide_room : Wide → ℕ
 wide_room wide = min wide.sums.spare wide.next.spare
 
-abbrev pub room_of : Kept → ℕ
-room_of kept =
-    min kept.profile.spare
-    (min kept.free.spare (min kept.limits.spare (min (narrow_room kept.narrow) (wide_room kept.wide))))
+abbrev pub room_of : GrowingProfile → ℕ
+room_of growing =
+    min growing.entries.profile.spare (min growing.free.spare
+    (min growing.entries.limits.spare (min (narrow_room growing.narrow) (wide_room growing.wide))))
 
 -- the rows have a place for each of so many windows, whether they are used or not
-pub record HaveRows (count : ℕ) (kept : Kept) : Type 0 where
-  pub narrow_sums : length kept.narrow.sums.items ≡ count
-  pub narrow_next : length kept.narrow.next.items ≡ count
-  pub wide_sums : length kept.wide.sums.items ≡ count
-  pub wide_next : length kept.wide.next.items ≡ count
-
--- the narrow row is that of the windows of some samples
-pub record IsNarrow (m : ℕ) (items : List Sample) (kept : Kept) : Type 0 where
-  pub fits : SumsFit m kept.range
-  pub row : IsRow (numbers_in items) m (windows (length items) m - 1) kept.narrow.sums.items
+pub record HaveRows (count : ℕ) (growing : GrowingProfile) : Type 0 where
+  pub narrow : HavePlaces count growing.narrow.sums.items growing.narrow.next.items
+  pub wide : HavePlaces count growing.wide.sums.items growing.wide.next.items
 
 -- what is kept is that of the windows of some samples: their profile, which of them are free, from which number up
--- to which the samples reach, the limits of the right entries, and the sums of all windows with the last one
-pub record IsOf (m : ℕ) (items : List Sample) (kept : Kept) : Type 0 where
-  pub left : kept.profile.left ≡ (matrix_profile m (series_of items)).left
-  pub right : kept.profile.right ≡ (matrix_profile m (series_of items)).right
-  pub frees : length kept.free.items ≡ windows (length items) m
+-- to which the samples reach, the limits of the right entries, and the sums of all windows with the last one: in 64
+-- bits only where these hold those of the range
+pub record IsOfInBits (m : ℕ) (items : List Sample) (growing : GrowingProfile) : Type 0 where
+  pub left : growing.entries.profile.left ≡ (matrix_profile m (series_of items)).left
+  pub right : growing.entries.profile.right ≡ (matrix_profile m (series_of items)).right
+  pub frees : length growing.free.items ≡ windows (length items) m
   pub free : (i : ℕ) → i < windows (length items) m
-      → slice_index_or kept.free.items i false ≡ is_free m (series_of items) i
-  pub range : AreWithin kept.range (numbers_in items)
-  pub limits : AreLimits (limit_by kept.is_narrow) kept.profile.right kept.limits.items
-  pub rows : HaveRows (windows (length items) m) kept
-  pub narrow : kept.is_narrow ≡ true → IsNarrow m items kept
-  pub wide : kept.is_narrow ≡ false → IsRow (numbers_in items) m (windows (length items) m - 1) kept.wide.sums.items
+      → slice_index_or growing.free.items i false ≡ is_free m (series_of items) i
+  pub range : AreWithin growing.range (numbers_in items)
+  pub limits : AreLimits (limit_by growing.is_narrow) growing.entries.profile.right growing.entries.limits.items
+  pub rows : HaveRows (windows (length items) m) growing
+  pub fits : growing.is_narrow ≡ true → SumsFit m 63 growing.range
+  pub narrow : growing.is_narrow ≡ true → IsRow (numbers_in items) m (last_place m items) growing.narrow.sums.items
+  pub wide : growing.is_narrow ≡ false → IsRow (numbers_in items) m (last_place m items) growing.wide.sums.items
+
+-- the same in 64 bits exactly there, as they do where there are no samples
+pub record IsOf (m : ℕ) (items : List Sample) (growing : GrowingProfile) : Type 0 where
+  pub left : growing.entries.profile.left ≡ (matrix_profile m (series_of items)).left
+  pub right : growing.entries.profile.right ≡ (matrix_profile m (series_of items)).right
+  pub frees : length growing.free.items ≡ windows (length items) m
+  pub free : (i : ℕ) → i < windows (length items) m
+      → slice_index_or growing.free.items i false ≡ is_free m (series_of items) i
+  pub range : AreWithin growing.range (numbers_in items)
+  pub limits : AreLimits (limit_by growing.is_narrow) growing.entries.profile.right growing.entries.limits.items
+  pub rows : HaveRows (windows (length items) m) growing
+  pub fits : growing.is_narrow ≡ true → SumsFit m 63 growing.range
+  pub exact : SumsFit m 63 growing.range → growing.is_narrow ≡ true
+  pub none : length items ≡ 0 → SumsFit m 63 growing.range
+  pub narrow : growing.is_narrow ≡ true → IsRow (numbers_in items) m (last_place m items) growing.narrow.sums.items
+  pub wide : growing.is_narrow ≡ false → IsRow (numbers_in items) m (last_place m items) growing.wide.sums.items
 
 abbrev pub without_last : List Sample → List Sample
 without_last items = take (length items - 1) items
 
 -- ---- one window more
 
--- the distances of the last window, at place w
-abbrev pub last_row : ℕ → List Sample → ℕ → ℕ → ℕ
-last_row m items w i = sum_at (numbers_in items) m i w
+-- the last window has its places, without distances
+pub record IsGrown (last_free : Bool) (before grown : GrowingProfile) : Type 0 where
+  pub left : grown.entries.profile.left ≡ before.entries.profile.left ++ None ∷ []
+  pub right : grown.entries.profile.right ≡ before.entries.profile.right ++ None ∷ []
+  pub all : length grown.entries.profile.all ≡ length before.entries.profile.all + 1
+  pub free : grown.free.items ≡ before.free.items ++ last_free ∷ []
+  pub range : grown.range ≡ before.range
+  pub is_narrow : grown.is_narrow ≡ before.is_narrow
+  pub limits : grown.entries.limits.items ≡ before.entries.limits.items ++ 2 ^ 63 ∷ []
+  pub narrow : grown.narrow.sums.items ≡ before.narrow.sums.items ++ 0 ∷ []
+  pub wide : grown.wide.sums.items ≡ before.wide.sums.items ++ 0 ∷ []
+  pub narrow_next : length grown.narrow.next.items ≡ length before.narrow.next.items + 1
+  pub wide_next : length grown.wide.next.items ≡ length before.wide.next.items + 1
 
--- where the last window has its places, at w, it was offered to the windows before it, and the nearest of these to it
-pub record IsOffered (m : ℕ) (items : List Sample) (last_free : Bool) (w : ℕ) (grown after : Kept) : Type 0 where
-  pub right : IsTaken grown.free.items (last_row m items w) w 0 (offered_before last_free m w) grown.profile.right
-      after.profile.right
-  pub left : after.profile.left ≡ with_best grown.profile.left w
-      (near (row_candidate grown.free.items (last_row m items w)) (offered_before last_free m w))
+-- before the last window, which has its places, everything stands, and it can be offered
+pub record IsWaiting (m : ℕ) (items : List Sample) (growing : GrowingProfile) : Type 0 where
+  pub frees : length growing.free.items ≡ windows (length items) m
+  pub range : AreWithin growing.range (numbers_in items)
+  pub rows : HaveRows (windows (length items) m) growing
+  pub ready : IsReady (limit_by growing.is_narrow) (last_place m items) growing.entries
+  pub fits : growing.is_narrow ≡ true → SumsFit m 63 growing.range
+  pub narrow : growing.is_narrow ≡ true → IsBefore m items growing.narrow.sums.items growing.narrow.next.items
+  pub wide : growing.is_narrow ≡ false → IsBefore m items growing.wide.sums.items growing.wide.next.items
+
+-- the row in 64 bits is that of the last window, with the room that it had
+pub record IsTurned (m : ℕ) (items : List Sample) (old new : Narrow) : Type 0 where
+  pub row : IsRow (numbers_in items) m (last_place m items) new.sums.items
+  pub places : HavePlaces (windows (length items) m) new.sums.items new.next.items
+  pub room : narrow_room new ≡ narrow_room old
+
+-- how many windows the last one is offered to
+abbrev pub offered_to : ℕ → List Sample → Bool → ℕ
+offered_to m items last_free = offered_before last_free m (last_place m items)
+
+-- the last window was offered to the windows before it, and the nearest of these to it, and a row is that of it
+pub record IsOffered (m : ℕ) (items : List Sample) (last_free : Bool) (grown after : GrowingProfile) : Type 0 where
+  pub right : IsTaken grown.free.items (last_distance m items) (last_place m items) 0 (offered_to m items last_free)
+      grown.entries.profile.right after.entries.profile.right
+  pub left : after.entries.profile.left ≡ with_best grown.entries.profile.left (last_place m items)
+      (near (row_candidate grown.free.items (last_distance m items)) (offered_to m items last_free))
   pub free : after.free ≡ grown.free
   pub range : after.range ≡ grown.range
   pub is_narrow : after.is_narrow ≡ grown.is_narrow
+  pub limits : AreLimits (limit_by grown.is_narrow) after.entries.profile.right after.entries.limits.items
+  pub rows : HaveRows (windows (length items) m) after
+  pub narrow : grown.is_narrow ≡ true → IsRow (numbers_in items) m (last_place m items) after.narrow.sums.items
+  pub wide : grown.is_narrow ≡ false → IsRow (numbers_in items) m (last_place m items) after.wide.sums.items

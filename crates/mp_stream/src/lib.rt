@@ -6,7 +6,7 @@
 #![tactic(auto)]
 
 mod bests;
-mod kept;
+mod entries;
 mod laws;
 mod limits;
 mod marked;
@@ -15,7 +15,7 @@ mod narrow;
 mod narrow_rows;
 mod narrow_sums;
 mod offers;
-mod ranges;
+mod profiles;
 mod rows;
 mod streams;
 mod sums;

@@ -9,6 +9,9 @@ use std::alloc::Global;
 /// Where nothing was found, each sum is below this. Its one bit is the top bit of 64.
 pub(crate) const GREATEST: u64 = 1 << 63;
 
+/// How many bits the sums of a row have where they are compared in 64.
+pub(crate) const SUM_BITS: u32 = 63;
+
 /// Sums of 128 bits are compared by how often this goes into them, which 64 bits hold.
 const PART: u128 = 1 << 16;
 

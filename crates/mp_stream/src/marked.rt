@@ -84,6 +84,7 @@ impl MarkedProfile {
         ensures all { IfOk result (λ marked. marked.all ≡ profile.all) }
         ensures left { IfOk result (λ marked. marked.left ≡ profile.left) }
         ensures right { IfOk result (λ marked. marked.right ≡ profile.right) }
+        ensures unmarked { IfOk result (λ marked. (block : ℕ) → slice_index_or marked.changed block false ≡ false) }
     {
         let blocks = count_blocks(profile.len());
         let changed = Items::from(vec![in alloc; false; blocks as usize]?);

@@ -6,7 +6,7 @@ ghost use Rattle.mp_stream.specs.Moves.{moved_by};
 
 use crate::limits::{GREATEST, either};
 use crate::moves::Moves;
-use crate::sums::square;
+use mp_sums::square;
 
 /// The sum of two windows one place on.
 #[inline]

@@ -1,23 +1,29 @@
 //! The row of the last window: its distances to all windows, in which a missing sample counts as 0.
 
-ghost use Rattle.std.specs.Prelude.{◌≡◌, ℕ, ◌+◌, ◌-◌, ◌*◌, ◌^◌, ◌<◌, ◌≤◌, length, slice_index, IfOk, IfSome};
+ghost use Rattle.std.specs.Prelude.{◌≡◌, ℕ, ◌+◌, ◌-◌, ◌*◌, ◌^◌, ◌<◌, ◌≤◌, length, slice_index, IfOk};
 ghost use Rattle.mp_defs.specs.Least.{near};
 ghost use Rattle.mp_defs.specs.Window.{windows};
 ghost use Rattle.mp_series.specs.Samples.{numbers_in};
 ghost use Rattle.mp_series.specs.declared.limits.TheConstants.{MAX_WINDOW};
-ghost use Rattle.mp_stream.specs.Blocks.{StayKnown};
-ghost use Rattle.mp_stream.specs.Limits.{AllStartAtMost, AreLimits, limit_of};
-ghost use Rattle.mp_stream.specs.Ranges.{AreWithin, SumsFit};
-ghost use Rattle.mp_stream.specs.Rows.{sum_at, IsRow, IsTaken, row_candidate};
+ghost use Rattle.mp_sums.specs.Ranges.{AreWithin};
+ghost use Rattle.mp_stream.specs.Limits.{limit_of};
+ghost use Rattle.mp_stream.specs.Offers.{AreOffered, IsReady};
+ghost use Rattle.mp_stream.specs.Reads.{OnlyReads};
+ghost use Rattle.mp_stream.specs.Rows.{sum_at, HavePlaces, IsBefore, IsRow, LieClose, last_place};
+ghost use Rattle.mp_stream.specs.Rows.{last_distance, row_candidate};
+ghost use Rattle.mp_stream.specs.Streams.{IsTurned, wide_room};
 
-use crate::marked::MarkedProfile;
+use crate::entries::Entries;
 use crate::moves::Moves;
+use crate::narrow::Narrow;
 use crate::narrow_rows::take_row;
-use crate::ranges::Range;
-use crate::sums::{move_sums, window_sum};
+use crate::sums::move_sums;
+use crate::wide::Wide;
 use mp_nums::{Items, Memory, Slot};
 use mp_series::Samples;
+use mp_sums::{Range, window_sum};
 use std::alloc::Global;
+use std::mem::swap;
 
 /// The sum of windows `i` and `j`.
 fn sum_of(samples: &mut Samples, m: u32, i: u64, j: u64) -> u128
@@ -25,40 +31,28 @@ fn sum_of(samples: &mut Samples, m: u32, i: u64, j: u64) -> u128
     requires second { j + m ≤ length samples.old.items }
     requires width { m ≤ MAX_WINDOW }
     ensures sum { result ≡ sum_at (numbers_in samples.old.items) m i j }
-    ensures items { samples.new.items ≡ samples.old.items }
-    ensures spare { samples.new.spare ≡ samples.old.spare }
-    ensures reads_rise { samples.old.reads ≤ samples.new.reads }
-    ensures reads { samples.new.reads ≤ samples.old.reads + 2 * m }
+    ensures read { OnlyReads (2 * m) samples.old samples.new }
 {
     let (first, second) = samples.parts(i, j, u64::from(m));
     window_sum(first, second)
 }
 
 /// Makes the row of the last window in 128 bits from the row of the window before it.
-pub(crate) fn next_wide_row(
-    samples: &mut Samples,
-    m: u32,
-    range: Range,
-    before: &[u128],
-    sums: &mut [u128],
-)
-    requires least { 1 ≤ m }
-    requires width { m ≤ MAX_WINDOW }
-    requires all { length samples.old.items + 1 ≡ length sums.old + m }
-    requires one_more { length sums.old ≡ length before.now + 1 }
+pub(crate) fn next_wide_row(samples: &mut Samples, m: u32, range: Range, wide: &mut Wide)
+    requires before { IsBefore m samples.old.items wide.old.sums.items wide.old.next.items }
     requires range { AreWithin range (numbers_in samples.old.items) }
-    requires before { IsRow (numbers_in samples.old.items) m (length sums.old - 1 - 1) before.now }
-    ensures row { IsRow (numbers_in samples.old.items) m (length sums.old - 1) sums.new }
-    ensures small { (i : ℕ) → i < length sums.new → slice_index sums.new i < 2 ^ 79 }
-    ensures items { samples.new.items ≡ samples.old.items }
-    ensures spare { samples.new.spare ≡ samples.old.spare }
-    ensures reads_rise { samples.old.reads ≤ samples.new.reads }
-    ensures reads { samples.new.reads ≤ samples.old.reads + 2 * (length sums.old + m) }
+    ensures places { HavePlaces (windows (length samples.old.items) m) wide.new.sums.items wide.new.next.items }
+    ensures row { IsRow (numbers_in samples.old.items) m (last_place m samples.old.items) wide.new.sums.items }
+    ensures small { (i : ℕ) → i < length wide.new.sums.items → slice_index wide.new.sums.items i < 2 ^ 79 }
+    ensures room { wide_room wide.new ≡ wide_room wide.old }
+    ensures read { OnlyReads (2 * (windows (length samples.old.items) m + m)) samples.old samples.new }
 {
-    let last = before.len() as u64;
-    sums[0] = sum_of(samples, m, 0, last);
-    let (leaves, enters) = samples.parts(0, u64::from(m), last);
-    move_sums(before, enters, leaves, sums);
+    let last = wide.sums.as_slice().len() - 1;
+    let first = sum_of(samples, m, 0, last as u64);
+    let (leaves, enters) = samples.parts(0, u64::from(m), last as u64);
+    let before = &wide.sums.as_slice()[..last];
+    move_sums(first, before, enters, leaves, wide.next.as_mut_slice());
+    swap(&mut wide.sums, &mut wide.next);
 }
 
 /// Makes the row of the last window in 64 bits from the row of the window before it, and offers the last window to each
@@ -66,53 +60,35 @@ pub(crate) fn next_wide_row(
 pub(crate) fn next_narrow_row(
     samples: &mut Samples,
     m: u32,
-    range: Range,
-    before: &[u64],
-    sums: &mut [u64],
-    end: usize,
+    narrow: &mut Narrow,
     free: &[bool],
-    limits: &mut [u64],
-    profile: &mut MarkedProfile,
+    end: usize,
+    entries: &mut Entries,
 ) -> Slot
-    requires least { 1 ≤ m }
-    requires width { m ≤ MAX_WINDOW }
-    requires all { length samples.old.items + 1 ≡ length sums.old + m }
-    requires one_more { length sums.old ≡ length before.now + 1 }
-    requires range { AreWithin range (numbers_in samples.old.items) }
-    requires fits { SumsFit m range }
-    requires before { IsRow (numbers_in samples.old.items) m (length sums.old - 1 - 1) before.now }
-    requires within { end < length sums.old }
-    requires sums { length sums.old ≡ length profile.old.all }
-    requires free { length free.now ≡ length profile.old.all }
-    requires places { length profile.old.right ≡ length profile.old.all }
-    requires limits { AreLimits limit_of profile.old.right limits.old }
-    requires earlier { AllStartAtMost (length sums.old - 1) profile.old.right }
-    ensures row { IsRow (numbers_in samples.old.items) m (length sums.old - 1) sums.new }
-    ensures right { IsTaken free.now (λ (i : ℕ). sum_at (numbers_in samples.old.items) m i (length sums.old - 1))
-        (length sums.old - 1) 0 end profile.old.right profile.new.right }
-    ensures left { profile.new.left ≡ profile.old.left }
-    ensures profile { length profile.new.all ≡ length profile.old.all }
-    ensures room { profile.new.spare ≡ profile.old.spare }
-    ensures known { StayKnown profile.old profile.new }
-    ensures limits { AreLimits limit_of profile.new.right limits.new }
-    ensures best { result ≡ near (row_candidate free.now (λ (i : ℕ). sum_at (numbers_in samples.old.items) m i
-        (length sums.old - 1))) end }
-    ensures earlier { IfSome result (λ best. best.index < end) }
-    ensures items { samples.new.items ≡ samples.old.items }
-    ensures spare { samples.new.spare ≡ samples.old.spare }
-    ensures reads_rise { samples.old.reads ≤ samples.new.reads }
-    ensures reads { samples.new.reads ≤ samples.old.reads + 2 * (length sums.old + m) }
+    requires before { IsBefore m samples.old.items narrow.old.sums.items narrow.old.next.items }
+    requires close { LieClose m (numbers_in samples.old.items) }
+    requires frees { length free.now ≡ windows (length samples.old.items) m }
+    requires within { end ≤ last_place m samples.old.items }
+    requires ready { IsReady limit_of (last_place m samples.old.items) entries.old }
+    ensures turned { IsTurned m samples.old.items narrow.old narrow.new }
+    ensures offered { AreOffered limit_of free.now (last_distance m samples.old.items) (last_place m samples.old.items) 0 end
+        entries.old entries.new }
+    ensures best { result ≡ near (row_candidate free.now (last_distance m samples.old.items)) end }
+    ensures read { OnlyReads (2 * (windows (length samples.old.items) m + m)) samples.old samples.new }
 {
-    let last = before.len() as u64;
-    let first = sum_of(samples, m, 0, last) as u64;
-    let (leaves, enters) = samples.parts(0, u64::from(m), last);
+    let last = narrow.sums.as_slice().len() - 1;
+    let first = sum_of(samples, m, 0, last as u64) as u64;
+    let (leaves, enters) = samples.parts(0, u64::from(m), last as u64);
     let moves = Moves {
         first,
-        before,
+        before: &narrow.sums.as_slice()[..last],
         enters,
         leaves,
+        free,
     };
-    take_row(&moves, end, sums, free, limits, profile)
+    let best = take_row(&moves, end, narrow.next.as_mut_slice(), entries);
+    swap(&mut narrow.sums, &mut narrow.next);
+    best
 }
 
 /// The row of the last of so many windows.

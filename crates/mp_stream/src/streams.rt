@@ -9,11 +9,12 @@ ghost use Rattle.mp_series.specs.declared.limits.TheConstants.{MIN_WINDOW, MAX_W
 ghost use Rattle.mp_cuts.specs.declared.cuts.TheConstants.{MAX_TILE};
 ghost use Rattle.mp_partial.specs.declared.limits.TheConstants.{MAX_WORKERS};
 
-use crate::kept::Kept;
+use crate::profiles::GrowingProfile;
 use mp_nums::{Memory, Sample};
 use mp_outside::Gate;
 use mp_partial::Profile;
 use mp_series::{MAX_SAMPLES, Samples};
+use mp_workers::self_join;
 use std::alloc::Global;
 use std::marker::Model;
 use std::thread::Threads;
@@ -48,7 +49,7 @@ impl From<Memory> for AppendRefusal {
 pub struct Stream {
     samples: Samples,
     m: u32,
-    kept: Kept,
+    growing: GrowingProfile,
 }
 
 impl Model for Stream {
@@ -63,11 +64,11 @@ impl Model for Stream {
       m = s.m;
       reads = s.samples.reads;
       spare = min s.samples.spare
-          (room_of s.kept);
-      changed = s.kept.profile.changed;
+          (room_of s.growing);
+      changed = s.growing.entries.profile.changed;
     } };
 
-    ghost invariant = { λ s. (min_window ≤ s.m) × (s.m ≤ max_window) × IsOf s.m s.samples.items s.kept };
+    ghost invariant = { λ s. (min_window ≤ s.m) × (s.m ≤ max_window) × IsOf s.m s.samples.items s.growing };
 }
 
 impl Stream {
@@ -79,8 +80,8 @@ impl Stream {
     ghost use Rattle.mp_stream.specs.Streams.{IsKnown};
 
     /// The samples at window length `m`, with their profile computed in tiles of at most `tile` diagonals by so many
-    /// workers. It is the same for every tile, number of workers and gate. Where there is no memory, the samples are
-    /// given up.
+    /// workers. It is the same for every tile, number of workers and gate. No block is marked. Where there is no memory,
+    /// the samples are given up.
     pub fn from<R: Threads + Sync, G: Gate>(
         rt: &R,
         alloc: Global,
@@ -98,13 +99,19 @@ impl Stream {
         requires workers { workers ≤ MAX_WORKERS }
         ensures items { IfOk result (λ stream. stream.items ≡ samples.items) }
         ensures m { IfOk result (λ stream. stream.m ≡ m) }
+        ensures unmarked { IfOk result (λ stream. (block : ℕ) → slice_index_or stream.changed block false ≡ false) }
         ensures reads_rise { IfOk result (λ stream. samples.reads ≤ stream.reads) }
         ensures reads { IfOk result (λ stream. stream.reads
             ≤ samples.reads + length samples.items * (length samples.items + 2 * (m + 1))) }
     {
         let mut samples = samples;
-        let kept = Kept::from(rt, alloc, &mut samples, m, tile, workers, gate)?;
-        Ok(Stream { samples, m, kept })
+        let profile = self_join(rt, alloc, samples.lend(), m, tile, workers, gate)?;
+        let growing = GrowingProfile::of(alloc, &mut samples, m, profile)?;
+        Ok(Stream {
+            samples,
+            m,
+            growing,
+        })
     }
 
     /// Makes room for `k` more samples.
@@ -118,7 +125,7 @@ impl Stream {
         ensures changed { self.new.changed ≡ self.old.changed }
     {
         self.samples.reserve(k)?;
-        self.kept.reserve(k)
+        self.growing.reserve(k)
     }
 
     /// Appends the sample. It reads no more than four samples for each window and for each sample of one.
@@ -139,7 +146,7 @@ impl Stream {
         }
         self.reserve(1)?;
         self.samples.push(sample).unwrap();
-        self.kept.append(&mut self.samples, self.m, sample);
+        self.growing.append(&mut self.samples, self.m, sample);
         Ok(())
     }
 
@@ -149,7 +156,7 @@ impl Stream {
         ensures left { result.now.left ≡ (matrix_profile self.now.m (series_of self.now.items)).left }
         ensures right { result.now.right ≡ (matrix_profile self.now.m (series_of self.now.items)).right }
     {
-        self.kept.profile.inner()
+        self.growing.entries.profile.inner()
     }
 
     /// For each block of `BLOCK` windows whether it is marked. In the others each window has the nearest one that it
@@ -158,7 +165,7 @@ impl Stream {
         ensures marks { result.now ≡ self.now.changed }
         ensures blocks { length result.now ≡ block_count (windows (length self.now.items) self.now.m) }
     {
-        self.kept.profile.changed()
+        self.growing.entries.profile.changed()
     }
 
     /// Clears all marks.
@@ -169,7 +176,7 @@ impl Stream {
         ensures reads { self.new.reads ≡ self.old.reads }
         ensures spare { self.new.spare ≡ self.old.spare }
     {
-        self.kept.clear_changed();
+        self.growing.clear_changed();
     }
 
     /// How many samples there are. It is no read.
@@ -207,7 +214,7 @@ impl Stream {
     pub fn spare(&self) -> u64
         ensures { result ≡ self.now.spare }
     {
-        self.samples.spare().min(self.kept.room())
+        self.samples.spare().min(self.growing.room())
     }
 
     /// Whether no sample of window `i` is missing. It is no read.

@@ -1,31 +1,9 @@
-//! Sums of squared differences.
+//! Sums of 128 bits that move one place on.
 
-ghost use Rattle.std.specs.Prelude.{◌≡◌, ℕ, ◌+◌, ◌-◌, ◌^◌, ◌<◌, ◌≤◌, length, slice_index, slice_index_or, pos};
-ghost use Rattle.mp_defs.specs.Distance.{square_gap};
-ghost use Rattle.mp_series.specs.declared.limits.TheConstants.{MAX_WINDOW};
-ghost use Rattle.mp_stream.specs.Rows.{sum_between, next_of, CanStep, CanMove, moved};
+ghost use Rattle.std.specs.Prelude.{◌≡◌, ℕ, ◌+◌, ◌^◌, ◌<◌, length, slice_index};
+ghost use Rattle.mp_stream.specs.Rows.{next_of, CanStep, CanMove, moved_row};
 
-/// The squared difference of two numbers.
-#[inline]
-pub(crate) fn square(x: i32, y: i32) -> u64
-    ensures { result ≡ square_gap x y }
-{
-    let gap = u64::from(x.abs_diff(y));
-    gap * gap
-}
-
-/// The sum of the squared differences of two windows.
-pub(crate) fn window_sum(xs: &[i32], ys: &[i32]) -> u128
-    requires places { length ys.now ≡ length xs.now }
-    requires short { length xs.now ≤ MAX_WINDOW }
-    ensures { result ≡ sum_between xs.now ys.now (length xs.now) }
-{
-    let mut sum: u128 = 0;
-    for k in 0..xs.len() {
-        sum += u128::from(square(xs[k], ys[k]));
-    }
-    sum
-}
+use mp_sums::square;
 
 /// The sum of two windows one place on.
 #[inline]
@@ -36,14 +14,20 @@ fn next_sum(sum: u128, enters: i32, leaves: i32, last_enters: i32, last_leaves: 
     sum + u128::from(square(last_enters, enters)) - u128::from(square(last_leaves, leaves))
 }
 
-/// The sums of all windows but the first with the last one, from the sums of the windows before them.
-pub(crate) fn move_sums(before: &[u128], enters: &[i32], leaves: &[i32], sums: &mut [u128])
+/// The sums of all windows with the last one, from the first of them and the sums of the windows before them.
+pub(crate) fn move_sums(
+    first: u128,
+    before: &[u128],
+    enters: &[i32],
+    leaves: &[i32],
+    sums: &mut [u128],
+)
     requires one_more { length sums.old ≡ length before.now + 1 }
     requires can { CanMove (2 ^ 128) before.now enters.now leaves.now }
-    ensures first { slice_index sums.new 0 ≡ slice_index sums.old 0 }
-    ensures moved { (i : ℕ) → i < length before.now
-        → slice_index sums.new (i + 1) ≡ moved before.now enters.now leaves.now i }
+    ensures { (i : ℕ) → i < length sums.old
+        → slice_index sums.new i ≡ moved_row first before.now enters.now leaves.now i }
 {
+    sums[0] = first;
     if before.is_empty() {
         return;
     }

@@ -8,7 +8,7 @@ use Rattle.std.proofs.lemmas.List.{get_or-set_same, get_or-set_other}
 use Rattle.mp_nums.specs.declared.samples.Sample.{Sample}
 use Rattle.mp_nums.specs.declared.samples.Sample.TheVariants.{Missing}
 use Rattle.mp_defs.specs.Series.{reading_of, series_of}
-use Rattle.mp_defs.specs.Distance.{square_gap}
+use Rattle.mp_defs.specs.Distance.{squared_difference}
 use Rattle.mp_defs.specs.SeriesLaws.{series_are_of_samples}
 use Rattle.mp_sums.specs.Sums.{filled, numbers_of}
 use Rattle.mp_sums.specs.Rounding.{rounded}
@@ -67,10 +67,10 @@ sum_is enters leaves m x start q e f =
 -- numbers of samples that were handed on
 pub square_there : (a b : List Sample) (i j square : ℕ) (x y : ℤ) → FitsSigned w32 x → FitsSigned w32 y
     → x ≡ filled (reading_of (slice_index_or a i Missing)) → y ≡ filled (reading_of (slice_index_or b j Missing))
-    → square ≡ square_gap (to_z w32 (of_z w32 x)) (to_z w32 (of_z w32 y))
-    → square ≡ square_gap (numbers_of (series_of a) i) (numbers_of (series_of b) j)
+    → square ≡ squared_difference (to_z w32 (of_z w32 x)) (to_z w32 (of_z w32 y))
+    → square ≡ squared_difference (numbers_of (series_of a) i) (numbers_of (series_of b) j)
 square_there a b i j square x y f g e h is =
-    is ∙ ap (λ z. square_gap z (to_z w32 (of_z w32 y)))
+    is ∙ ap (λ z. squared_difference z (to_z w32 (of_z w32 y)))
     (to_z-of_z w32 x f ∙ e ∙ ap filled (sym (series_are_of_samples.numbers a i)))
-    ∙ ap (square_gap (numbers_of (series_of a) i))
+    ∙ ap (squared_difference (numbers_of (series_of a) i))
     (to_z-of_z w32 y g ∙ h ∙ ap filled (sym (series_are_of_samples.numbers b j)))

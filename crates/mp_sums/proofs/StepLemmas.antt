@@ -2,7 +2,7 @@
 use Rattle.std.proofs.Common.{◌≡◌, ℕ, ◌+◌, sym, ap, ◌∙◌, arith, w32, FitsSigned, ℤ, pos, ◌+ℤ◌, ◌-ℤ◌, ◌*ℤ◌}
 use Rattle.std.specs.Int.{int_wrap}
 use Rattle.std.proofs.lemmas.Int.{ints, int_wrap_fits}
-use Rattle.mp_defs.specs.Distance.{square_gap}
+use Rattle.mp_defs.specs.Distance.{squared_difference}
 use Rattle.mp_sums.specs.Sums.{square_sum}
 use Rattle.mp_sums.specs.Residues.{residue}
 use Rattle.mp_sums.specs.Products.{square_is, add_wraps, sub_wraps, mul_wraps, twice}
@@ -26,11 +26,13 @@ pub residue_of_more : (r row column : ℤ) (m : ℕ) (x : ℕ → ℤ) (i : ℕ)
 residue_of_more r row column m x i y j e f g =
     let q : ℕ = square_sum m x i y j in
     let top : ℤ = pos 2147483647 in
-    let gap : ℤ = x (i + m) -ℤ y (j + m) in
-    let same : int_wrap w32 (row -ℤ column) ≡ int_wrap w32 gap =
+    let difference : ℤ = x (i + m) -ℤ y (j + m) in
+    let same : int_wrap w32 (row -ℤ column) ≡ int_wrap w32 difference =
     sub_wraps row column (x (i + m)) (y (j + m)) (ap (int_wrap w32) f ∙ twice (x (i + m)))
     (ap (int_wrap w32) g ∙ twice (y (j + m))) in
-    add_wraps r ((row -ℤ column) *ℤ (row -ℤ column)) (pos q -ℤ top) (gap *ℤ gap)
-    (ap (int_wrap w32) e ∙ twice (pos q -ℤ top)) (mul_wraps (row -ℤ column) (row -ℤ column) gap gap same same)
-    ∙ ap (int_wrap w32) (put_in (gap *ℤ gap) top q (square_gap (x (i + m)) (y (j + m))) (sym (square_is gap)))
+    add_wraps r ((row -ℤ column) *ℤ (row -ℤ column)) (pos q -ℤ top) (difference *ℤ difference)
+    (ap (int_wrap w32) e
+    ∙ twice (pos q -ℤ top)) (mul_wraps (row -ℤ column) (row -ℤ column) difference difference same same)
+    ∙ ap (int_wrap w32) (put_in (difference *ℤ difference) top q (squared_difference (x (i + m)) (y (j + m))) (sym
+    (square_is difference)))
     ∙ ap (λ n. int_wrap w32 (pos n -ℤ top)) (sym (sum_more m x i y j))

@@ -1,7 +1,7 @@
 -- Two series whose windows of one length are compared, and the sums of their pairs.
 use Rattle.std.specs.Prelude.{ℕ, ℤ, Option}
 use Rattle.mp_defs.specs.Series.{series_of}
-use Rattle.mp_defs.specs.Distance.{square_gap, distance}
+use Rattle.mp_defs.specs.Distance.{squared_difference, distance}
 use Rattle.mp_sums.specs.declared.distances.Grid.{Grid}
 use Rattle.mp_sums.specs.Sums.{numbers_of, square_sum, IsSum}
 
@@ -15,7 +15,7 @@ column_numbers grid = numbers_of (series_of grid.columns.now)
 
 -- the squared difference of two samples
 abbrev pub square_in : Grid → ℕ → ℕ → ℕ
-square_in grid row column = square_gap (row_numbers grid row) (column_numbers grid column)
+square_in grid row column = squared_difference (row_numbers grid row) (column_numbers grid column)
 
 -- the sum of the first n squares of a row and a column
 abbrev pub first_sum_in : Grid → ℕ → ℕ → ℕ → ℕ

@@ -1,9 +1,11 @@
 -- What holds of sums, of rounded samples and of residues, in the subject's own words.
-use Rattle.std.specs.Prelude.{◌≡◌, ℕ, ◌+◌, ◌≤◌, ℤ, ◌≤ℤ◌, ◌<ℤ◌, Some}
+use Rattle.std.specs.Prelude.{◌≡◌, ℕ, ◌+◌, ◌^◌, ◌<◌, ◌≤◌, ℤ, ◌≤ℤ◌, ◌<ℤ◌, Some}
 use Rattle.mp_defs.specs.Series.{Series}
-use Rattle.mp_defs.specs.Distance.{square_gap, distance}
+use Rattle.mp_defs.specs.Distance.{squared_difference, distance}
 use Rattle.mp_sums.specs.declared.limits.Limit.{Limit}
+use Rattle.mp_sums.specs.declared.ranges.Range.{Range}
 use Rattle.mp_sums.specs.Sums.{numbers_of, square_sum}
+use Rattle.mp_sums.specs.Ranges.{IsInRange, SumsFit}
 use Rattle.mp_sums.specs.Limits.{IsWithin, IsBeyond}
 use Rattle.mp_sums.specs.Rounding.{rounded, threshold}
 use Rattle.mp_sums.specs.Residues.{rounded_residue, residue, residue_limit, IsChange, moved}
@@ -14,11 +16,14 @@ pub record SumsRunOn : Type 0 where
   pub no_numbers : (x : ℕ → ℤ) (i : ℕ) (y : ℕ → ℤ) (j : ℕ) → square_sum 0 x i y j ≡ 0
   -- with one number more
   pub one_more : (m : ℕ) (x : ℕ → ℤ) (i : ℕ) (y : ℕ → ℤ) (j : ℕ)
-      → square_sum (m + 1) x i y j ≡ square_sum m x i y j + square_gap (x (i + m)) (y (j + m))
+      → square_sum (m + 1) x i y j ≡ square_sum m x i y j + squared_difference (x (i + m)) (y (j + m))
   -- one place on: one square goes and one comes in
   pub moved_on : (m : ℕ) (x : ℕ → ℤ) (i : ℕ) (y : ℕ → ℤ) (j : ℕ)
-      → square_sum m x (i + 1) y (j + 1) + square_gap (x i) (y j)
-      ≡ square_sum m x i y j + square_gap (x (i + m)) (y (j + m))
+      → square_sum m x (i + 1) y (j + 1) + squared_difference (x i) (y j)
+      ≡ square_sum m x i y j + squared_difference (x (i + m)) (y (j + m))
+  -- one part behind another
+  pub joined : (m n : ℕ) (x : ℕ → ℤ) (i : ℕ) (y : ℕ → ℤ) (j : ℕ)
+      → square_sum (m + n) x i y j ≡ square_sum m x i y j + square_sum n x (i + m) y (j + m)
   -- it is the same from either side
   pub turned : (m : ℕ) (x : ℕ → ℤ) (i : ℕ) (y : ℕ → ℤ) (j : ℕ) → square_sum m x i y j ≡ square_sum m y j x i
   -- the first squares alone
@@ -28,6 +33,16 @@ pub record SumsRunOn : Type 0 where
 abbrev pub DistancesAreSums : Type 0
 DistancesAreSums = (m : ℕ) (a : Series) (i : ℕ) (b : Series) (j d : ℕ) → distance m a i b j ≡ Some d
     → d ≡ square_sum m (numbers_of a) i (numbers_of b) j
+
+-- what a range tells of the numbers in it
+pub record RangesBoundSums : Type 0 where
+  -- two numbers differ by no more than its ends
+  pub squares : (range : Range) (x y : ℤ) → IsInRange range x → IsInRange range y
+      → squared_difference x y ≤ squared_difference range.greatest range.least
+  -- where the sums of m squares fit into so many bits, those of no more numbers do
+  pub sums : (n m bits : ℕ) (range : Range) (x : ℕ → ℤ) (i : ℕ) (y : ℕ → ℤ) (j : ℕ) → n ≤ m → SumsFit m bits range
+      → ((k : ℕ) → k < n → IsInRange range (x (i + k))) → ((k : ℕ) → k < n → IsInRange range (y (j + k)))
+      → square_sum n x i y j < 2 ^ bits
 
 -- ---- rounded samples
 

@@ -1,11 +1,14 @@
 pub mod Sums
+pub mod Ranges
 pub mod Grids
 pub mod Limits
 pub mod Rounding
 pub mod Residues
 pub mod Rows
+pub mod Lists
 pub mod Laws
 pub mod Products
 pub mod SumLaws
+pub mod RangeLaws
 pub mod RoundingLaws
 pub mod ResidueLaws

@@ -7,7 +7,7 @@ use Rattle.std.proofs.lemmas.Bool.{cases_lt}
 use Rattle.std.proofs.lemmas.Bool.Decides.{nat_tests}
 use Rattle.std.proofs.lemmas.Int.{ints, int_wrap_fits, int_wrap-add_left, SFits-int_wrap}
 use Rattle.mp_defs.specs.Series.{Series}
-use Rattle.mp_defs.specs.Distance.{square_gap, distance}
+use Rattle.mp_defs.specs.Distance.{squared_difference, distance}
 use Rattle.mp_sums.specs.declared.limits.Limit.{Limit}
 use Rattle.mp_sums.specs.declared.limits.Limit.TheVariants.{Every, Within, Below}
 use Rattle.mp_sums.specs.Sums.{numbers_of, square_sum}
@@ -47,14 +47,14 @@ residues_move_on m x i y j e s e' s' h k =
     (ap (int_wrap w32) h.sum_is ∙ twice (x (i + m) +ℤ x i)) (ap (int_wrap w32) k.sum_is ∙ twice (y (j + m) +ℤ y j))
     ∙ ap (int_wrap w32) (together (x (i + m)) (x i) (y (j + m)) (y j)) in
     let product : (enters -ℤ leaves) *ℤ (enters +ℤ leaves)
-    ≡ pos (square_gap (x (i + m)) (y (j + m))) -ℤ pos (square_gap (x i) (y j)) =
+    ≡ pos (squared_difference (x (i + m)) (y (j + m))) -ℤ pos (squared_difference (x i) (y j)) =
     square_difference enters leaves ∙ ap (λ z. z -ℤ leaves *ℤ leaves) (sym (square_is enters))
-    ∙ ap (λ z. pos (square_gap (x (i + m)) (y (j + m))) -ℤ z) (sym (square_is leaves)) in
+    ∙ ap (λ z. pos (squared_difference (x (i + m)) (y (j + m))) -ℤ z) (sym (square_is leaves)) in
     int_wrap-add_left w32 (pos q -ℤ top) ((e -ℤ e') *ℤ (s -ℤ s'))
     ∙ add_wraps (pos q -ℤ top) ((e -ℤ e') *ℤ (s -ℤ s')) (pos q -ℤ top) ((enters -ℤ leaves) *ℤ (enters +ℤ leaves)) refl
     (mul_wraps (e -ℤ e') (s -ℤ s') (enters -ℤ leaves) (enters +ℤ leaves) differences sums)
     ∙ ap (int_wrap w32) (put_in ((enters -ℤ leaves) *ℤ (enters +ℤ leaves)) top q (square_sum m x (i + 1) y (j + 1))
-    (square_gap (x (i + m)) (y (j + m))) (square_gap (x i) (y j)) product (moved_on m x i y j))
+    (squared_difference (x (i + m)) (y (j + m))) (squared_difference (x i) (y j)) product (moved_on m x i y j))
 
 -- ---- limits
 

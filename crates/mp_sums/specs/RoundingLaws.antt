@@ -8,15 +8,15 @@ use Rattle.std.proofs.lemmas.Nat.{mul-le, div-add-mod', mod_below, pow_pos, pow-
 use Rattle.std.proofs.lemmas.Bool.{cases_lt}
 use Rattle.std.proofs.lemmas.Bool.Decides.{nat_tests}
 use Rattle.std.proofs.lemmas.Int.{ints}
-use Rattle.mp_defs.specs.Distance.{square_gap}
+use Rattle.mp_defs.specs.Distance.{squared_difference}
 use Rattle.mp_sums.specs.Sums.{square_sum}
 use Rattle.mp_sums.specs.Rounding.{rounded, widened, weight, widened_least}
 use Rattle.mp_sums.specs.Laws.{RoundedSumsAreNear}
 use Rattle.mp_sums.specs.SumLaws.{sum_of_none, sum_suc, sum_same}
 
 -- how far two numbers lie apart
-abbrev gap : ℤ → ℤ → ℕ
-gap x y = unsigned_abs (x -ℤ y)
+abbrev difference : ℤ → ℤ → ℕ
+difference x y = unsigned_abs (x -ℤ y)
 
 -- ---- one number
 
@@ -32,51 +32,51 @@ is_floor g n some = record {
 }
 
 ordered_near : (g a b p q : ℕ) → p ≤ q → IsFloor g a p → IsFloor g b q
-    → gap (pos p) (pos q) * g + 1 ≤ gap (pos a) (pos b) + g
+    → difference (pos p) (pos q) * g + 1 ≤ difference (pos a) (pos b) + g
 ordered_near g a b p q le f h =
-    let e : gap (pos p) (pos q) ≡ q - p = omega (arith, ints) in
+    let e : difference (pos p) (pos q) ≡ q - p = omega (arith, ints) in
     let k : q ≡ p + (q - p) = omega arith in
     let parts : q * g ≡ p * g + (q - p) * g = ap (λ n. n * g) k ∙ add-mul p (q - p) g in
     rw e (omega (arith, ints, parts, f.below, f.above, h.below, h.above))
 
-gap_same : (x y : ℤ) → gap x y ≡ gap y x
-gap_same x y = omega (arith, ints)
+difference_same : (x y : ℤ) → difference x y ≡ difference y x
+difference_same x y = omega (arith, ints)
 
 floors_near : (g a b p q : ℕ) → IsFloor g a p → IsFloor g b q
-    → gap (pos p) (pos q) * g + 1 ≤ gap (pos a) (pos b) + g
+    → difference (pos p) (pos q) * g + 1 ≤ difference (pos a) (pos b) + g
 floors_near g a b p q f h = elim (cases_lt p q) [
   | inl lt ↦ ordered_near g a b p q (omega arith) f h
-  | inr le ↦ rw (gap_same (pos p) (pos q), gap_same (pos a) (pos b)) (ordered_near g b a q p le h f)
+  | inr le ↦ rw (difference_same (pos p) (pos q), difference_same (pos a) (pos b)) (ordered_near g b a q p le h f)
 ]
 
 -- below 0 numbers are counted from -1 downwards
-gap_below : (p q : ℕ) → gap (negsuc p) (negsuc q) ≡ gap (pos p) (pos q)
-gap_below p q = omega (arith, ints)
+difference_below : (p q : ℕ) → difference (negsuc p) (negsuc q) ≡ difference (pos p) (pos q)
+difference_below p q = omega (arith, ints)
 
-gap_across : (p q : ℕ) → gap (pos p) (negsuc q) ≡ p + q + 1
-gap_across p q = omega (arith, ints)
+difference_across : (p q : ℕ) → difference (pos p) (negsuc q) ≡ p + q + 1
+difference_across p q = omega (arith, ints)
 
 across_near : (g a b p q : ℕ) → IsFloor g a p → IsFloor g b q
-    → gap (pos p) (negsuc q) * g + 1 ≤ gap (pos a) (negsuc b) + g
+    → difference (pos p) (negsuc q) * g + 1 ≤ difference (pos a) (negsuc b) + g
 across_near g a b p q f h =
     let parts : (p + q + 1) * g ≡ p * g + q * g + g = omega (arith, add-mul (p + q) 1 g, add-mul p q g) in
-    rw (gap_across p q, gap_across a b) (omega (arith, parts, f.below, h.below))
+    rw (difference_across p q, difference_across a b) (omega (arith, parts, f.below, h.below))
 
 rounded_near : (shift : ℕ) (u v : ℤ)
-    → gap (int_shr u shift) (int_shr v shift) * 2 ^ shift + 1 ≤ gap u v + 2 ^ shift
+    → difference (int_shr u shift) (int_shr v shift) * 2 ^ shift + 1 ≤ difference u v + 2 ^ shift
 rounded_near shift (pos a) (pos b) =
     let g = 2 ^ shift in
     floors_near g a b (a / g) (b / g) (is_floor g a (pow_pos shift)) (is_floor g b (pow_pos shift))
 rounded_near shift (negsuc a) (negsuc b) =
     let g = 2 ^ shift in
-    rw (gap_below (a / g) (b / g), gap_below a b)
+    rw (difference_below (a / g) (b / g), difference_below a b)
     (floors_near g a b (a / g) (b / g) (is_floor g a (pow_pos shift)) (is_floor g b (pow_pos shift)))
 rounded_near shift (pos a) (negsuc b) =
     let g = 2 ^ shift in
     across_near g a b (a / g) (b / g) (is_floor g a (pow_pos shift)) (is_floor g b (pow_pos shift))
 rounded_near shift (negsuc a) (pos b) =
     let g = 2 ^ shift in
-    rw (gap_same (negsuc (a / g)) (pos (b / g)), gap_same (negsuc a) (pos b))
+    rw (difference_same (negsuc (a / g)) (pos (b / g)), difference_same (negsuc a) (pos b))
     (across_near g b a (b / g) (a / g) (is_floor g b (pow_pos shift)) (is_floor g a (pow_pos shift)))
 
 -- ---- squares
@@ -135,15 +135,15 @@ one_square w e d g le =
 -- ---- sums
 
 sums_near : (w g m : ℕ) (x x' : ℕ → ℤ) (i : ℕ) (y y' : ℕ → ℤ) (j : ℕ)
-    → ((p q : ℕ) → gap (x' p) (y' q) * g + 1 ≤ gap (x p) (y q) + g)
+    → ((p q : ℕ) → difference (x' p) (y' q) * g + 1 ≤ difference (x p) (y q) + g)
     → w * (g * g * square_sum m x' i y' j) ≤ (w + 1) * square_sum m x i y j + w * ((w + 1) * (m * (g * g)))
 sums_near w g zero x x' i y y' j h = rw (sum_of_none x' i y' j, sum_of_none x i y j) (omega arith)
 sums_near w g (suc m) x x' i y y' j h =
     let here : suc m * (g * g) ≡ m * (g * g) + g * g = omega (arith, add-mul m 1 (g * g)) in
     let s = square_sum m x i y j in
     let s' = square_sum m x' i y' j in
-    let d = square_gap (x (i + m)) (y (j + m)) in
-    let d' = square_gap (x' (i + m)) (y' (j + m)) in
+    let d = squared_difference (x (i + m)) (y (j + m)) in
+    let d' = squared_difference (x' (i + m)) (y' (j + m)) in
     rw (
       sum_suc m x' i y' j,
       sum_suc m x i y j,
@@ -157,7 +157,7 @@ sums_near w g (suc m) x x' i y y' j h =
     (omega (
       arith,
       sums_near w g m x x' i y y' j h,
-      one_square w (gap (x' (i + m)) (y' (j + m))) (gap (x (i + m)) (y (j + m))) g (h (i + m) (j + m)),
+      one_square w (difference (x' (i + m)) (y' (j + m))) (difference (x (i + m)) (y (j + m))) g (h (i + m) (j + m)),
     ))
 
 -- ---- thresholds

@@ -1,10 +1,10 @@
 -- Why the laws of sums hold, and those of distances by them.
 use Rattle.std.proofs.Common.{◌≡◌, ℕ, zero, suc, ◌+◌, ◌-◌, ◌*◌, ◌<◌, ◌≤◌, refl, sym, ap, ◌∙◌, arith, add-one, subst}
-use Rattle.std.proofs.Common.{below_more}
+use Rattle.std.proofs.Common.{below_more, w32, FitsSigned, to_z, of_z}
 use Rattle.std.specs.Prelude.{ℤ, ◌-ℤ◌, unsigned_abs, Option, Some, None}
-use Rattle.std.proofs.lemmas.Int.{ints}
+use Rattle.std.proofs.lemmas.Int.{ints, to_z-of_z}
 use Rattle.mp_defs.specs.Series.{number_at}
-use Rattle.mp_defs.specs.Distance.{square_gap, square_between, plus, distance}
+use Rattle.mp_defs.specs.Distance.{squared_difference, square_between, plus, distance}
 use Rattle.mp_defs.specs.DistanceLaws.{grows_by_one_sample}
 use Rattle.mp_sums.specs.Sums.{filled, numbers_of, square_sum, greatest_square, IsSum}
 use Rattle.mp_sums.specs.Laws.{SumsRunOn, DistancesAreSums}
@@ -14,12 +14,12 @@ unfolding square_sum
 sum_of_none x i y j = refl
 
 pub sum_suc : (m : ℕ) (x : ℕ → ℤ) (i : ℕ) (y : ℕ → ℤ) (j : ℕ)
-    → square_sum (suc m) x i y j ≡ square_sum m x i y j + square_gap (x (i + m)) (y (j + m))
+    → square_sum (suc m) x i y j ≡ square_sum m x i y j + squared_difference (x (i + m)) (y (j + m))
 unfolding square_sum
 sum_suc m x i y j = refl
 
 pub sum_more : (m : ℕ) (x : ℕ → ℤ) (i : ℕ) (y : ℕ → ℤ) (j : ℕ)
-    → square_sum (m + 1) x i y j ≡ square_sum m x i y j + square_gap (x (i + m)) (y (j + m))
+    → square_sum (m + 1) x i y j ≡ square_sum m x i y j + squared_difference (x (i + m)) (y (j + m))
 unfolding square_sum
 sum_more m x i y j = rw add-one refl
 
@@ -29,8 +29,9 @@ pub sum_same : (m : ℕ) (x x' : ℕ → ℤ) (i : ℕ) (y y' : ℕ → ℤ) (j 
     → square_sum m x i y j ≡ square_sum m x' i y' j
 sum_same zero x x' i y y' j e f = sum_of_none x i y j ∙ sym (sum_of_none x' i y' j)
 sum_same (suc m) x x' i y y' j e f =
-    let last : square_gap (x (i + m)) (y (j + m)) ≡ square_gap (x' (i + m)) (y' (j + m)) =
-    ap (λ z. square_gap z (y (j + m))) (e m (omega arith)) ∙ ap (square_gap (x' (i + m))) (f m (omega arith)) in
+    let last : squared_difference (x (i + m)) (y (j + m)) ≡ squared_difference (x' (i + m)) (y' (j + m)) =
+    ap (λ z. squared_difference z (y (j + m))) (e m (omega arith))
+    ∙ ap (squared_difference (x' (i + m))) (f m (omega arith)) in
     omega (
       arith,
       sum_suc m x i y j,
@@ -40,13 +41,13 @@ sum_same (suc m) x x' i y y' j e f =
     )
 
 square_there : (x : ℕ → ℤ) (i i' : ℕ) (y : ℕ → ℤ) (j j' : ℕ) → i ≡ i' → j ≡ j'
-    → square_gap (x i) (y j) ≡ square_gap (x i') (y j')
+    → squared_difference (x i) (y j) ≡ squared_difference (x i') (y j')
 square_there x i i' y j j' e f =
-    ap (λ n. square_gap (x n) (y j)) e ∙ ap (λ n. square_gap (x i') (y n)) f
+    ap (λ n. squared_difference (x n) (y j)) e ∙ ap (λ n. squared_difference (x i') (y n)) f
 
 -- one place on, without the square that goes
 sum_behind : (m : ℕ) (x : ℕ → ℤ) (i : ℕ) (y : ℕ → ℤ) (j : ℕ)
-    → square_sum m x (i + 1) y (j + 1) + square_gap (x i) (y j) ≡ square_sum (suc m) x i y j
+    → square_sum m x (i + 1) y (j + 1) + squared_difference (x i) (y j) ≡ square_sum (suc m) x i y j
 sum_behind zero x i y j =
     omega (
       arith,
@@ -65,8 +66,8 @@ sum_behind (suc m) x i y j =
     )
 
 pub moved_on : (m : ℕ) (x : ℕ → ℤ) (i : ℕ) (y : ℕ → ℤ) (j : ℕ)
-    → square_sum m x (i + 1) y (j + 1) + square_gap (x i) (y j)
-    ≡ square_sum m x i y j + square_gap (x (i + m)) (y (j + m))
+    → square_sum m x (i + 1) y (j + 1) + squared_difference (x i) (y j)
+    ≡ square_sum m x i y j + squared_difference (x (i + m)) (y (j + m))
 moved_on m x i y j = sum_behind m x i y j ∙ sum_suc m x i y j
 
 first_of_more : (n k : ℕ) (x : ℕ → ℤ) (i : ℕ) (y : ℕ → ℤ) (j : ℕ)
@@ -85,8 +86,53 @@ first_of_all n m x i y j le =
     let e : n + (m - n) ≡ m = omega arith in
     subst (λ c. square_sum n x i y j ≤ square_sum c x i y j) e (first_of_more n (m - n) x i y j)
 
-gap_turned : (x y : ℤ) → square_gap x y ≡ square_gap y x
-gap_turned x y = let e : unsigned_abs (x -ℤ y) ≡ unsigned_abs (y -ℤ x) = omega (arith, ints) in rw e refl
+-- one part behind another
+pub sum_joined : (m n : ℕ) (x : ℕ → ℤ) (i : ℕ) (y : ℕ → ℤ) (j : ℕ)
+    → square_sum (m + n) x i y j ≡ square_sum m x i y j + square_sum n x (i + m) y (j + m)
+sum_joined m zero x i y j =
+    let e : m ≡ m + 0 = omega arith in
+    subst (λ k. square_sum k x i y j ≡ square_sum m x i y j + square_sum 0 x (i + m) y (j + m)) e
+    (omega (arith, sum_of_none x (i + m) y (j + m)))
+sum_joined m (suc n) x i y j =
+    let e : suc (m + n) ≡ m + suc n = omega arith in
+    subst (λ k. square_sum k x i y j ≡ square_sum m x i y j + square_sum (suc n) x (i + m) y (j + m)) e
+    (omega (
+      arith,
+      sum_suc (m + n) x i y j,
+      sum_suc n x (i + m) y (j + m),
+      sum_joined m n x i y j,
+      square_there x (i + (m + n)) (i + m + n) y (j + (m + n)) (j + m + n) (omega arith) (omega arith),
+    ))
+
+-- one square more, at places that are given
+pub sum_grows : (m next : ℕ) (x : ℕ → ℤ) (i p : ℕ) (y : ℕ → ℤ) (j q sum square : ℕ) → next ≡ m + 1 → p ≡ i + m
+    → q ≡ j + m → sum ≡ square_sum m x i y j → square ≡ squared_difference (x p) (y q)
+    → sum + square ≡ square_sum next x i y j
+sum_grows m next x i p y j q sum square n e f g h =
+    subst (λ k. sum + square ≡ square_sum k x i y j) (sym n)
+    (omega (arith, sum_more m x i y j, g, h, square_there x p (i + m) y q (j + m) e f))
+
+-- a bound of each square
+pub sum_bounded : (bound m : ℕ) (x : ℕ → ℤ) (i : ℕ) (y : ℕ → ℤ) (j : ℕ)
+    → ((k : ℕ) → k < m → squared_difference (x (i + k)) (y (j + k)) ≤ bound) → square_sum m x i y j ≤ m * bound
+sum_bounded bound zero x i y j h = omega (arith, sum_of_none x i y j)
+sum_bounded bound (suc m) x i y j h =
+    omega (
+      arith,
+      sum_suc m x i y j,
+      h m (omega arith),
+      sum_bounded bound m x i y j (λ k lt. h k (omega (arith, lt))),
+    )
+
+-- the square of numbers that were handed on
+pub square_passed : (x y : ℤ) (square : ℕ) → FitsSigned w32 x → FitsSigned w32 y
+    → square ≡ squared_difference (to_z w32 (of_z w32 x)) (to_z w32 (of_z w32 y)) → square ≡ squared_difference x y
+square_passed x y square f g e =
+    e ∙ ap (λ z. squared_difference z (to_z w32 (of_z w32 y))) (to_z-of_z w32 x f)
+    ∙ ap (squared_difference x) (to_z-of_z w32 y g)
+
+pub difference_turned : (x y : ℤ) → squared_difference x y ≡ squared_difference y x
+difference_turned x y = let e : unsigned_abs (x -ℤ y) ≡ unsigned_abs (y -ℤ x) = omega (arith, ints) in rw e refl
 
 pub sum_turned : (m : ℕ) (x : ℕ → ℤ) (i : ℕ) (y : ℕ → ℤ) (j : ℕ) → square_sum m x i y j ≡ square_sum m y j x i
 sum_turned zero x i y j = sum_of_none x i y j ∙ sym (sum_of_none y j x i)
@@ -95,7 +141,7 @@ sum_turned (suc m) x i y j =
       arith,
       sum_suc m x i y j,
       sum_suc m y j x i,
-      gap_turned (x (i + m)) (y (j + m)),
+      difference_turned (x (i + m)) (y (j + m)),
       sum_turned m x i y j,
     )
 
@@ -104,6 +150,7 @@ sums_run_on = record {
   no_numbers = sum_of_none;
   one_more = sum_more;
   moved_on = moved_on;
+  joined = sum_joined;
   first = first_of_all;
   turned = sum_turned;
 }
@@ -114,21 +161,25 @@ pub is_sum_of_none : (x : ℕ → ℤ) (i : ℕ) (y : ℕ → ℤ) (j : ℕ) →
 is_sum_of_none x i y j = record { sum_is = sym (sum_of_none x i y j); small = λ k lt. absurd (omega (arith, lt)) }
 
 pub is_sum_of_more : (m : ℕ) (x : ℕ → ℤ) (i : ℕ) (y : ℕ → ℤ) (j sum square : ℕ) → IsSum m x i y j sum
-    → square ≡ square_gap (x (i + m)) (y (j + m)) → square ≤ greatest_square → IsSum (m + 1) x i y j (sum + square)
+    → square ≡ squared_difference (x (i + m)) (y (j + m)) → square ≤ greatest_square
+    → IsSum (m + 1) x i y j (sum + square)
 is_sum_of_more m x i y j sum square h e le = record {
   sum_is = omega (arith, h.sum_is, e, sum_more m x i y j);
-  small = below_more (λ k. square_gap (x (i + k)) (y (j + k)) ≤ greatest_square) m h.small (omega (arith, e, le));
+  small =
+      below_more (λ k. squared_difference (x (i + k)) (y (j + k)) ≤ greatest_square) m h.small (omega (arith, e, le));
 }
 
 pub is_sum_moved_on : (m : ℕ) (x : ℕ → ℤ) (i : ℕ) (y : ℕ → ℤ) (j sum enters leaves : ℕ) → IsSum m x i y j sum
-    → enters ≡ square_gap (x (i + m)) (y (j + m)) → enters ≤ greatest_square → leaves ≡ square_gap (x i) (y j)
+    → enters ≡ squared_difference (x (i + m)) (y (j + m)) → enters ≤ greatest_square
+    → leaves ≡ squared_difference (x i) (y j)
     → IsSum m x (i + 1) y (j + 1) (sum + enters - leaves)
 is_sum_moved_on m x i y j sum enters leaves h e le f = record {
   sum_is = omega (arith, h.sum_is, e, f, moved_on m x i y j);
   small = λ k lt.
       subst (λ s. s ≤ greatest_square)
       (square_there x (i + (k + 1)) (i + 1 + k) y (j + (k + 1)) (j + 1 + k) (omega arith) (omega arith))
-      (below_more (λ n. square_gap (x (i + n)) (y (j + n)) ≤ greatest_square) m h.small (omega (arith, e, le)) (k + 1)
+      (below_more (λ n. squared_difference (x (i + n)) (y (j + n)) ≤ greatest_square) m h.small (omega (arith, e, le))
+      (k + 1)
       (omega (arith, lt)));
 }
 
@@ -139,23 +190,12 @@ is_sum_at m x i i' y j j' sum e f h = subst (λ p. IsSum m x p y j' sum) e (subs
 
 -- what goes is in the sum with what comes in
 pub leaves_within : (m : ℕ) (x : ℕ → ℤ) (i : ℕ) (y : ℕ → ℤ) (j sum enters leaves : ℕ) → IsSum m x i y j sum
-    → enters ≡ square_gap (x (i + m)) (y (j + m)) → leaves ≡ square_gap (x i) (y j) → leaves ≤ sum + enters
+    → enters ≡ squared_difference (x (i + m)) (y (j + m)) → leaves ≡ squared_difference (x i) (y j)
+    → leaves ≤ sum + enters
 leaves_within m x i y j sum enters leaves h e f = omega (arith, h.sum_is, e, f, moved_on m x i y j)
 
-sum_small : (m : ℕ) (x : ℕ → ℤ) (i : ℕ) (y : ℕ → ℤ) (j : ℕ)
-    → ((k : ℕ) → k < m → square_gap (x (i + k)) (y (j + k)) ≤ greatest_square)
-    → square_sum m x i y j ≤ m * greatest_square
-sum_small zero x i y j h = omega (arith, sum_of_none x i y j)
-sum_small (suc m) x i y j h =
-    omega (
-      arith,
-      sum_suc m x i y j,
-      h m (omega arith),
-      sum_small m x i y j (λ k lt. h k (omega (arith, lt))),
-    )
-
 pub is_small : (m : ℕ) (x : ℕ → ℤ) (i : ℕ) (y : ℕ → ℤ) (j sum : ℕ) → IsSum m x i y j sum → sum ≤ m * greatest_square
-is_small m x i y j sum h = omega (arith, h.sum_is, sum_small m x i y j h.small)
+is_small m x i y j sum h = omega (arith, h.sum_is, sum_bounded greatest_square m x i y j h.small)
 
 -- ---- distances
 
@@ -172,7 +212,7 @@ both None b d e = absurd (cc)
 both (Some a) None d e = absurd (cc)
 both (Some a) (Some b) d e = record { one = a; other = b; one_is = refl; other_is = refl; sum_is = cc }
 
-square_of : (x y : Option ℤ) (q : ℕ) → square_between x y ≡ Some q → q ≡ square_gap (filled x) (filled y)
+square_of : (x y : Option ℤ) (q : ℕ) → square_between x y ≡ Some q → q ≡ squared_difference (filled x) (filled y)
 square_of None y q e = absurd (cc)
 square_of (Some x) None q e = absurd (cc)
 square_of (Some x) (Some y) q e = cc

@@ -1,7 +1,7 @@
 -- Sums of squared differences, in which a missing sample counts as 0.
 use Rattle.std.specs.Prelude.{◌≡◌, ℕ, zero, suc, ◌+◌, ◌^◌, ◌<◌, ◌≤◌, if◌then◌else◌, nat_le, ℤ, pos, Option, Some, None}
 use Rattle.mp_defs.specs.Series.{Series, number_at}
-use Rattle.mp_defs.specs.Distance.{square_gap}
+use Rattle.mp_defs.specs.Distance.{squared_difference}
 
 abbrev pub filled : Option ℤ → ℤ
 filled None = pos 0
@@ -14,7 +14,7 @@ numbers_of a t = filled (number_at a t)
 -- the sum of the squared differences of the m numbers from i on in x and those from j on in y
 unfoldable pub square_sum : ℕ → (ℕ → ℤ) → ℕ → (ℕ → ℤ) → ℕ → ℕ
 square_sum zero x i y j = 0
-square_sum (suc m) x i y j = square_sum m x i y j + square_gap (x (i + m)) (y (j + m))
+square_sum (suc m) x i y j = square_sum m x i y j + squared_difference (x (i + m)) (y (j + m))
 
 -- the most that the squared difference of two samples can be
 abbrev pub greatest_square : ℕ
@@ -23,7 +23,7 @@ greatest_square = 2 ^ 64
 -- this is the sum, and no square in it is greater than that of two samples
 pub record IsSum (m : ℕ) (x : ℕ → ℤ) (i : ℕ) (y : ℕ → ℤ) (j sum : ℕ) : Type 0 where
   pub sum_is : sum ≡ square_sum m x i y j
-  pub small : (k : ℕ) → k < m → square_gap (x (i + k)) (y (j + k)) ≤ greatest_square
+  pub small : (k : ℕ) → k < m → squared_difference (x (i + k)) (y (j + k)) ≤ greatest_square
 
 -- a number, where it is at most a limit
 abbrev pub at_most : ℕ → ℕ → Option ℕ

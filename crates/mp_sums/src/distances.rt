@@ -30,7 +30,7 @@ impl<'a> Grid<'a> {
         ensures square { result ≡ square_in self.now row column }
         ensures small { result ≤ greatest_square }
     {
-        square(number_of(self.rows[row]), number_of(self.columns[column]))
+        u128::from(square(number_of(self.rows[row]), number_of(self.columns[column])))
     }
 
     /// The squared distance of a row and a column. A missing sample counts as 0.

@@ -1,9 +1,10 @@
 //! What holds of sums and of residues, as the contracts of functions that do nothing.
 
-ghost use Rattle.mp_sums.specs.Laws.{SumsRunOn, DistancesAreSums, RoundedSumsAreNear, ResiduesMoveOn, ResiduesTell};
+ghost use Rattle.mp_sums.specs.Laws.{SumsRunOn, DistancesAreSums, RangesBoundSums, RoundedSumsAreNear};
+ghost use Rattle.mp_sums.specs.Laws.{ResiduesMoveOn, ResiduesTell};
 
-/// With one number more a sum grows by one square. One place on, one square goes and one comes in. It is the same from
-/// either side. The first squares alone are no more than all.
+/// With one number more a sum grows by one square. One place on, one square goes and one comes in. The sums of two parts
+/// are together the sum of both. It is the same from either side. The first squares alone are no more than all.
 pub fn sums_run_on()
     ensures { SumsRunOn }
 {}
@@ -11,6 +12,12 @@ pub fn sums_run_on()
 /// Where two windows have a distance, it is the sum of the squared differences of their numbers.
 pub fn distances_are_sums()
     ensures { DistancesAreSums }
+{}
+
+/// Two numbers in a range differ by no more than its ends. Where it holds the sums of so many squares in so many bits, the
+/// sums of windows in it have these bits.
+pub fn ranges_bound_sums()
+    ensures { RangesBoundSums }
 {}
 
 /// Where the sum of two windows is within a limit, that of their rounded numbers is within the limit's threshold.

@@ -5,17 +5,22 @@
 mod distances;
 mod laws;
 mod limits;
+mod lists;
 mod numbers;
+mod ranges;
 mod residues;
 mod roundings;
 mod rows;
 
 pub use distances::Grid;
 pub use laws::{
-    distances_are_sums, residues_move_on, residues_tell, rounded_sums_are_near, sums_run_on,
+    distances_are_sums, ranges_bound_sums, residues_move_on, residues_tell, rounded_sums_are_near,
+    sums_run_on,
 };
 pub use limits::Limit;
-pub use numbers::{NUMBER_BITS, Number, number_of, sample_at, square};
+pub use lists::window_sum;
+pub use numbers::{NUMBER_BITS, Number, Square, number_of, sample_at, square};
+pub use ranges::Range;
 pub use residues::{
     ALWAYS, Change, NEVER, ZERO, change_of, fill_changes, first_residue, next_residue, passes,
 };

@@ -58,8 +58,8 @@ pub(crate) fn with_square(residue: i32, row: i32, column: i32) -> i32
         → row ≡ int_wrap w32 (x (i + m)) → column ≡ int_wrap w32 (y (j + m))
         → result ≡ residue_of (square_sum (m + 1) x i y j) }
 {
-    let gap = row.wrapping_sub(column);
-    residue.wrapping_add(gap.wrapping_mul(gap))
+    let difference = row.wrapping_sub(column);
+    residue.wrapping_add(difference.wrapping_mul(difference))
 }
 
 /// The residue of two windows of as many numbers.

@@ -4,7 +4,7 @@ ghost use Rattle.std.specs.Prelude.{◌<◌};
 ghost use Rattle.mp_sums.specs.declared.numbers.TheConstants.{NUMBER_BITS};
 
 use crate::limits::Limit;
-use crate::numbers::{number_of, sample_at};
+use crate::numbers::number_of;
 use crate::residues::{ALWAYS, NEVER};
 use mp_nums::Sample;
 
@@ -17,11 +17,11 @@ pub struct Rounding {
 }
 
 impl Rounding {
-    ghost use Rattle.std.specs.Prelude.{◌≡◌, ◌+◌, ◌^◌, length};
+    ghost use Rattle.std.specs.Prelude.{◌≡◌, ℕ, ◌+◌, ◌*◌, ◌/◌, ◌^◌, ◌≤◌, length};
     ghost use Rattle.std.specs.Int.{int_shr};
     ghost use Rattle.mp_defs.specs.Series.{reading_of, series_of};
     ghost use Rattle.mp_sums.specs.Sums.{filled, numbers_of};
-    ghost use Rattle.mp_sums.specs.Rounding.{rounded, threshold, widened_least};
+    ghost use Rattle.mp_sums.specs.Rounding.{rounded, weight, widened_least, threshold};
     ghost use Rattle.mp_sums.specs.Residues.{limit_within, limit_below, residue_limit, AreNumbers};
 
     /// A sample, rounded. A missing one counts as 0.
@@ -38,42 +38,69 @@ impl Rounding {
         ensures numbers { AreNumbers (rounded self.now.shift (numbers_of (series_of samples.now))) start numbers.new }
         ensures places { length numbers.new ≡ length numbers.old }
     {
-        for k in 0..numbers.len() {
-            numbers[k] = self.round(sample_at(samples, start + k));
+        let there = samples.len().saturating_sub(start).min(numbers.len());
+        for k in 0..there {
+            numbers[k] = self.round(samples[start + k]);
+        }
+        for k in there..numbers.len() {
+            numbers[k] = self.round(Sample::Missing);
         }
     }
 
     /// The most that the sum of rounded squared differences can be where that of the differences themselves is at most
-    /// `limit`.
-    fn threshold(&self, limit: u128) -> u128
-        ensures { result ≡ threshold self.now.m self.now.shift limit }
+    /// a limit of so many squares of the unit.
+    #[inline]
+    fn threshold(&self, units: u64) -> u64
+        requires small { units < 2 ^ 32 }
+        ensures { (limit : ℕ) → units ≡ limit / 2 ^ (2 * self.now.shift)
+            → result ≡ threshold self.now.m self.now.shift limit }
     {
         if self.shift == 0 {
-            limit
+            units
         } else {
-            self.widened(limit >> (2 * self.shift))
+            self.widened(units)
         }
     }
 
-    /// The same, from the limit in squares of the unit. The weight is half of the bits by which it is longer than `m`.
-    fn widened(&self, units: u128) -> u128
-        requires { units < 2 ^ 126 }
+    /// The same where samples are rounded.
+    #[inline]
+    fn widened(&self, units: u64) -> u64
+        requires { units < 2 ^ 32 }
         ensures { result ≡ widened_least self.now.m units }
     {
-        let m = u128::from(self.m);
-        let weight = m.leading_zeros().saturating_sub(units.leading_zeros()) / 2;
+        let m = u64::from(self.m);
+        let weight = self.weight(units);
         units + (units >> weight) + 1 + m + (m << weight)
     }
 
-    /// The greatest residue at distances up to one.
+    /// Half of the bits by which a limit is longer than `m`.
+    #[inline]
+    fn weight(&self, units: u64) -> u32
+        requires { units < 2 ^ 32 }
+        ensures weight { result ≡ weight self.now.m units }
+        ensures small { result ≤ 16 }
+    {
+        let m = u128::from(self.m);
+        let units = u128::from(units);
+        m.leading_zeros().saturating_sub(units.leading_zeros()) / 2
+    }
+
+    /// The greatest residue at distances up to one. Where that has too many squares of the unit, it is the greatest number.
+    #[inline]
     fn limit_within(&self, dist: u128) -> i32
         ensures { result ≡ limit_within self.now.m self.now.shift dist }
     {
-        let threshold = self.threshold(dist).min(4_294_967_294);
-        (threshold as i64 - 2_147_483_647) as i32
+        let units = dist >> (2 * self.shift);
+        if units >= 4_294_967_294 {
+            ALWAYS
+        } else {
+            let threshold = self.threshold(units as u64).min(4_294_967_294);
+            (threshold as i64 - 2_147_483_647) as i32
+        }
     }
 
     /// The greatest residue at distances below one.
+    #[inline]
     fn limit_below(&self, dist: u128) -> i32
         ensures { result ≡ limit_below self.now.m self.now.shift dist }
     {
@@ -85,6 +112,7 @@ impl Rounding {
     }
 
     /// The greatest residue that a pair of windows within the limit can have.
+    #[inline]
     pub fn residue_limit(&self, limit: Limit) -> i32
         ensures { result ≡ residue_limit self.now.m self.now.shift limit }
     {

@@ -1,12 +1,12 @@
-use Rattle.std.proofs.Common.{◌+◌, arith, rules, subst, sym, w32, FitsSigned}
+use Rattle.std.proofs.Common.{◌+◌, arith, rules, refl, subst, sym, w32, FitsSigned}
 use Rattle.std.proofs.lemmas.Int.{to_z-of_z}
 use Rattle.mp_scans.specs.Offering.{only}
 use Rattle.mp_scans.specs.Limiting.{IsRowLimit, IsColumnLimit, first_row}
-use Rattle.mp_scans.proofs.LimitLemmas.{limits_anew, column_limit_on, row_limit_stays, column_limit_stays}
+use Rattle.mp_scans.proofs.LimitLemmas.{limits_anew, limits_as, column_limit_on, row_limit_stays, column_limit_stays}
 use Rattle.mp_scans.proofs.pairs.offer_within.Goals as goal
 
-pub returns-clause-limits : goal.returns-clause-limits
-returns-clause-limits g c =
+pub returns-then-offer_pair-clause-limits : goal.returns-then-offer_pair-clause-limits
+returns-then-offer_pair-clause-limits g c =
     let o = g.O.Offers in
     let b = c.args.strip.now.block in
     let old = c.args.into.now in
@@ -33,3 +33,11 @@ returns-clause-limits g c =
     (subst (IsColumnLimit b (o.keeps_column new) c.args.pair.row c.args.pair.column)
     (sym (to_z-of_z w32 c.next_column_limit.result column)) c.next_column_limit.ensures))
     (subst (FitsSigned w32) (sym (to_z-of_z w32 c.next_column_limit.result column)) column)
+
+pub returns-else-offer_pair-clause-limits : goal.returns-else-offer_pair-clause-limits
+returns-else-offer_pair-clause-limits g c =
+    let o = g.O.Offers in
+    limits_as c.args.strip.now.block o.keeps_row o.keeps_column
+    (first_row c.args.strip.now.offset c.args.pair.row) c.args.row_limits.now c.args.row_limits.now
+    c.args.column_limits.now c.args.column_limits.now c.args.into.now c.offer_pair.new.into refl refl
+    (c.offer_pair.ensures.same c.if-offer_pair.false) c.requires.limits

@@ -1,39 +1,14 @@
-use Rattle.std.proofs.Common.{◌≡◌, ◌+◌, ◌-◌, ◌∙◌, ap, arith, pos, length, take, min}
-use Rattle.std.proofs.lemmas.List.{get_or-take, length-take}
+use Rattle.std.proofs.Common.{◌+◌, ◌-◌, arith}
 use Rattle.mp_defs.specs.Series.{series_of}
 use Rattle.mp_defs.specs.Profile.{windows_of}
-use Rattle.mp_sums.specs.Residues.{item}
 use Rattle.mp_scans.specs.Blocks.{in_strip}
 use Rattle.mp_scans.specs.Offering.{in_row}
 use Rattle.mp_scans.proofs.StripLemmas.{row_in_strip, no_rows}
 use Rattle.mp_scans.proofs.strips.take_next.Goals as goal
 
-pub take_row-requires-clause-few : goal.take_row-requires-clause-few
-take_row-requires-clause-few g c =
-    omega (
-      arith,
-      length-take c.lanes_at-width.result c.as_array.result.now,
-      c.lanes_at-width.ensures,
-      c.args.strip.now.narrow,
-    )
-
 pub take_row-requires-clause-are_columns : goal.take_row-requires-clause-are_columns
 take_row-requires-clause-are_columns g c =
-    omega (
-      arith,
-      length-take c.lanes_at-width.result c.as_array.result.now,
-      c.lanes_at-width.ensures,
-      c.args.strip.now.are_columns (omega arith),
-    )
-
-pub take_row-requires-clause-residues : goal.take_row-requires-clause-residues
-take_row-requires-clause-residues g c = λ t lt.
-    let wide = c.lanes_at-width.result in
-    let v = c.as_array.result.now in
-    let long = length-take wide v in
-    let count : length v ≡ 32 = ap length c.as_array.ensures ∙ c.requires.residues.count in
-    get_or-take wide v t (pos 0) (omega (arith, lt, long)) ∙ ap (λ l. item l t) c.as_array.ensures
-    ∙ c.requires.residues.each t (omega (arith, lt, long, count))
+    omega (arith, c.lanes_at.ensures, c.args.strip.now.are_columns (omega arith))
 
 pub returns-then-p-strip-clause-scanned : goal.returns-then-p-strip-clause-scanned
 returns-then-p-strip-clause-scanned g c =
@@ -42,24 +17,14 @@ returns-then-p-strip-clause-scanned g c =
     let m = b.grid.m in
     let rows = series_of b.grid.rows.now in
     let columns = series_of b.grid.columns.now in
-    let v = c.as_array.result.now in
-    let wide = length (take c.lanes_at-width.result v) in
-    let count : length v ≡ 32 = ap length c.as_array.ensures ∙ c.requires.residues.count in
+    let wide = c.lanes_at.result in
     let r = b.row + c.args.p in
     let first = b.column + (c.args.p + strip.offset) in
     let wb = windows_of m columns in
-    let is : wide ≡ min strip.width (wb - first) =
-    omega (
-      arith,
-      length-take c.lanes_at-width.result v,
-      c.lanes_at-width.ensures,
-      count,
-      strip.narrow,
-    ) in
     g.met.O.Offers.laws.same m rows columns (in_row r first (first + wide)) (in_strip strip c.args.p (c.args.p + 1)) _ _
     c.requires.fits c.take_row.ensures.scanned
     (λ i j _ lt. row_in_strip r (b.column - b.row + strip.offset) strip.width first wide wb (b.row + (c.args.p + 1)) i j
-    (omega (arith, b.order)) is (omega arith) lt)
+    (omega (arith, b.order)) c.lanes_at.ensures (omega arith) lt)
 
 pub returns-else-p-strip-clause-scanned : goal.returns-else-p-strip-clause-scanned
 returns-else-p-strip-clause-scanned g c =

@@ -1,4 +1,4 @@
-use Rattle.mp_stream.proofs.Entries as proved
+use Rattle.mp_stream.proofs.EntryLemmas as proved
 use Rattle.mp_stream.proofs.laws.entries_grow.Goals as goal
 
 pub returns : goal.returns

@@ -1,22 +1,20 @@
-use Rattle.std.proofs.Common.{◌∙◌, ◌+◌, ◌-◌, ◌<◌, length, arith, get_or}
-use Rattle.mp_stream.specs.Rows.{IsTaken}
-use Rattle.mp_stream.proofs.Taken.{taken_one, taken_then, best_more, limits_one}
+use Rattle.std.proofs.Common.{◌+◌, arith}
+use Rattle.mp_stream.proofs.Taken.{best_more, offered_none, offered_one, offered_then}
 use Rattle.mp_stream.proofs.offers.offer_each.Goals as goal
+
+pub loop-i-init : goal.loop-i-init
+loop-i-init c = record {
+  offered = offered_none _ _ _ _ _ _ c.requires.ready;
+  best = c.requires.best;
+}
 
 pub loop-i-preserved : goal.loop-i-preserved
 loop-i-preserved c =
     let inv = c.loop-i.invariant in
     let i = c.loop-i.i in
-    let j = length c.args.sums.now - 1 in
-    let here : i < length c.loop-i.profile.right = omega (arith, inv.taken.places, inv.all) in
-    let one : IsTaken c.args.free.now (λ i. get_or c.args.sums.now i 0) j i (i + 1) c.loop-i.profile.right
-    c.offer_window.new.profile.right = taken_one _ _ _ _ _ _ here c.offer_window.ensures.right in
     record {
-      taken = taken_then _ _ _ c.args.first i (i + 1) _ _ _ (omega arith) (omega arith) inv.taken one;
-      left = c.offer_window.ensures.left ∙ inv.left;
-      all = c.offer_window.ensures.all ∙ inv.all;
-      spare = c.offer_window.ensures.spare ∙ inv.spare;
-      known = λ known was. c.offer_window.ensures.known known (inv.known known was);
-      limits = limits_one _ _ _ _ _ _ _ _ _ here one inv.limits c.offer_window.ensures.limit;
+      offered = offered_then _ _ _ _ c.args.first i (i + 1) _ _ _ (omega arith) (omega arith) inv.offered
+          (offered_one _ _ _ _ i _ _ (omega arith) inv.offered.ready c.offer_window.ensures.right
+          c.offer_window.ensures.only c.offer_window.ensures.ready);
       best = best_more _ _ _ _ _ inv.best c.offer_window.ensures.best;
     }

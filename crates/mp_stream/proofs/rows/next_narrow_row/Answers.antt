@@ -1,81 +1,86 @@
-use Rattle.std.proofs.Common.{◌≡◌, ◌∙◌, ◌-◌, ◌^◌, ◌<◌, length, ap, arith, subst, sym}
-use Rattle.std.proofs.lemmas.List.{length-map}
-use Rattle.mp_series.specs.Samples.{number_in, numbers_in}
-use Rattle.mp_stream.specs.Rows.{sum_at}
-use Rattle.mp_stream.proofs.Moving.{parts_passed, row_is, sum_small, can_move_narrow}
-use Rattle.mp_stream.proofs.Taken.{taken_as, best_as}
+use Rattle.std.proofs.Common.{◌≡◌, ◌∙◌, ◌-◌, ◌<◌, ◌^◌, ap, arith, get_or, length, subst, sym, take}
+use Rattle.mp_stream.specs.Limits.{limit_of}
+use Rattle.mp_stream.specs.Offers.{IsReady}
+use Rattle.mp_stream.specs.Rows.{last_distance, last_place, sum_at}
+use Rattle.mp_series.specs.Samples.{numbers_in}
+use Rattle.mp_stream.proofs.Moving.{are_parts, can_move_narrow, distance_small, row_is}
+use Rattle.mp_stream.proofs.Steps.{given_back}
+use Rattle.mp_stream.proofs.Taken.{best_as, offered_as}
 use Rattle.mp_stream.proofs.rows.next_narrow_row.Goals as goal
 
 pub overflow_cast-first : goal.overflow_cast-first
 overflow_cast-first c =
-    let items = c.args.samples.now.items in
-    let w = length c.args.before.now in
-    let many = length-map items number_in in
-    let small = sum_small c.args.range (numbers_in items) c.args.m 0 w c.requires.range c.requires.fits
-    (omega (arith, many, c.requires.all, c.requires.one_more))
-    (omega (arith, many, c.requires.all, c.requires.one_more)) in
-    omega (arith, small, c.sum_of-first.ensures.sum)
+    let last : length c.as_slice.result.now - 1 ≡ last_place c.args.m c.args.samples.now.items =
+    omega (arith, ap length c.as_slice.ensures, c.requires.before.places.sums_are) in
+    let small = distance_small c.args.m c.args.samples.now.items 0 c.requires.close c.requires.before.least
+    c.requires.before.long (omega arith) in
+    omega (
+      arith,
+      small,
+      c.sum_of-first.ensures.sum,
+      ap (sum_at (numbers_in c.args.samples.now.items) c.args.m 0) last,
+    )
 
 pub invariant_of-moves : goal.invariant_of-moves
 invariant_of-moves c =
-    let items = c.args.samples.now.items in
-    let xs = numbers_in items in
-    let w = length c.args.before.now in
-    let many = length-map items number_in in
-    let passed = parts_passed items c.sum_of-first.new.samples.items c.args.m c.from.result (length c.args.sums.now)
-    c.args.before.now c.parts.result.1.now c.parts.result.0.now c.requires.least c.requires.all c.requires.one_more
-    c.requires.before c.sum_of-first.ensures.items c.from.ensures c.parts.ensures.second c.parts.ensures.first in
+    let parts = are_parts _ _ _ _ _ _ _ _ _ _ _ c.requires.before (ap (λ list. length list - 1) c.as_slice.ensures)
+    (ap (take (length c.as_slice.result.now - 1)) c.as_slice-2.ensures) c.sum_of-first.ensures.read.items c.from.ensures
+    c.parts.ensures.second c.parts.ensures.first c.sum_of-first.ensures.sum in
     record {
-      can = can_move_narrow c.args.range xs c.args.m c.args.before.now c.parts.result.1.now c.parts.result.0.now passed
-          c.requires.range c.requires.fits;
-      small = λ i le. subst (λ n. n < 2 ^ 63)
-          (sym (row_is xs c.args.m c.sum_of-first.result c.args.before.now c.parts.result.1.now
-          c.parts.result.0.now passed
-          c.sum_of-first.ensures.sum i le))
-          (sum_small c.args.range xs c.args.m i w c.requires.range c.requires.fits
-          (omega (arith, le, many, c.requires.all, c.requires.one_more))
-          (omega (arith, many, c.requires.all, c.requires.one_more)));
+      can = can_move_narrow _ _ _ _ _ _ parts c.requires.close;
+      small = λ i le. subst (λ n. n < 2 ^ 63) (sym (row_is _ _ _ _ _ _ parts i le))
+          (distance_small c.args.m c.args.samples.now.items i c.requires.close c.requires.before.least
+          c.requires.before.long (omega (arith, le, parts.count)));
+      frees = omega (arith, parts.count, c.requires.frees, c.requires.before.long);
     }
 
-pub returns-clause-row : goal.returns-clause-row
-returns-clause-row c = λ i lt.
-    let items = c.args.samples.now.items in
-    let xs = numbers_in items in
-    let w = length c.args.before.now in
-    let last : w ≡ length c.args.sums.now - 1 = omega (arith, c.requires.one_more) in
-    let passed = parts_passed items c.sum_of-first.new.samples.items c.args.m c.from.result (length c.args.sums.now)
-    c.args.before.now c.parts.result.1.now c.parts.result.0.now c.requires.least c.requires.all c.requires.one_more
-    c.requires.before c.sum_of-first.ensures.items c.from.ensures c.parts.ensures.second c.parts.ensures.first in
-    c.take_row.ensures.row i (omega (arith, lt, c.take_row.auto.sums))
-    ∙ row_is xs c.args.m c.sum_of-first.result c.args.before.now c.parts.result.1.now c.parts.result.0.now passed
-    c.sum_of-first.ensures.sum i (omega (arith, lt, c.take_row.auto.sums, c.requires.one_more))
-    ∙ ap (sum_at xs c.args.m i) last
+pub take_row-best-requires-clause-ready : goal.take_row-best-requires-clause-ready
+take_row-best-requires-clause-ready c =
+    let parts = are_parts _ _ _ _ _ _ _ _ _ _ _ c.requires.before (ap (λ list. length list - 1) c.as_slice.ensures)
+    (ap (take (length c.as_slice.result.now - 1)) c.as_slice-2.ensures) c.sum_of-first.ensures.read.items c.from.ensures
+    c.parts.ensures.second c.parts.ensures.first c.sum_of-first.ensures.sum in
+    subst (λ j. IsReady limit_of j c.args.entries.now) (sym parts.count) c.requires.ready
 
-pub returns-clause-right : goal.returns-clause-right
-returns-clause-right c =
-    let items = c.args.samples.now.items in
-    let xs = numbers_in items in
-    let w = length c.args.before.now in
-    let last : w ≡ length c.args.sums.now - 1 = omega (arith, c.requires.one_more) in
-    let passed = parts_passed items c.sum_of-first.new.samples.items c.args.m c.from.result (length c.args.sums.now)
-    c.args.before.now c.parts.result.1.now c.parts.result.0.now c.requires.least c.requires.all c.requires.one_more
-    c.requires.before c.sum_of-first.ensures.items c.from.ensures c.parts.ensures.second c.parts.ensures.first in
-    taken_as _ _ (λ i. sum_at xs c.args.m i (length c.args.sums.now - 1)) _ _ _ _ _
-    (λ i lt. row_is xs c.args.m c.sum_of-first.result c.args.before.now c.parts.result.1.now c.parts.result.0.now passed
-    c.sum_of-first.ensures.sum i (omega (arith, lt, c.requires.within, c.requires.one_more))
-    ∙ ap (sum_at xs c.args.m i) last) c.take_row.ensures.right
+pub returns-clause-turned : goal.returns-clause-turned
+returns-clause-turned c =
+    let parts = are_parts _ _ _ _ _ _ _ _ _ _ _ c.requires.before (ap (λ list. length list - 1) c.as_slice.ensures)
+    (ap (take (length c.as_slice.result.now - 1)) c.as_slice-2.ensures) c.sum_of-first.ensures.read.items c.from.ensures
+    c.parts.ensures.second c.parts.ensures.first c.sum_of-first.ensures.sum in
+    let long = c.take_row-best.auto.sums ∙ ap length c.as_mut_slice.ensures.value in
+    let back = given_back c.swap.new.x.items c.args.narrow.now.next.items c.take_row-best.new.sums
+    (ap (λ x. x.items) c.swap.ensures.x_after) long in
+    let places = c.requires.before.places in
+    record {
+      row = λ i lt. ap (λ list. get_or list i 0) back
+          ∙ c.take_row-best.ensures.row i (omega (arith, lt, ap length back, c.take_row-best.auto.sums))
+          ∙ row_is _ _ _ _ _ _ parts i (omega (
+            arith,
+            lt,
+            ap length back,
+            long,
+            places.next_are,
+            parts.count,
+            c.requires.before.long,
+          ));
+      places = record {
+        sums_are = ap length back ∙ long ∙ places.next_are;
+        next_are = ap (λ y. length y.items) c.swap.ensures.y_after ∙ places.sums_are;
+      };
+      room = omega (arith, ap (λ x. x.spare) c.swap.ensures.x_after, ap (λ y. y.spare) c.swap.ensures.y_after);
+    }
+
+pub returns-clause-offered : goal.returns-clause-offered
+returns-clause-offered c =
+    let parts = are_parts _ _ _ _ _ _ _ _ _ _ _ c.requires.before (ap (λ list. length list - 1) c.as_slice.ensures)
+    (ap (take (length c.as_slice.result.now - 1)) c.as_slice-2.ensures) c.sum_of-first.ensures.read.items c.from.ensures
+    c.parts.ensures.second c.parts.ensures.first c.sum_of-first.ensures.sum in
+    offered_as limit_of c.args.free.now _ (last_distance c.args.m c.args.samples.now.items) _ _ 0 c.args.end _ _ parts.count
+    (λ i lt. row_is _ _ _ _ _ _ parts i (omega (arith, lt, parts.count, c.requires.within))) c.take_row-best.ensures.offered
 
 pub returns-clause-best : goal.returns-clause-best
 returns-clause-best c =
-    let items = c.args.samples.now.items in
-    let xs = numbers_in items in
-    let w = length c.args.before.now in
-    let last : w ≡ length c.args.sums.now - 1 = omega (arith, c.requires.one_more) in
-    let passed = parts_passed items c.sum_of-first.new.samples.items c.args.m c.from.result (length c.args.sums.now)
-    c.args.before.now c.parts.result.1.now c.parts.result.0.now c.requires.least c.requires.all c.requires.one_more
-    c.requires.before c.sum_of-first.ensures.items c.from.ensures c.parts.ensures.second c.parts.ensures.first in
-    c.take_row.ensures.best
-    ∙ best_as c.args.free.now _ (λ i. sum_at xs c.args.m i (length c.args.sums.now - 1)) c.args.end
-    (λ i lt. row_is xs c.args.m c.sum_of-first.result c.args.before.now c.parts.result.1.now c.parts.result.0.now passed
-    c.sum_of-first.ensures.sum i (omega (arith, lt, c.requires.within, c.requires.one_more))
-    ∙ ap (sum_at xs c.args.m i) last)
+    let parts = are_parts _ _ _ _ _ _ _ _ _ _ _ c.requires.before (ap (λ list. length list - 1) c.as_slice.ensures)
+    (ap (take (length c.as_slice.result.now - 1)) c.as_slice-2.ensures) c.sum_of-first.ensures.read.items c.from.ensures
+    c.parts.ensures.second c.parts.ensures.first c.sum_of-first.ensures.sum in
+    c.take_row-best.ensures.best ∙ best_as _ _ (last_distance c.args.m c.args.samples.now.items) c.args.end
+    (λ i lt. row_is _ _ _ _ _ _ parts i (omega (arith, lt, parts.count, c.requires.within)))

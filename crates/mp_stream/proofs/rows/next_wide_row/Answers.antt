@@ -1,69 +1,43 @@
-use Rattle.std.proofs.Common.{◌≡◌, ◌∙◌, ◌-◌, ◌^◌, ◌<◌, ℕ, length, arith}
-use Rattle.std.proofs.Common.{subst, rules, FitsSigned, w32}
-use Rattle.std.proofs.lemmas.List.{length-set, get_or-set_same}
-use Rattle.mp_series.specs.Samples.{numbers_in}
-use Rattle.mp_stream.specs.Rows.{IsRow}
-use Rattle.mp_stream.proofs.Moving.{parts_passed, sums_small}
-use Rattle.mp_stream.proofs.SumLemmas.{can_move, square_fits, greatest_square, row_whole}
+use Rattle.std.proofs.Common.{◌∙◌, ◌-◌, FitsSigned, ap, arith, get_or, length, rules, take, w32}
+use Rattle.mp_stream.proofs.Moving.{are_parts, can_move_wide, row_is, sums_small}
+use Rattle.mp_stream.proofs.Steps.{given_back}
 use Rattle.mp_stream.proofs.rows.next_wide_row.Goals as goal
 
 pub move_sums-requires-clause-can : goal.move_sums-requires-clause-can
 move_sums-requires-clause-can c =
-    let items = c.args.samples.now.items in
-    let low : FitsSigned w32 c.args.range.low = search rules in
-    let high : FitsSigned w32 c.args.range.high = search rules in
-    let passed = parts_passed items c.sum_of.new.samples.items c.args.m c.from.result (length c.args.sums.now)
-    c.args.before.now c.parts.result.1.now c.parts.result.0.now c.requires.least c.requires.all c.requires.one_more
-    c.requires.before c.sum_of.ensures.items c.from.ensures c.parts.ensures.second c.parts.ensures.first in
-    can_move (2 ^ 128) greatest_square (numbers_in items) c.args.m c.args.before.now c.parts.result.1.now
-    c.parts.result.0.now passed
-    (λ p q lt lt'. square_fits c.args.range.low c.args.range.high _ _ low high (c.requires.range p lt).0
-    (c.requires.range p lt).1 (c.requires.range q lt').0 (c.requires.range q lt').1) (omega (arith, c.requires.width))
+    let low : FitsSigned w32 c.args.range.least = search rules in
+    let high : FitsSigned w32 c.args.range.greatest = search rules in
+    let parts = are_parts _ _ _ _ _ _ _ _ _ _ _ c.requires.before (ap (λ list. length list - 1) c.as_slice.ensures)
+    (ap (take (length c.as_slice.result.now - 1)) c.as_slice-2.ensures) c.sum_of-first.ensures.read.items
+    c.from.ensures c.parts.ensures.second c.parts.ensures.first c.sum_of-first.ensures.sum in
+    can_move_wide _ _ c.args.range _ _ _ _ low high c.requires.before.width parts c.requires.range
 
 pub returns-clause-row : goal.returns-clause-row
-returns-clause-row c =
-    let here : length c.args.before.now ≡ length c.args.sums.now - 1 = omega (arith, c.requires.one_more) in
-    let items = c.args.samples.now.items in
-    let new = c.move_sums.new.sums in
-    let passed = parts_passed items c.sum_of.new.samples.items c.args.m c.from.result (length c.args.sums.now)
-    c.args.before.now c.parts.result.1.now c.parts.result.0.now c.requires.least c.requires.all c.requires.one_more
-    c.requires.before c.sum_of.ensures.items c.from.ensures c.parts.ensures.second c.parts.ensures.first in
-    let whole = λ (i : ℕ) (lt : i < length new). row_whole (numbers_in items) c.args.m c.args.before.now
-    c.parts.result.1.now c.parts.result.0.now new passed
-    (c.move_sums.ensures.first ∙ get_or-set_same c.args.sums.now 0 c.sum_of.result 0 (omega
-    (arith, c.requires.one_more))
-    ∙ c.sum_of.ensures.sum)
-    c.move_sums.ensures.moved i (omega (
+returns-clause-row c = λ i lt.
+    let parts = are_parts _ _ _ _ _ _ _ _ _ _ _ c.requires.before (ap (λ list. length list - 1) c.as_slice.ensures)
+    (ap (take (length c.as_slice.result.now - 1)) c.as_slice-2.ensures) c.sum_of-first.ensures.read.items
+    c.from.ensures c.parts.ensures.second c.parts.ensures.first c.sum_of-first.ensures.sum in
+    let long = c.move_sums.auto.sums ∙ ap length c.as_mut_slice.ensures.value in
+    let back = given_back c.swap.new.x.items c.args.wide.now.next.items c.move_sums.new.sums
+    (ap (λ x. x.items) c.swap.ensures.x_after) long in
+    ap (λ list. get_or list i 0) back ∙ c.move_sums.ensures i (omega (arith, lt, ap length back, c.move_sums.auto.sums))
+    ∙ row_is _ _ _ _ _ _ parts i (omega (
       arith,
       lt,
-      c.requires.one_more,
-      c.move_sums.auto.sums,
-      length-set c.args.sums.now 0 c.sum_of.result,
-    )) in
-    subst (λ j. IsRow (numbers_in items) c.args.m j new) here whole
+      ap length back,
+      long,
+      parts.count,
+      c.requires.before.places.next_are,
+      c.requires.before.long,
+    ))
 
 pub returns-clause-small : goal.returns-clause-small
 returns-clause-small c =
-    let items = c.args.samples.now.items in
-    let new = c.move_sums.new.sums in
-    let passed = parts_passed items c.sum_of.new.samples.items c.args.m c.from.result (length c.args.sums.now)
-    c.args.before.now c.parts.result.1.now c.parts.result.0.now c.requires.least c.requires.all c.requires.one_more
-    c.requires.before c.sum_of.ensures.items c.from.ensures c.parts.ensures.second c.parts.ensures.first in
-    let whole = λ (i : ℕ) (lt : i < length new). row_whole (numbers_in items) c.args.m c.args.before.now
-    c.parts.result.1.now c.parts.result.0.now new passed
-    (c.move_sums.ensures.first ∙ get_or-set_same c.args.sums.now 0 c.sum_of.result 0 (omega
-    (arith, c.requires.one_more))
-    ∙ c.sum_of.ensures.sum)
-    c.move_sums.ensures.moved i (omega (
-      arith,
-      lt,
-      c.requires.one_more,
-      c.move_sums.auto.sums,
-      length-set c.args.sums.now 0 c.sum_of.result,
-    )) in
-    let low : FitsSigned w32 c.args.range.low = search rules in
-    let high : FitsSigned w32 c.args.range.high = search rules in
-    let long : length new ≡ length c.args.sums.now =
-    c.move_sums.auto.sums ∙ length-set c.args.sums.now 0 c.sum_of.result in
-    sums_small c.args.range c.args.m items (length c.args.before.now) new low high c.requires.width
-    (omega (arith, c.requires.all, long)) (omega (arith, c.requires.one_more, long)) c.requires.range whole
+    let low : FitsSigned w32 c.args.range.least = search rules in
+    let high : FitsSigned w32 c.args.range.greatest = search rules in
+    let before = c.requires.before in
+    let long = c.move_sums.auto.sums ∙ ap length c.as_mut_slice.ensures.value in
+    let back = given_back c.swap.new.x.items c.args.wide.now.next.items c.move_sums.new.sums
+    (ap (λ x. x.items) c.swap.ensures.x_after) long in
+    sums_small c.args.range c.args.m c.args.samples.now.items c.swap.new.x.items low high before.least before.width
+    before.long (ap length back ∙ long ∙ before.places.next_are) c.requires.range (returns-clause-row c)

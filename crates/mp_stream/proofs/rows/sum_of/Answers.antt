@@ -1,7 +1,7 @@
 use Rattle.std.proofs.Common.{◌≡◌, ◌∙◌, take, drop, length, ap, arith}
 use Rattle.std.proofs.lemmas.List.{length-take-le, length-drop, length-map}
 use Rattle.mp_series.specs.Samples.{number_in, numbers_in}
-use Rattle.mp_stream.specs.Rows.{sum_between}
+use Rattle.mp_sums.specs.Lists.{list_sum}
 use Rattle.mp_stream.proofs.SumLemmas.{between_parts}
 use Rattle.mp_stream.proofs.rows.sum_of.Goals as goal
 
@@ -17,5 +17,5 @@ returns-clause-sum c =
     let long : length c.parts.result.0.now ≡ m =
     ap length first ∙ length-take-le m (drop c.args.i xs) (omega
     (arith, length-drop c.args.i xs, many, c.requires.first)) in
-    c.window_sum.ensures ∙ ap (sum_between c.parts.result.0.now c.parts.result.1.now) long
+    c.window_sum.ensures ∙ ap (λ n. list_sum n c.parts.result.0.now 0 c.parts.result.1.now 0) long
     ∙ between_parts xs _ _ c.args.i c.args.j m m (omega arith) first second

@@ -13,12 +13,12 @@ returns-clause-known c = λ known was.
     let front = stream.samples.items in
     let pushed = c.push.new.self.items in
     let more : pushed ≡ front ++ c.args.sample ∷ [] = search rules in
-    let here : AreKnown known (matrix_profile stream.m (series_of front)).all stream.kept.profile.changed =
+    let here : AreKnown known (matrix_profile stream.m (series_of front)).all stream.growing.entries.profile.changed =
     subst (IsKnown known) (sym c.self.view_is)
     (known_same known c.args.self.now c.reserve.new.self c.reserve.ensures.items c.reserve.ensures.m
     c.reserve.ensures.changed was) in
     subst (λ (items : List Sample). AreKnown known (matrix_profile stream.m (series_of items)).all
-    c.append.new.self.profile.changed) (sym c.append.ensures.items)
+    c.append.new.self.entries.profile.changed) (sym c.append.ensures.read.items)
     (c.append.ensures.known known
     (subst (λ (items : List Sample). AreKnown known (matrix_profile stream.m (series_of items)).all
-    stream.kept.profile.changed) (sym (front_is front pushed c.args.sample more)) here))
+    stream.growing.entries.profile.changed) (sym (front_is front pushed c.args.sample more)) here))

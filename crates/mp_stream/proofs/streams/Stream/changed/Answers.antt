@@ -8,5 +8,5 @@ pub returns-clause-blocks : goal.returns-clause-blocks
 returns-clause-blocks c =
     let stream = c.self.inside in
     c.changed.ensures.blocks
-    ∙ ap block_count (rights_count stream.m stream.samples.items stream.kept c.self.invariant.2)
+    ∙ ap block_count (rights_count stream.m stream.samples.items stream.growing c.self.invariant.2)
     ∙ ap (λ v. block_count (windows (length v.items) v.m)) c.self.view_is

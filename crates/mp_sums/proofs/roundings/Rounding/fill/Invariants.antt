@@ -12,3 +12,10 @@ invariant-loop-k l = record {
   done : (q : ℕ) → q < l.k
       → item l.numbers q ≡ int_wrap w32 (rounded l.self.shift (numbers_of (series_of l.samples)) (l.start + q));
 }
+
+abbrev pub invariant-loop-k-2 : goal.invariant-loop-k-2
+invariant-loop-k-2 l = record {
+  places : length l.numbers ≡ length l.initial.numbers;
+  done : (q : ℕ) → q < l.k
+      → item l.numbers q ≡ int_wrap w32 (rounded l.self.shift (numbers_of (series_of l.samples)) (l.start + q));
+}

@@ -1,0 +1,6 @@
+use Rattle.mp_defs.specs.Series.{series_of}
+use Rattle.mp_scans.specs.Free.{IsClear}
+use Rattle.mp_scans.proofs.marks.are_there.Given as goal
+
+abbrev pub invariant-loop-place : goal.invariant-loop-place
+invariant-loop-place l = IsClear (series_of l.samples) l.from l.from l.place
