@@ -19,7 +19,7 @@ use Rattle.mp_text.specs.Rows.{Row, column_at, columns_of, onto}
 use Rattle.mp_text.specs.declared.refusal.SampleFault.{SampleFault}
 use Rattle.mp_replies.specs.AppendCommand.{append_conditions, bad_in, item_of, items_of, read_items, row_with, rows_in}
 use Rattle.mp_replies.specs.AppendCommand.{samples_of, value_of}
-use Rattle.mp_replies.specs.Answer.{AppendReport}
+use Rattle.mp_replies.specs.Command.{AppendReport}
 use Rattle.mp_replies.specs.Change as change
 use Rattle.mp_replies.specs.Change.{extended}
 use Rattle.mp_replies.specs.Command as asked
@@ -82,35 +82,16 @@ joined_by (Ok x) (Ok more) xs h =
 joined_by (Ok x) (Err e) xs h = absurd (cc h)
 joined_by (Err e) others xs h = absurd (cc h)
 
-row_good : (a b : ℕ) (r : Result Row SampleFault) (row : Row) → row_with a r ≡ Ok row → row_with b r ≡ Ok row
-row_good a b (Ok row) other h = h
-row_good a b (Err fault) other h = absurd (cc h)
-
 item_good_by : (a b : ℕ) (fits : Bool) (r : Result Row SampleFault) (row : Row)
-    → (if fits then row_with a r else Err a) ≡ Ok row
-    → (if fits then row_with b r else Err b) ≡ Ok row
-item_good_by a b true r row h = row_good a b r row h
-item_good_by a b false r row h = absurd (cc h)
-
-next_item : (scale channels : ℕ) (all : List (List ℕ)) (item : List ℕ) (left others : List (List ℕ))
-    (series : List Series) (read : AreRead scale channels all left series) → left ≡ item ∷ others
-    → AreJoined (item_of scale channels read.number item) (items_of scale channels (read.number + 1) others) read.rest
-next_item scale channels all item left others series read is =
-    joined_by (item_of scale channels read.number item) (items_of scale channels (read.number + 1) others) read.rest
-    (sym (ap (items_of scale channels read.number) is) ∙ read.left_are)
+    → (if fits then row_with a r else Err a) ≡ Ok row → (if fits then row_with b r else Err b) ≡ Ok row
+item_good_by a b true (Ok got) row h = h
+item_good_by a b fits r row h = absurd (cc h)
 
 -- the number of a good item doesn't matter
 renumbered : (scale channels a b : ℕ) (item : List ℕ) (row : Row) → item_of scale channels a item ≡ Ok row
     → item_of scale channels b item ≡ Ok row
 renumbered scale channels a b item row h =
     item_good_by a b (length (values_in item) == channels) (samples_of scale (values_in item)) row h
-
-pub next_good : (scale channels : ℕ) (all : List (List ℕ)) (item : List ℕ) (left others : List (List ℕ))
-    (series : List Series) → AreRead scale channels all left series → left ≡ item ∷ others
-    → is_ok (item_of scale channels 0 item) ≡ true
-next_good scale channels all item left others series read is =
-    let joined = next_item scale channels all item left others series read is in
-    ap is_ok (renumbered scale channels read.number 0 item joined.first joined.first_is)
 
 columns_more : (rows : List Row) (row : Row) (ks : List ℕ)
     → extended (map (column_at rows) ks) (map (column_at (row ∷ [])) ks) ≡ map (column_at (rows ++ row ∷ [])) ks
@@ -120,26 +101,36 @@ columns_more rows row (k ∷ ks) =
     (sym (map-append (λ (values : Row). slice_index_or values k None) rows (row ∷ [])))
     ∙ ap (λ (columns : List Series). column_at (rows ++ row ∷ []) k ∷ columns) (columns_more rows row ks)
 
-pub read_more : (scale channels : ℕ) (all : List (List ℕ)) (item : List ℕ) (left others : List (List ℕ))
-    (series grown : List Series) → AreRead scale channels all left series → left ≡ item ∷ others
-    → ((row : Row) → item_of scale channels 0 item ≡ Ok row → grown ≡ extended series (columns_of channels (row ∷ [])))
-    → AreRead scale channels all others grown
-read_more scale channels all item left others series grown read is more =
-    let joined = next_item scale channels all item left others series read is in
-    let good = renumbered scale channels read.number 0 item joined.first joined.first_is in
-    record {
-      number = read.number + 1;
-      done = read.done ++ joined.first ∷ [];
-      rest = joined.rest;
-      left_are = joined.rest_are;
-      all_are =
-          read.all_are
-          ∙ (ap (λ (rows : List Row). read.done ++ rows) joined.whole
-          ∙ sym (append_assoc read.done (joined.first ∷ []) joined.rest));
-      series_are = more joined.first good
-          ∙ (ap (λ (columns : List Series). extended columns (columns_of channels (joined.first ∷ []))) read.series_are
-          ∙ columns_more read.done joined.first (range_with_len 0 channels));
-    }
+-- the next item was read
+module _ {scale channels : ℕ} {all : List (List ℕ)} {item : List ℕ} {left others : List (List ℕ)} {series : List Series}
+    (read : AreRead scale channels all left series) (is : left ≡ item ∷ others) where
+  next_item : AreJoined (item_of scale channels read.number item) (items_of scale channels (read.number + 1) others)
+      read.rest
+  next_item = joined_by _ _ read.rest (sym (ap (items_of scale channels read.number) is) ∙ read.left_are)
+
+  next_row : item_of scale channels 0 item ≡ Ok next_item.first
+  next_row = renumbered scale channels read.number 0 item next_item.first next_item.first_is
+
+  pub next_good : is_ok (item_of scale channels 0 item) ≡ true
+  next_good = ap is_ok next_row
+
+  pub read_more : {grown : List Series}
+      → ((row : Row) → item_of scale channels 0 item ≡ Ok row
+      → grown ≡ extended series (columns_of channels (row ∷ [])))
+      → AreRead scale channels all others grown
+  read_more more = record {
+    number = read.number + 1;
+    done = read.done ++ next_item.first ∷ [];
+    rest = next_item.rest;
+    left_are = next_item.rest_are;
+    all_are =
+        read.all_are
+        ∙ (ap (λ (rows : List Row). read.done ++ rows) next_item.whole
+        ∙ sym (append_assoc read.done (next_item.first ∷ []) next_item.rest));
+    series_are = more next_item.first next_row
+        ∙ (ap (λ (columns : List Series). extended columns (columns_of channels (next_item.first ∷ []))) read.series_are
+        ∙ columns_more read.done next_item.first (range_with_len 0 channels));
+  }
 
 nothing_left : (scale channels number : ℕ) (rest : List Row) → items_of scale channels number [] ≡ Ok rest → rest ≡ []
 nothing_left scale channels number [] h = refl
@@ -177,34 +168,40 @@ pub record AreSpread (scale : ℕ) (all left : List (List ℕ)) (k : ℕ) (befor
   pub left_are : samples_of scale left ≡ Ok rest
   pub grown : spread k series rest ≡ spread 0 before row
 
--- the next value spells a sample
-next_spelled : (scale : ℕ) (all : List (List ℕ)) (value : List ℕ) (left others : List (List ℕ)) (k : ℕ)
-    (before series : List Series) (s : AreSpread scale all left k before series) → left ≡ value ∷ others
-    → AreJoined (value_of scale value) (samples_of scale others) s.rest
-next_spelled scale all value left others k before series s is =
-    joined_by (value_of scale value) (samples_of scale others) s.rest (sym (ap (samples_of scale) is) ∙ s.left_are)
+-- what is spelled is read
+ok_by_spelling : (r : Result Sample SampleFault) (spelled : Result (Option ℤ) SampleFault) (x : Option ℤ)
+    → spelled ≡ Ok x → IfErr r (λ fault. spelled ≡ Err fault) → IsOk r
+ok_by_spelling (Ok sample) spelled x is faulty = refl
+ok_by_spelling (Err fault) spelled x is faulty = absurd (cc (sym faulty ∙ is))
 
-pub spread_more : (scale : ℕ) (all : List (List ℕ)) (value : List ℕ) (left others : List (List ℕ)) (k at next : ℕ)
-    (before series grown : List Series) (sample : Option ℤ) → AreSpread scale all left k before series
-    → left ≡ value ∷ others → at ≡ k → next ≡ k + 1 → value_of scale value ≡ Ok sample
-    → grown ≡ set series at (get_or series at [] ++ sample ∷ [])
-    → AreSpread scale all others next before grown
-spread_more scale all value left others k at next before series grown sample s is here more read pushed =
-    let joined = next_spelled scale all value left others k before series s is in
-    let first : Ok joined.first ≡ Ok sample = sym joined.first_is ∙ read in
-    let rest : sample ∷ joined.rest ≡ s.rest = cc (joined.whole, first) in
-    let step : next ≡ suc k = omega (arith, more) in
-    record {
-      row = s.row;
-      rest = joined.rest;
-      all_are = s.all_are;
-      left_are = joined.rest_are;
-      grown = ap (λ (n : ℕ). spread n grown joined.rest) step
-          ∙ (ap (λ (now : List Series). spread (suc k) now joined.rest)
-          (pushed ∙ ap (λ (n : ℕ). set series n (get_or series n [] ++ sample ∷ [])) here)
-          ∙ (sym (spread_one k series sample joined.rest)
-          ∙ (ap (spread k series) rest ∙ s.grown)));
-    }
+-- the next value spells a sample
+module _ {scale : ℕ} {all : List (List ℕ)} {value : List ℕ} {left others : List (List ℕ)} {k : ℕ}
+    {before series : List Series} (s : AreSpread scale all left k before series) (is : left ≡ value ∷ others) where
+  next_spelled : AreJoined (value_of scale value) (samples_of scale others) s.rest
+  next_spelled = joined_by _ _ s.rest (sym (ap (samples_of scale) is) ∙ s.left_are)
+
+  pub next_read : (r : Result Sample SampleFault) → IfErr r (λ fault. value_of scale value ≡ Err fault) → IsOk r
+  next_read r faulty = ok_by_spelling r (value_of scale value) next_spelled.first next_spelled.first_is faulty
+
+  pub spread_more : {at next : ℕ} {grown : List Series} (sample : Option ℤ) → at ≡ k → next ≡ k + 1
+      → value_of scale value ≡ Ok sample → grown ≡ set series at (get_or series at [] ++ sample ∷ [])
+      → AreSpread scale all others next before grown
+  spread_more {next = next} {grown = grown} sample here more read pushed =
+      let joined = next_spelled in
+      let first : Ok joined.first ≡ Ok sample = sym joined.first_is ∙ read in
+      let rest : sample ∷ joined.rest ≡ s.rest = cc (joined.whole, first) in
+      let step : next ≡ suc k = omega (arith, more) in
+      record {
+        row = s.row;
+        rest = joined.rest;
+        all_are = s.all_are;
+        left_are = joined.rest_are;
+        grown = ap (λ (n : ℕ). spread n grown joined.rest) step
+            ∙ (ap (λ (now : List Series). spread (suc k) now joined.rest)
+            (pushed ∙ ap (λ (n : ℕ). set series n (get_or series n [] ++ sample ∷ [])) here)
+            ∙ (sym (spread_one k series sample joined.rest)
+            ∙ (ap (spread k series) rest ∙ s.grown)));
+      }
 
 -- one more sample in the k-th list
 pub series_pushed : (added : List (Vec Sample Global)) (k : ℕ) (none new : Vec Sample Global) (sample : Sample)
@@ -225,9 +222,8 @@ series_pushed added k none new sample within items =
 
 row_spelled : (number : ℕ) (fits : Bool) (r : Result Row SampleFault) (row : Row)
     → (if fits then row_with number r else Err number) ≡ Ok row → r ≡ Ok row
-row_spelled number true (Ok other) row h = let same : other ≡ row = cc in ap Ok same
-row_spelled number true (Err fault) row h = absurd (cc h)
-row_spelled number false r row h = absurd (cc h)
+row_spelled number true (Ok other) row h = cc
+row_spelled number fits r row h = absurd (cc h)
 
 item_spelled : (scale channels number : ℕ) (item : List ℕ) (row : Row) → item_of scale channels number item ≡ Ok row
     → samples_of scale (values_in item) ≡ Ok row
@@ -300,20 +296,6 @@ spread_all scale channels k item left before series row s is good =
     sym (spread_none k series)
     ∙ (ap (spread k series) (sym none)
     ∙ (s.grown ∙ (ap (spread 0 before) same ∙ ap (extended before) (row_columns channels row long))))
-
--- what is spelled is read
-ok_by_spelling : (r : Result Sample SampleFault) (spelled : Result (Option ℤ) SampleFault) (x : Option ℤ)
-    → spelled ≡ Ok x
-    → IfErr r (λ fault. spelled ≡ Err fault) → IsOk r
-ok_by_spelling (Ok sample) spelled x is faulty = refl
-ok_by_spelling (Err fault) spelled x is faulty = let clash : Err fault ≡ Ok x = sym faulty ∙ is in absurd (cc clash)
-
-pub next_read : (scale : ℕ) (all : List (List ℕ)) (value : List ℕ) (left others : List (List ℕ)) (k : ℕ)
-    (before series : List Series) (r : Result Sample SampleFault) → AreSpread scale all left k before series
-    → left ≡ value ∷ others → IfErr r (λ fault. value_of scale value ≡ Err fault) → IsOk r
-next_read scale all value left others k before series r s is faulty =
-    let joined = next_spelled scale all value left others k before series s is in
-    ok_by_spelling r (value_of scale value) joined.first joined.first_is faulty
 
 pub no_columns : (first channels : ℕ)
     → map series_of (replicate channels []) ≡ map (column_at []) (range_with_len first channels)

@@ -4,7 +4,6 @@ use Rattle.std.specs.Prelude.{All, Some, slice_get, take, drop}
 use Rattle.std.proofs.lemmas.List.{length-map, take-map, drop-map}
 use Rattle.std.proofs.lemmas.List.Elements.{All-nil, All-cons, All-head, All-tail}
 use Rattle.mp_nums.specs.declared.samples.Sample.{Sample}
-use Rattle.mp_defs.specs.Limits.{max_samples}
 use Rattle.mp_defs.specs.Series.{Series, reading_of, series_of}
 use Rattle.mp_stores.specs.Stores.{HaveWindow, count_of, items_in, series_in}
 use Rattle.mp_stream.specs.Streams.{Streamed}
@@ -48,45 +47,21 @@ can_put_empty m slot channels within some few empty window = record {
 
 -- ---- copies of channels
 
-first_of_all : (samples : List Sample) (list : List (List Sample)) (s : Series) (others : List Series)
-    → series_of samples ∷ map series_of list ≡ s ∷ others → series_of samples ≡ s
-first_of_all samples list s others h = cc
-
-rest_of_all : (samples : List Sample) (list : List (List Sample)) (s : Series) (others : List Series)
-    → series_of samples ∷ map series_of list ≡ s ∷ others → map series_of list ≡ others
-rest_of_all samples list s others h = cc
-
 -- the first copy is that of the first channel
 pub first_copy : (list : List (List Sample)) (copy : List Sample) (s : Series) (others : List Series)
     → map series_of list ≡ s ∷ others → slice_get list 0 ≡ Some copy → series_of copy ≡ s
 first_copy [] copy s others h got = absurd (cc h)
 first_copy (samples ∷ list) copy s others h got =
     let same : copy ≡ samples = cc in
-    ap series_of same ∙ first_of_all samples list s others h
+    let here : series_of samples ≡ s = cc in
+    ap series_of same ∙ here
 
 -- and the second that of the second
 pub second_copy : (list : List (List Sample)) (copy : List Sample) (s t : Series) (others : List Series)
     → map series_of list ≡ s ∷ t ∷ others → slice_get list 1 ≡ Some copy → series_of copy ≡ t
 second_copy [] copy s t others h got = absurd (cc h)
 second_copy (samples ∷ list) copy s t others h got =
-    first_copy list copy t others (rest_of_all samples list s (t ∷ others) h) got
-
--- none has more samples than a series may have
-abbrev IsSmall : List Sample → Type 0
-IsSmall samples = length samples ≤ max_samples
-
-pub first_small : (list : List (List Sample)) (copy : List Sample) → All IsSmall list
-    → slice_get list 0 ≡ Some copy → length copy ≤ max_samples
-first_small [] copy small got = absurd (cc got)
-first_small (samples ∷ list) copy small got =
-    let same : samples ≡ copy = cc in
-    subst IsSmall same (All-head IsSmall samples list small)
-
-pub second_small : (list : List (List Sample)) (copy : List Sample) → All IsSmall list
-    → slice_get list 1 ≡ Some copy → length copy ≤ max_samples
-second_small [] copy small got = absurd (cc got)
-second_small (samples ∷ list) copy small got =
-    first_small list copy (All-tail IsSmall samples list small) got
+    let rest : map series_of list ≡ t ∷ others = cc in first_copy list copy t others rest got
 
 -- a part of the samples has that part of their series
 pub part_of_series : (start m : ℕ) (samples : List Sample)

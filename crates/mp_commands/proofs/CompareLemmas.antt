@@ -11,9 +11,9 @@ use Rattle.mp_commands.specs.declared.answers.Answer.TheVariants.{Accepted}
 use Rattle.mp_commands.specs.declared.reports.Report as reports
 use Rattle.mp_commands.specs.declared.requests.Comparison.{Comparison}
 use Rattle.mp_commands.specs.declared.requests.Comparison.TheVariants.{Join, Mpdist}
-use Rattle.mp_commands.specs.Answers.{compared_in, report_in}
+use Rattle.mp_commands.specs.Commands.{compared_in, report_in}
 use Rattle.mp_commands.specs.Preparing.{IsAnswer}
-use Rattle.mp_commands.specs.Requests.{compared_by}
+use Rattle.mp_commands.specs.Commands.{compared_by}
 use Rattle.mp_commands.proofs.StepLemmas.{answer_accepted}
 
 pub compared_told : (by : Comparison) (state : State) (files : Files) (a b : Ref) (report : reports.Report)

@@ -1,6 +1,7 @@
 -- Files by which a load is prepared, whatever the shelf tells.
-use Rattle.std.proofs.Common.{◌≡◌, ℕ, ◌+◌, Bool, true, List, length, nat_lt, refl, replicate, ap, ◌∙◌, arith}
-use Rattle.std.specs.Prelude.{cond, Some, None, Result, Ok, Err, IfOk}
+use Rattle.std.proofs.Common.{◌≡◌, ℕ, ◌+◌, Bool, true, false, List, [], length, nat_lt, refl, replicate, ap, ◌∙◌, sym}
+use Rattle.std.proofs.Common.{arith}
+use Rattle.std.specs.Prelude.{cond, is_none, unwrap_or, Some, None, Result, Ok, Err, IfOk, OnErr}
 use Rattle.std.specs.Cmp.Lexicographic.{slice_cmp}
 use Rattle.std.specs.FinMap.{empty, get-empty, get-insert, insert}
 use Rattle.std.specs.Ordering.{nat_cmp}
@@ -11,12 +12,16 @@ use Rattle.mp_replies.specs.declared.causes.Cause.TheVariants.{File, FileSize}
 use Rattle.mp_replies.specs.Conditions.{first_cause}
 use Rattle.mp_replies.specs.Limits.{max_file}
 use Rattle.mp_replies.specs.Line.{Asked}
-use Rattle.mp_replies.specs.LoadCommand.{file_conditions, file_in}
+use Rattle.mp_replies.specs.LoadCommand.{file_conditions, file_in, load_conditions}
+use Rattle.mp_replies.specs.Numbers.{columns}
 use Rattle.mp_replies.specs.State.{Files, Store}
+use Rattle.mp_replies.specs.Step.{fetches_by}
 use Rattle.mp_stores.specs.Stores.{StandFor, Stored}
 use Rattle.mp_commands.specs.declared.context.Context.{Context}
 use Rattle.mp_commands.specs.declared.prepared.Prepared.{Prepared}
-use Rattle.mp_commands.specs.Preparing.{IsPrepared, IsPreparedBySome, state_over}
+use Rattle.mp_commands.specs.declared.requests.Load.{Load}
+use Rattle.mp_commands.specs.Commands.{asks_for}
+use Rattle.mp_commands.specs.Preparing.{IsPrepared, IsPreparedBySome, NeedsNoFile, state_over}
 
 pub no_file : Files
 no_file = empty
@@ -53,7 +58,7 @@ more_bytes n =
 pub large_file : List ℕ → Files
 large_file name = one_file name (more_bytes max_file).0
 
-too_large_by : (scale : ℕ) (cols : List ℕ) (header : Bool) (bytes : List ℕ) → nat_lt max_file (length bytes) ≡ true
+pub too_large_by : (scale : ℕ) (cols : List ℕ) (header : Bool) (bytes : List ℕ) → nat_lt max_file (length bytes) ≡ true
     → first_cause (file_conditions scale cols header (Some bytes)) ≡ Some FileSize
 too_large_by scale cols header bytes more = rw more refl
 
@@ -63,6 +68,23 @@ unfolding large_file
 too_large_is scale cols header name =
     ap (λ found. first_cause (file_conditions scale cols header found)) (one_found name (more_bytes max_file).0)
     ∙ too_large_by scale cols header (more_bytes max_file).0 (more_bytes max_file).1
+
+-- ---- one that is wanted
+
+pub on_err : {T E : Type 0} {P : Type 0} (r : Result T E) → P → OnErr r P
+on_err (Ok x) p = tt
+on_err (Err e) p = p
+
+-- a load that nothing refuses without its file wants it
+pub wants_file : (context : Context) (load : Load) (held : Stored)
+    → ((stores : List Store) → StandFor held stores
+    → first_cause (load_conditions stores load.slot (unwrap_or (columns load.columns.field.now) [])) ≡ None)
+    → NeedsNoFile context (asks_for load) held → ⊥
+wants_file context load held unrefused none =
+    let wanted : fetches_by (state_over context held none.stores) (asks_for load) ≡ true =
+    ap is_none (unrefused none.stores none.stand) in
+    let clash : true ≡ false = sym wanted ∙ none.none in
+    absurd (cc clash)
 
 -- ---- one that is there
 

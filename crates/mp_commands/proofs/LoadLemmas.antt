@@ -16,7 +16,7 @@ use Rattle.mp_text.specs.Rows.{Row, columns_of, onto}
 use Rattle.mp_text.specs.Table.{Fault, TooManyRows, Fields, row_of, rows_of, table_of}
 use Rattle.mp_replies.specs.declared.causes.Cause.{Cause}
 use Rattle.mp_replies.specs.declared.causes.Cause.TheVariants as cause
-use Rattle.mp_replies.specs.Answer.{LoadReport}
+use Rattle.mp_replies.specs.Command.{LoadReport}
 use Rattle.mp_replies.specs.Change as change
 use Rattle.mp_replies.specs.Command as asked
 use Rattle.mp_replies.specs.Conditions.{Condition, first_cause, when}
@@ -114,7 +114,7 @@ onto_long x (Some more) ys count h rest =
     let whole : x ∷ more ≡ ys = cc in
     omega (arith, ap length whole, rest more refl)
 
-length-all_some : {A : Type 0} (xs : List (Option A)) (ys : List A) → all_some xs ≡ Some ys → length ys ≡ length xs
+pub length-all_some : {A : Type 0} (xs : List (Option A)) (ys : List A) → all_some xs ≡ Some ys → length ys ≡ length xs
 length-all_some [] [] h = refl
 length-all_some [] (y ∷ ys) h = absurd (cc h)
 length-all_some (None ∷ xs) ys h = absurd (cc h)

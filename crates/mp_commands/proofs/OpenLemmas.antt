@@ -5,7 +5,7 @@ use Rattle.std.specs.Prelude.{Option, None, Some, slice_set, if◌then◌else◌
 use Rattle.mp_defs.specs.Series.{Series}
 use Rattle.mp_replies.specs.declared.causes.Cause.{Cause}
 use Rattle.mp_replies.specs.declared.causes.Cause.TheVariants.{Slot}
-use Rattle.mp_replies.specs.Answer.{OpenReport}
+use Rattle.mp_replies.specs.Command.{OpenReport}
 use Rattle.mp_replies.specs.Change as change
 use Rattle.mp_replies.specs.Command as asked
 use Rattle.mp_replies.specs.Conditions.{first_cause}
@@ -53,7 +53,7 @@ none_put (store ∷ stores) (suc slot) count = none_put stores slot count
 pub opened : (state : State) (files : Files) (slot count : ℕ) (prepared : Prepared)
     → first_cause (open_conditions slot count) ≡ None → prepared.answer ≡ Accepted (report.Open 0)
     → changed_by prepared.change ≡ change.PutChannels slot (replicate count [])
-    → IsPrepared state files (Asks (asked.OpenSlot slot count)) prepared
+    → IsPrepared state files (Asks (asked.OpenAnew slot count)) prepared
 opened state files slot count prepared none answer put =
-    prepared_accepted state files (asked.OpenSlot slot count) (report.Open 0) prepared none refl answer
+    prepared_accepted state files (asked.OpenAnew slot count) (report.Open 0) prepared none refl answer
     (ap OpenReport (sym (none_put state.stores slot count))) put

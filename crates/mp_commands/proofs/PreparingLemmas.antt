@@ -10,7 +10,7 @@ use Rattle.mp_replies.specs.Command.{Command}
 use Rattle.mp_replies.specs.Conditions.{first_cause}
 use Rattle.mp_replies.specs.LimitLaws.{limits_kept}
 use Rattle.mp_replies.specs.Line.{Asked, Nothing, Asks, Faulty, asked_of, ends}
-use Rattle.mp_replies.specs.State.{Files, State}
+use Rattle.mp_replies.specs.State.{Files, State, first_version}
 use Rattle.mp_replies.specs.Step.{change_in, conditions, verdict_by, verdict_of}
 use Rattle.mp_stores.specs.Stores.{StandAsBefore, Stored}
 use Rattle.mp_stores.specs.StoreLaws.{channel_lasts, items_last}
@@ -26,20 +26,18 @@ use Rattle.mp_commands.specs.declared.requests.Comparison.{Comparison}
 use Rattle.mp_commands.specs.declared.requests.Comparison.TheVariants.{Join, Mpdist}
 use Rattle.mp_commands.specs.declared.requests.ReportRequest.{ReportRequest}
 use Rattle.mp_commands.specs.declared.requests.ReportRequest.TheVariants.{Compare}
-use Rattle.mp_commands.specs.Answers.{AreNamed, NamesChannels, is_ended, kind_by}
+use Rattle.mp_commands.specs.Commands.{AreNamed, NamesChannels, is_ended, kind_by}
 use Rattle.mp_commands.specs.Preparing.{AddsAsAsked, CanMake, IsAnswer, IsPrepared, IsReady, IsTaken, IsWithinLimits}
 use Rattle.mp_commands.specs.Preparing.{IsPreparedBySome, changed_by, puts}
-use Rattle.mp_commands.specs.Requests.{compared_by, reported_in}
+use Rattle.mp_commands.specs.Commands.{compared_by, reported_in}
 use Rattle.mp_commands.proofs.EndLemmas.{ends_by}
 use Rattle.mp_commands.proofs.FileLemmas.{no_file}
-use Rattle.mp_replies.specs.State.{first_version}
 
 -- ---- the line
 
 pub limits_by : (line : List ℕ) (what : Asked) → what ≡ asked_of first_version line → IsWithinLimits what
-limits_by line Nothing is = tt
-limits_by line (Faulty cause) is = tt
 limits_by line (Asks command) is = limits_kept first_version line command (sym is)
+limits_by line other is = tt
 
 -- ---- a request
 
@@ -62,7 +60,7 @@ some_taken context what held (Err error) h = tt
 -- ---- requests of a report
 
 abbrev Keeps : Asked → Type 0
-Keeps (Asks (asked.OpenSlot slot channels)) = ⊥
+Keeps (Asks (asked.OpenAnew slot channels)) = ⊥
 Keeps (Asks (asked.Load slot file columns header)) = ⊥
 Keeps (Asks (asked.Append slot items)) = ⊥
 Keeps other = Unit {0}
@@ -75,7 +73,7 @@ keep_in : (state : State) (files : Files) (what : Asked) → Keeps what
     → change.Keep ≡ change_in (verdict_of state files what)
 keep_in state files Nothing h = refl
 keep_in state files (Faulty cause) h = refl
-keep_in state files (Asks (asked.OpenSlot slot channels)) h = absurd h
+keep_in state files (Asks (asked.OpenAnew slot channels)) h = absurd h
 keep_in state files (Asks (asked.Load slot file columns header)) h = absurd h
 keep_in state files (Asks (asked.Append slot items)) h = absurd h
 keep_in state files (Asks other) h = keep_by other (first_cause (conditions state files other))
@@ -110,10 +108,9 @@ report_lasts old new other last there = tt
 
 pub names_last : (old new : Stored) (answer : Answer) → StandAsBefore old new → NamesChannels old answer
     → NamesChannels new answer
-names_last old new Silent last there = tt
-names_last old new (Refused cause) last there = tt
 names_last old new (Accepted report) last there = report_lasts old new report last there
 names_last old new (Ended report) last there = report_lasts old new report last there
+names_last old new other last there = tt
 
 -- ---- no change
 

@@ -1,6 +1,6 @@
 -- The channels of a slot, named one by one, and what copies of channels stand for.
-use Rattle.std.proofs.Common.{◌≡◌, ℕ, suc, ◌<◌, ◌≤◌, ◌∙◌, List, [], ◌∷◌, length, map, refl, ap, sym, subst, arith, true}
-use Rattle.std.specs.Prelude.{All, Option, Some, None, slice_get, slice_index_or, ◌&&◌, nat_le}
+use Rattle.std.proofs.Common.{◌≡◌, ℕ, ◌<◌, ◌≤◌, ◌∙◌, List, [], ◌∷◌, length, map, refl, ap, sym, subst, arith, true}
+use Rattle.std.specs.Prelude.{All, Some, slice_get, slice_index_or, ◌&&◌, nat_le}
 use Rattle.std.specs.List.{range_with_len}
 use Rattle.std.proofs.lemmas.Bool.Decides.{nat_tests}
 use Rattle.std.proofs.lemmas.List.{length-map}
@@ -13,14 +13,14 @@ use Rattle.mp_multi.specs.Conditions.{HaveOneLength}
 use Rattle.mp_replies.specs.declared.refs.Ref.{Ref}
 use Rattle.mp_replies.specs.ConsensusCommand.{consensus_fits}
 use Rattle.mp_replies.specs.Limits.{min_refs, slot_count}
-use Rattle.mp_replies.specs.Numbers.{all_some, onto_some, ref, refs}
+use Rattle.mp_replies.specs.Numbers.{ref, refs}
 use Rattle.mp_replies.specs.State.{Store, series_at}
 use Rattle.mp_stores.specs.Stores.{AreChannels, IsChannel, StandFor, Stored, channel_series, count_of, items_in}
-use Rattle.mp_stores.specs.Stores.{nothing}
-use Rattle.mp_stores.specs.Stores.{series_in, streams_at}
+use Rattle.mp_stores.specs.Stores.{nothing, series_in, streams_at}
 use Rattle.mp_stores.specs.StoreLaws.{series_in_channel, series_stands}
 use Rattle.mp_stream.specs.Streams.{Streamed}
-use Rattle.mp_commands.specs.Reads.{refs_of}
+use Rattle.mp_commands.specs.Commands.{refs_of}
+use Rattle.mp_commands.proofs.LoadLemmas.{length-all_some}
 
 -- ---- copies
 
@@ -112,18 +112,6 @@ copied_long channels bundle same =
 
 -- ---- refs of a line
 
-onto_long : (x : Option Ref) (rest : Option (List Ref)) (n : ℕ) (list : List Ref)
-    → ((others : List Ref) → rest ≡ Some others → length others ≡ n) → onto_some x rest ≡ Some list
-    → length list ≡ suc n
-onto_long None rest n list long h = absurd (cc h)
-onto_long (Some x) None n list long h = absurd (cc h)
-onto_long (Some x) (Some others) n list long h =
-    let same : (x ∷ others) ≡ list = cc in ap length (sym same) ∙ ap suc (long others refl)
-
-all_long : (read : List (Option Ref)) (list : List Ref) → all_some read ≡ Some list → length list ≡ length read
-all_long [] list h = let same : [] ≡ list = cc in ap length (sym same)
-all_long (x ∷ read) list h = onto_long x (all_some read) (length read) list (λ others. all_long read others) h
-
 two_fit : (n : ℕ) → (nat_le 2 n && nat_le n 64) ≡ true → 2 ≤ n
 two_fit n h = grind (arith, nat_tests)
 
@@ -133,5 +121,5 @@ pub copies_of_named : (fields : List (List ℕ)) (named : List Ref) (series : Re
     → map series_of bundle ≡ map series named → min_refs ≤ length bundle
 copies_of_named fields named series bundle fits read copied =
     let two = two_fit (length fields) fits in
-    let all = all_long (map ref fields) named read ∙ length-map fields ref in
+    let all = length-all_some (map ref fields) named read ∙ length-map fields ref in
     omega (arith, two, all, copies_long bundle (map series named) copied, length-map named series)

@@ -9,13 +9,13 @@ use Rattle.mp_results.specs.Chains.{longest_of}
 use Rattle.mp_replies.specs.ChainsCommand.{all_chains_text, chains_text}
 use Rattle.mp_replies.specs.EntryCommand.{entry_in}
 use Rattle.mp_replies.specs.Profiles.{columns_in}
-use Rattle.mp_replies.specs.Report.{report_text}
+use Rattle.mp_replies.specs.Commands.{report_text}
 use Rattle.mp_replies.specs.State.{State, series_at}
 use Rattle.mp_replies.specs.declared.refs.Ref.{Ref}
 use Rattle.mp_stores.specs.Stores.{Stored, channel_series}
 use Rattle.mp_commands.specs.declared.reports.Report as reports
 use Rattle.mp_commands.specs.declared.reports.Report.TheVariants as report
-use Rattle.mp_commands.specs.Answers.{AreNamed, AreSlotsOf, IsWindow, report_in}
+use Rattle.mp_commands.specs.Commands.{AreNamed, AreSlotsOf, IsWindow, report_in}
 use Rattle.mp_commands.proofs.ColumnLemmas.{profile_stands}
 
 pub window_named : (held : Stored) (at : Ref) (start : ℕ) (ours : reports.Report) → ours ≡ report.Entry at start

@@ -1,5 +1,5 @@
-pub mod Answers
+pub mod Commands
 pub mod Reads
-pub mod Requests
 pub mod Preparing
+pub mod Fetching
 pub mod Reports

@@ -24,7 +24,7 @@ use Rattle.mp_commands.specs.declared.context.Context.{Context}
 use Rattle.mp_commands.specs.declared.prepared.Change.{Change}
 use Rattle.mp_commands.specs.declared.prepared.Change.TheVariants.{Keep, PutChannels, AddSamples}
 use Rattle.mp_commands.specs.declared.prepared.Prepared.{Prepared}
-use Rattle.mp_commands.specs.Answers.{NamesChannels, answered, kind_by, is_accepted, is_ended}
+use Rattle.mp_commands.specs.Commands.{NamesChannels, answered, kind_by, is_accepted, is_ended}
 use Rattle.mp_commands.specs.Reads.{renews}
 
 -- the state of these stores, for which slots stand, and of what is known beside the slots
@@ -158,7 +158,8 @@ pub record IsTaken {E : Type 0} (told : Option Files) (context : Context) (what 
   pub stop : (stores : List Store) → StandFor held stores
       → OnErr result (IsUnrefused (state_over context held stores) what)
 
--- by some files, which no shelf needs to tell, it is prepared as the definitions say, whatever stores the slots stand for
+-- by some files, which no shelf needs to tell, it is prepared as the definitions say, whatever stores the slots stand
+-- for
 pub record IsPreparedBySome (context : Context) (what : Asked) (held : Stored) (prepared : Prepared) : Type 0 where
   pub files : Files
   pub is : (stores : List Store) → StandFor held stores

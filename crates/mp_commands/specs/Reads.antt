@@ -1,28 +1,12 @@
 -- How often a line reads samples.
-use Rattle.std.specs.Prelude.{◌≡◌, ℕ, ◌+◌, ◌*◌, ◌==◌, ◌≤◌, Bool, true, false, List, [], ◌∷◌, length, map, sum_by}
+use Rattle.std.specs.Prelude.{◌≡◌, ℕ, ◌+◌, ◌*◌, ◌==◌, ◌≤◌, Bool, false, List, length, sum_by}
 use Rattle.std.specs.Prelude.{if◌then◌else◌}
-use Rattle.std.specs.List.{range_with_len}
 use Rattle.mp_defs.specs.Window.{windows}
 use Rattle.mp_replies.specs.declared.refs.Ref.{Ref}
-use Rattle.mp_replies.specs.Command.{OpenSlot, Load, Append, Window, Join, Multi, Match, Motifs, Mpdist, Consensus}
+use Rattle.mp_replies.specs.Command.{OpenAnew, Load, Append}
 use Rattle.mp_replies.specs.Line.{Asked, Asks}
 use Rattle.mp_stores.specs.Stores.{StandAsBefore, Stored, count_in, lent_once, reads_at, streams_at}
-
--- all channels of a slot
-abbrev pub refs_of : Stored → ℕ → List Ref
-refs_of held slot =
-    map (λ channel. record { slot = slot; channel = channel }) (range_with_len 0 (length (streams_at held slot)))
-
--- the channels whose samples a line has lent once each, for each time that it names them
-abbrev pub lends : Stored → Asked → List Ref
-lends held (Asks (Window at start)) = at ∷ []
-lends held (Asks (Join a b)) = a ∷ b ∷ []
-lends held (Asks (Mpdist a b)) = a ∷ b ∷ []
-lends held (Asks (Match at query start radius max)) = at ∷ query ∷ []
-lends held (Asks (Motifs at query)) = at ∷ []
-lends held (Asks (Multi slot k)) = refs_of held slot
-lends held (Asks (Consensus refs)) = refs
-lends held other = []
+use Rattle.mp_commands.specs.Commands.{lends}
 
 -- the most reads of these channels' samples in one slot
 abbrev pub lent_in : Stored → List Ref → ℕ → ℕ
@@ -48,7 +32,7 @@ most_reads held asked slot = most_lent held asked slot + most_added held asked s
 
 -- whether a line puts other channels into a slot, where it is accepted
 abbrev pub renews : Asked → ℕ → Bool
-renews (Asks (OpenSlot at channels)) slot = slot == at
+renews (Asks (OpenAnew at channels)) slot = slot == at
 renews (Asks (Load at file columns header)) slot = slot == at
 renews other slot = false
 
@@ -65,17 +49,3 @@ pub record WereRead (most : ℕ → ℕ) (old new : Stored) : Type 0 where
 pub record IsKept (asked : Asked) (old new : Stored) : Type 0 where
   pub stands : StandAsBefore old new
   pub read : WereRead (most_lent old asked) old new
-
--- a line that asks for nothing or is refused by itself, and one whose report stands in a profile or shows no samples
-abbrev pub is_unread : Asked → Bool
-is_unread (Asks (OpenSlot slot channels)) = false
-is_unread (Asks (Load slot file columns header)) = false
-is_unread (Asks (Append slot items)) = false
-is_unread (Asks (Window at start)) = false
-is_unread (Asks (Join a b)) = false
-is_unread (Asks (Multi slot k)) = false
-is_unread (Asks (Match at query start radius max)) = false
-is_unread (Asks (Motifs at query)) = false
-is_unread (Asks (Mpdist a b)) = false
-is_unread (Asks (Consensus refs)) = false
-is_unread other = true

@@ -5,7 +5,7 @@ use Rattle.mp_replies.specs.State.{Files, Store}
 use Rattle.mp_stores.specs.Stores.{StandFor, Stored}
 use Rattle.mp_commands.specs.declared.answers.Answer.{Answer}
 use Rattle.mp_commands.specs.declared.context.Context.{Context}
-use Rattle.mp_commands.specs.Answers.{NamesChannels, is_accepted, is_ended, kind_by}
+use Rattle.mp_commands.specs.Commands.{NamesChannels, is_accepted, is_ended, kind_by}
 use Rattle.mp_commands.specs.Preparing.{IsAnswer, IsUnrefused, state_over}
 use Rattle.mp_commands.specs.Reads.{AreUnread, IsKept}
 

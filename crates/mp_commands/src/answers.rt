@@ -1,14 +1,14 @@
 //! The answer to a line.
 
 ghost use Rattle.std.specs.Prelude.{◌≡◌, IfOk};
-ghost use Rattle.mp_commands.specs.Answers.{is_accepted as is_accepted_kind, is_ended as is_ended_kind};
-ghost use Rattle.mp_commands.specs.Answers.{is_refused as is_refused_kind, kind_by};
+ghost use Rattle.mp_commands.specs.Commands.{is_accepted as is_accepted_kind, is_ended as is_ended_kind};
+ghost use Rattle.mp_commands.specs.Commands.{is_refused as is_refused_kind, kind_by};
 
 use crate::replies::Reply;
 use crate::reports::Report;
-use crate::written::answer_text;
-use mp_nums::Memory;
+use mp_nums::{Memory, Text};
 use mp_replies::Cause;
+use mp_report::answers::refused_text;
 use mp_stores::Stores;
 use std::alloc::Global;
 
@@ -69,7 +69,7 @@ pub enum Answer {
 impl Answer {
     ghost use Rattle.mp_replies.specs.Report.{text_of};
     ghost use Rattle.mp_replies.specs.State.{State};
-    ghost use Rattle.mp_commands.specs.Answers.{AreSlotsOf, NamesChannels, answered};
+    ghost use Rattle.mp_commands.specs.Commands.{AreSlotsOf, NamesChannels, answered};
 
     /// What becomes of the line.
     pub fn kind(&self) -> ReplyKind
@@ -90,8 +90,21 @@ impl Answer {
             → IfOk result (λ r. r.text.items ≡ text_of line (answered state self)) }
         ensures kind { IfOk result (λ r. r.kind ≡ kind_by self) }
     {
-        let text = answer_text(alloc, line, &self, stores)?;
+        let text = self.text(alloc, line, stores)?;
         let kind = self.kind();
         Ok(Reply { text, kind })
+    }
+
+    /// Its text.
+    fn text(&self, alloc: Global, line: u64, stores: &Stores) -> Result<Text, Memory>
+        requires { NamesChannels stores.now self.now }
+        ensures { (state : State) → AreSlotsOf state stores.now
+            → IfOk result (λ text. text.items ≡ text_of line (answered state self.now)) }
+    {
+        match self {
+            Answer::Silent => Ok(Text::new(alloc)),
+            Answer::Refused(cause) => refused_text(alloc, line, *cause),
+            Answer::Accepted(report) | Answer::Ended(report) => report.text(alloc, line, stores),
+        }
     }
 }

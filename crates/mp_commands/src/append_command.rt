@@ -72,7 +72,6 @@ struct Form {
 
 /// How many items there are, where none is bad and all fit behind the samples of the slot, or why the line is refused.
 /// It takes no memory.
-#[tactic(auto, using(mp_bytes::specs::FieldLaws::fields_within))]
 fn count_items(stores: &Stores, form: Form, slot: u64, items: &[u8]) -> Result<u64, Cause>
     requires places { form.scale ≤ max_scale }
     requires channels { (stands : List Store) → StandFor stores.now stands
@@ -91,15 +90,31 @@ fn count_items(stores: &Stores, form: Form, slot: u64, items: &[u8]) -> Result<u
     if form.channels == 0 {
         return Err(Cause::Slot);
     }
+    let count = match count_good(form, items) {
+        Ok(count) => count,
+        Err(number) => return Err(Cause::Sample(number)),
+    };
+    if MAX_SAMPLES - stores.len(slot) < count {
+        return Err(Cause::Full);
+    }
+    Ok(count)
+}
+
+/// How many items there are, where none is bad, or the number of the first bad one, counted from 1.
+#[tactic(auto, using(mp_bytes::specs::FieldLaws::fields_within))]
+fn count_good(form: Form, items: &[u8]) -> Result<u64, u64>
+    requires { form.scale ≤ max_scale }
+    ensures count { IfOk result (λ count. count ≡ length (fields_in items.now)) }
+    ensures good { OnOk result (bad_in (items_read form.scale form.channels (fields_in items.now)) ≡ None) }
+    ensures bad { IfErr result (λ number.
+        bad_in (items_read form.scale form.channels (fields_in items.now)) ≡ Some number) }
+{
     let mut count = 0;
     for item in (Fields { text: items }) {
         if !is_good(item, form) {
-            return Err(Cause::Sample(count + 1));
+            return Err(count + 1);
         }
         count += 1;
-    }
-    if MAX_SAMPLES - stores.len(slot) < count {
-        return Err(Cause::Full);
     }
     Ok(count)
 }

@@ -1,7 +1,7 @@
 //! `load S FILE COL,COL`, or with `header` behind: columns of a file in place of what stood in a slot.
 
 ghost use Rattle.std.specs.Prelude.{◌≡◌, ◌<◌, ◌≤◌, List, [], All, length};
-ghost use Rattle.std.specs.Prelude.{option_map, unwrap_or, Some, None, IfOk, IsErrOf};
+ghost use Rattle.std.specs.Prelude.{option_map, unwrap_or, vec_len, Some, None, IfErr, IfOk, IsErrOf};
 ghost use Rattle.mp_defs.specs.Limits.{max_samples};
 ghost use Rattle.mp_replies.specs.Limits.{max_file, slot_count};
 ghost use Rattle.mp_replies.specs.LoadCommand.{file_in, load_conditions};
@@ -9,7 +9,8 @@ ghost use Rattle.mp_replies.specs.Numbers.{columns as columns_of};
 ghost use Rattle.mp_replies.specs.State.{Files, Store};
 ghost use Rattle.mp_commands.specs.Preparing.{IsAsked, IsCause, IsPrepared, IsPreparedBySome, IsReady, IsTaken};
 ghost use Rattle.mp_commands.specs.Preparing.{NeedsNoFile, cause_by, state_over};
-ghost use Rattle.mp_commands.specs.Requests.{asks_for};
+ghost use Rattle.mp_commands.specs.Commands.{asks_for};
+ghost use Rattle.mp_commands.specs.Fetching.{IsRefusedFile};
 ghost use Rattle.mp_text.specs.Table.{told};
 ghost use Rattle.mp_stores.specs.Stores.{HaveWindow, StandFor, items_in};
 
@@ -51,10 +52,29 @@ pub(crate) fn prepare_load<R: Threads + Sync, H: Shelf, G: Gate>(
     if let Some(cause) = load_cause(stores, load.slot, load.columns) {
         return Ok(Prepared::refused(cause));
     }
-    match shelf.fetch(context.alloc, load.file, MAX_FILE) {
+    let fetched = fetch_file(context.alloc, load.file, shelf)?;
+    match fetched {
         Ok(bytes) => prepare_table(rt, stores, context, load, bytes.as_slice(), gate),
-        Err(ShelfAnswer::Absent) => Ok(Prepared::refused(Cause::File)),
-        Err(ShelfAnswer::TooLarge) => Ok(Prepared::refused(Cause::FileSize)),
+        Err(cause) => Ok(Prepared::refused(cause)),
+    }
+}
+
+/// The bytes of a file, or the word by which a load of it is refused.
+fn fetch_file<H: Shelf>(
+    alloc: Global,
+    name: &[u8],
+    shelf: &mut H,
+) -> Result<Result<Vec<u8>, Cause>, Stop>
+    ensures within { IfOk result (λ fetched. IfOk fetched (λ bytes. vec_len bytes ≤ max_file)) }
+    ensures found { (files : Files) → H.files shelf.old ≡ Some files
+        → IfOk result (λ fetched. IfOk fetched (λ bytes. file_in files name.now ≡ Some bytes.items)) }
+    ensures refused { IfOk result (λ fetched. IfErr fetched (IsRefusedFile (H.files shelf.old) name.now)) }
+    ensures shelf { IsAsked H.Shelf ⊥ (IsErrOf result Stop.ShelfFault) shelf.old shelf.new }
+{
+    match shelf.fetch(alloc, name, MAX_FILE) {
+        Ok(bytes) => Ok(Ok(bytes)),
+        Err(ShelfAnswer::Absent) => Ok(Err(Cause::File)),
+        Err(ShelfAnswer::TooLarge) => Ok(Err(Cause::FileSize)),
         Err(ShelfAnswer::Failed) => Err(Stop::ShelfFault),
         Err(ShelfAnswer::Memory) => Err(Stop::Memory),
     }

@@ -28,8 +28,8 @@ pub(crate) fn prepare_open<R: Threads + Sync>(
     opening: Opening,
 ) -> Result<Prepared, Stop>
     ensures prepared { (told : Option Files)
-        → IsTaken told context (Asks (asked.OpenSlot opening.slot opening.channels)) stores.now result }
-    ensures ready { IfOk result (IsReady (Asks (asked.OpenSlot opening.slot opening.channels)) stores.now) }
+        → IsTaken told context (Asks (asked.OpenAnew opening.slot opening.channels)) stores.now result }
+    ensures ready { IfOk result (IsReady (Asks (asked.OpenAnew opening.slot opening.channels)) stores.now) }
     ensures calm { IsErrOf result Stop.ShelfFault → ⊥ }
 {
     let slot = opening.slot;

@@ -3,11 +3,11 @@
 ghost use Rattle.std.specs.Prelude.{◌≡◌, IfOk, IsErrOf, false};
 ghost use Rattle.mp_lines.specs.Lines.{asked_by, cause_of as cause_of_fault};
 ghost use Rattle.mp_replies.specs.Line.{asked_of, ends};
-ghost use Rattle.mp_commands.specs.Answers.{is_accepted, is_ended, kind_by};
+ghost use Rattle.mp_commands.specs.Commands.{is_accepted, is_ended, kind_by};
 ghost use Rattle.mp_commands.specs.Preparing.{version_in};
 ghost use Rattle.mp_commands.specs.Preparing.{IsAsked, IsPreparedBySome, IsReady, IsTaken, IsWithinLimits, NeedsNoFile};
 ghost use Rattle.mp_commands.specs.Reads.{AreUnread, IsKept};
-ghost use Rattle.mp_commands.specs.Requests.{changed_in};
+ghost use Rattle.mp_commands.specs.Commands.{changed_in};
 ghost use Rattle.mp_stores.specs.Stores.{StandAsBefore};
 
 use crate::answers::Answer;
@@ -17,7 +17,6 @@ use crate::load_command::prepare_load;
 use crate::open_command::prepare_open;
 use crate::prepared::Prepared;
 use crate::replies::Stop;
-use crate::report::report;
 use crate::requests::{ChangeRequest, Request};
 use mp_lines::{Command, LineFault, parse_line};
 use mp_outside::{Gate, Shelf};
@@ -81,7 +80,7 @@ fn prepare_command<R: Threads + Sync, H: Shelf, G: Gate>(
         Request::Blank => Ok(Prepared::keeping(Answer::Silent)),
         Request::Change(request) => prepare_change(rt, stores, context, request, shelf, gate),
         Request::Report(request) => {
-            Ok(Prepared::keeping(report(rt, stores, context, request, gate)?))
+            Ok(Prepared::keeping(request.answer(rt, stores, context, gate)?))
         }
     }
 }

@@ -1,10 +1,40 @@
-//! What a line asks for: a change of slots, or a report alone.
+//! What a line asks for, a change of slots or a report alone, and the answers to those that report.
 
 ghost use Rattle.std.specs.Prelude.{◌≡◌, ◌≤◌};
 ghost use Rattle.mp_replies.specs.Limits.{max_factor};
 
+mod chain_command;
+mod compare_command;
+mod consensus_command;
+mod discords_command;
+mod match_command;
+mod motifs_command;
+mod multi_command;
+mod profile_command;
+mod segments_command;
+mod session_command;
+mod window_command;
+
+use self::chain_command::{report_chain, report_chains};
+use self::compare_command::report_comparison;
+use self::consensus_command::report_consensus;
+use self::discords_command::report_discords;
+use self::match_command::report_match;
+use self::motifs_command::report_motifs;
+use self::multi_command::report_multi;
+use self::profile_command::{report_entry, report_profile};
+use self::segments_command::report_segments;
+use self::session_command::report_session;
+use self::window_command::report_window;
+use crate::answers::Answer;
+use crate::context::Context;
+use crate::reports::Report;
 use mp_lines::{Columns, Command, Refs};
+use mp_nums::Memory;
+use mp_outside::Gate;
 use mp_replies::Ref;
+use mp_stores::Stores;
+use std::thread::Threads;
 
 #[derive(Clone, Copy, Debug)]
 pub(crate) enum Request<'a> {
@@ -127,7 +157,7 @@ pub(crate) struct Regimes {
 impl<'a> Request<'a> {
     ghost use Rattle.mp_lines.specs.Lines.{asked_by};
     ghost use Rattle.mp_commands.specs.Preparing.{IsWithinLimits};
-    ghost use Rattle.mp_commands.specs.Requests.{asked_in};
+    ghost use Rattle.mp_commands.specs.Commands.{asked_in};
 
     /// What a command asks for.
     pub(crate) fn of(command: Command<'a>) -> Request<'a>
@@ -206,5 +236,39 @@ impl<'a> Request<'a> {
             Command::End => ReportRequest::End,
         };
         Request::Report(report)
+    }
+}
+
+impl<'a> ReportRequest<'a> {
+    ghost use Rattle.mp_commands.specs.Reports.{IsReported, OnlyReads};
+    ghost use Rattle.mp_commands.specs.Commands.{reported_in};
+
+    /// The answer to it. No slot is changed.
+    pub(crate) fn answer<R: Threads + Sync, G: Gate>(
+        self,
+        rt: &R,
+        stores: &mut Stores,
+        context: Context,
+        gate: &G,
+    ) -> Result<Answer, Memory>
+        ensures report { IsReported context (reported_in self.entry) stores.old result }
+        ensures stores { OnlyReads (reported_in self.entry) stores.old stores.new result }
+    {
+        match self {
+            ReportRequest::Session { .. } => Ok(report_session(context)),
+            ReportRequest::Window { at, start } => report_window(stores, context, at, start),
+            ReportRequest::Profile { at } => Ok(report_profile(stores, context, at)),
+            ReportRequest::Entry { at, start } => Ok(report_entry(stores, context, at, start)),
+            ReportRequest::Compare(pair) => report_comparison(rt, stores, context, pair, gate),
+            ReportRequest::Multi { slot, k } => report_multi(rt, stores, context, slot, k, gate),
+            ReportRequest::Match(pattern) => report_match(rt, stores, context, pattern),
+            ReportRequest::Motifs(repeats) => report_motifs(rt, stores, context, repeats),
+            ReportRequest::Discords(unusual) => report_discords(stores, context, unusual),
+            ReportRequest::Chain { at, start } => report_chain(stores, context, at, start),
+            ReportRequest::Chains { at } => report_chains(stores, context, at),
+            ReportRequest::Segments(sought) => report_segments(stores, context, sought),
+            ReportRequest::Consensus(refs) => report_consensus(rt, stores, context, refs, gate),
+            ReportRequest::End => Ok(Answer::Ended(Report::End)),
+        }
     }
 }

@@ -4,7 +4,8 @@ use Rattle.mp_bytes.specs.Fields.{fields_in}
 use Rattle.mp_replies.specs.declared.causes.Cause.{Cause}
 use Rattle.mp_replies.specs.declared.causes.Cause.TheVariants as cause
 use Rattle.mp_replies.specs.Command as asked
-use Rattle.mp_replies.specs.Line.{Asked, Nothing, Asks, Faulty, asks, made}
+use Rattle.mp_replies.specs.Line.{Asked, Nothing, Asks, Faulty, asks}
+use Rattle.mp_replies.specs.Commands.{made}
 use Rattle.mp_replies.specs.MotifsCommand.{motif_query}
 use Rattle.mp_replies.specs.Numbers.{columns, refs}
 use Rattle.mp_replies.specs.Shapes.{Shape, by_shape}
@@ -26,7 +27,7 @@ cause_of fault.Number = cause.Number
 abbrev pub asked_by : Command → Asked
 asked_by Blank = Nothing
 asked_by (Session version) = Asks (asked.Session version)
-asked_by (Open slot channels) = Asks (asked.OpenSlot slot channels)
+asked_by (Open slot channels) = Asks (asked.OpenAnew slot channels)
 asked_by (Load slot file cols header) = Asks (asked.Load slot file.now (unwrap_or (columns cols.field.now) []) header)
 asked_by (Append slot items) = Asks (asked.Append slot (fields_in items.now))
 asked_by (Window at start) = Asks (asked.Window at start)

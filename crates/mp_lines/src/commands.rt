@@ -2,7 +2,8 @@
 
 ghost use Rattle.std.specs.Prelude.{◌≡◌};
 ghost use Rattle.mp_bytes.specs.Fields.{fields_in};
-ghost use Rattle.mp_replies.specs.Line.{asked_of, asks, command_in, forms};
+ghost use Rattle.mp_replies.specs.Line.{asked_of, asks, command_in};
+ghost use Rattle.mp_replies.specs.Commands.{forms};
 ghost use Rattle.mp_replies.specs.State.{first_version};
 ghost use Rattle.mp_lines.specs.Lines.{read_as};
 

@@ -13,8 +13,10 @@ use Rattle.mp_replies.specs.State.{Files, State, version_of}
 use Rattle.mp_replies.specs.Change.{Change}
 use Rattle.mp_replies.specs.Conditions.{first_cause}
 use Rattle.mp_replies.specs.Command.{Command}
-use Rattle.mp_replies.specs.Answer.{Report, Silent, Accepted, Ended}
-use Rattle.mp_replies.specs.Line.{Asked, Nothing, Asks, Faulty, asks, asked_in, asked_of, command_in, forms}
+use Rattle.mp_replies.specs.Answer.{Silent, Accepted, Ended}
+use Rattle.mp_replies.specs.Command.{Report}
+use Rattle.mp_replies.specs.Line.{Asked, Nothing, Asks, Faulty, asks, asked_in, asked_of, command_in}
+use Rattle.mp_replies.specs.Commands.{forms}
 use Rattle.mp_replies.specs.Step.{Verdict, Passes, IsRefused, IsAccepted, verdict, verdict_by, verdict_of, change_by}
 use Rattle.mp_replies.specs.Step.{conditions, after, answer, answer_by, is_last, report_by}
 use Rattle.mp_replies.specs.Laws.{QuietLinesAreSilent}

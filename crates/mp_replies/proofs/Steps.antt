@@ -3,7 +3,8 @@ use Rattle.std.proofs.Common.{◌≡◌, ℕ, ◌+◌, Bool, true, false, List, 
 use Rattle.std.specs.Prelude.{Option, Some, None, is_none, if◌then◌else◌}
 use Rattle.mp_replies.specs.declared.causes.Cause.{Cause}
 use Rattle.mp_replies.specs.State.{Files, State, opening, version_of}
-use Rattle.mp_replies.specs.Answer.{Accepted, Ended, Refused, Report}
+use Rattle.mp_replies.specs.Answer.{Accepted, Ended, Refused}
+use Rattle.mp_replies.specs.Command.{Report}
 use Rattle.mp_replies.specs.Change.{Change}
 use Rattle.mp_replies.specs.Command.{Command, Load, End}
 use Rattle.mp_replies.specs.Conditions.{Condition, first_cause}

@@ -2,7 +2,7 @@
 use Rattle.std.specs.Prelude.{ℕ, List, [], ◌∷◌, ◌++◌, length, codes, decimal, flat_map}
 use Rattle.mp_results.specs.Chains.{chain_from}
 use Rattle.mp_defs.specs.Profile.{Columns, matrix_profile}
-use Rattle.mp_replies.specs.Answer.{Report, ChainReport}
+use Rattle.mp_replies.specs.Command.{Report, ChainReport}
 use Rattle.mp_replies.specs.Conditions.{Condition, no_slot, no_channel, no_window}
 use Rattle.mp_replies.specs.declared.refs.Ref.{Ref}
 use Rattle.mp_replies.specs.State.{State, Store, series_at}

@@ -2,7 +2,7 @@
 use Rattle.std.specs.Prelude.{ℕ, List, [], ◌∷◌, ◌++◌, length, codes, decimal, flat_map, Option, Some, None}
 use Rattle.mp_results.specs.Chains.{chains_of, longest_of}
 use Rattle.mp_defs.specs.Profile.{Columns, matrix_profile}
-use Rattle.mp_replies.specs.Answer.{Report, ChainsReport}
+use Rattle.mp_replies.specs.Command.{Report, ChainsReport}
 use Rattle.mp_replies.specs.Conditions.{Condition, no_slot, no_channel}
 use Rattle.mp_replies.specs.declared.refs.Ref.{Ref}
 use Rattle.mp_replies.specs.State.{State, Store, series_at}

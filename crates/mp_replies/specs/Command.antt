@@ -1,13 +1,19 @@
--- The commands.
-use Rattle.std.specs.Prelude.{ℕ, Bool, List}
-use Rattle.mp_results.specs.Motifs.{MotifQuery}
+-- The commands, and what they report, as data.
+use Rattle.std.specs.Prelude.{ℕ, Bool, List, Option}
+use Rattle.mp_nums.specs.declared.finds.Discord.{Discord}
+use Rattle.mp_nums.specs.declared.nearest.Near.{Near}
+use Rattle.mp_nums.specs.declared.nearest.Sq.{Sq}
+use Rattle.mp_defs.specs.Profile.{Columns}
+use Rattle.mp_defs.specs.Series.{Series}
+use Rattle.mp_results.specs.Consensus.{Central}
+use Rattle.mp_results.specs.Motifs.{MotifQuery, Repeated}
 use Rattle.mp_replies.specs.declared.refs.Ref.{Ref}
 
 pub data Command : Type 0 where
   -- the version of the lines that follow
   Session : (version : ℕ) → Command
-  -- put so many empty channels into a slot
-  OpenSlot : (slot channels : ℕ) → Command
+  -- open a slot anew, with so many empty channels
+  OpenAnew : (slot channels : ℕ) → Command
   -- put these columns of a file into a slot
   Load : (slot : ℕ) (file : List ℕ) (columns : List ℕ) (header : Bool) → Command
   -- add the items, in order
@@ -39,3 +45,30 @@ pub data Command : Type 0 where
   Consensus : (refs : List Ref) → Command
   -- end the run
   End : Command
+
+-- what an accepted command reports
+pub data Report : Type 0 where
+  SessionReport : Report
+  -- the number of samples in each channel of the slot
+  OpenReport : (samples : ℕ) → Report
+  LoadReport : (samples : ℕ) → Report
+  AppendReport : (samples : ℕ) → Report
+  -- the samples of the window at a start, and how many of their digits stand behind the point
+  WindowReport : (start : ℕ) (samples : Series) (scale : ℕ) → Report
+  ProfileReport : (columns : Columns) → Report
+  -- the entry of the window at a start, and its left and right entries
+  EntryReport : (start : ℕ) (all left right : Option Near) → Report
+  -- the entry of each window in another series
+  JoinReport : (slots : List (Option Near)) → Report
+  MpdistReport : (dist : Option Sq) → Report
+  -- the entry of each window by several channels together
+  MultiReport : (slots : List (Option Near)) → Report
+  MatchReport : (list : List Near) → Report
+  MotifsReport : (list : List Repeated) → Report
+  DiscordsReport : (list : List Discord) → Report
+  ChainReport : (chain : List ℕ) → Report
+  ChainsReport : (chains : List (List ℕ)) → Report
+  -- the places of the regimes, and the curve that they lie on, a fraction for each place
+  SegmentsReport : (places : List ℕ) (curve : List (ℕ × ℕ)) → Report
+  ConsensusReport : (centre : Option Central) → Report
+  EndReport : Report

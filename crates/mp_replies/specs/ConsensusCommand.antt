@@ -4,7 +4,7 @@ use Rattle.std.specs.Prelude.{Option, Some, None}
 use Rattle.std.specs.List.{enumerate_from}
 use Rattle.mp_nums.specs.declared.nearest.Near.{Near}
 use Rattle.mp_results.specs.Consensus.{Central, centre_of}
-use Rattle.mp_replies.specs.Answer.{Report, ConsensusReport}
+use Rattle.mp_replies.specs.Command.{Report, ConsensusReport}
 use Rattle.mp_replies.specs.Command.{Command, Consensus}
 use Rattle.mp_replies.specs.Conditions.{Condition, no_slots, no_channels}
 use Rattle.mp_replies.specs.Limits.{min_refs, max_refs}

@@ -4,7 +4,7 @@ use Rattle.mp_nums.specs.declared.finds.Discord.{Discord}
 use Rattle.mp_defs.specs.Profile.{matrix_profile}
 use Rattle.mp_defs.specs.Window.{excl}
 use Rattle.mp_results.specs.Discords.{discords}
-use Rattle.mp_replies.specs.Answer.{Report, DiscordsReport}
+use Rattle.mp_replies.specs.Command.{Report, DiscordsReport}
 use Rattle.mp_replies.specs.Conditions.{Condition, no_slot, no_channel}
 use Rattle.mp_replies.specs.declared.refs.Ref.{Ref}
 use Rattle.mp_replies.specs.State.{State, Store, series_at}

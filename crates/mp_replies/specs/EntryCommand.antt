@@ -2,7 +2,7 @@
 use Rattle.std.specs.Prelude.{ℕ, List, [], ◌∷◌, ◌++◌, codes, decimal, slice_index_or, Option, None}
 use Rattle.mp_nums.specs.declared.nearest.Near.{Near}
 use Rattle.mp_defs.specs.Profile.{Columns, matrix_profile}
-use Rattle.mp_replies.specs.Answer.{Report, EntryReport}
+use Rattle.mp_replies.specs.Command.{Report, EntryReport}
 use Rattle.mp_replies.specs.Conditions.{Condition, no_slot, no_channel, no_window}
 use Rattle.mp_replies.specs.declared.refs.Ref.{Ref}
 use Rattle.mp_replies.specs.State.{State, Store, series_at}

@@ -7,7 +7,7 @@ use Rattle.mp_bytes.specs.Fields.{fields}
 use Rattle.mp_bytes.specs.Lines.{lines, ended_lines}
 use Rattle.mp_replies.specs.AppendCommand.{item_of}
 use Rattle.mp_replies.specs.declared.refs.Ref.{Ref}
-use Rattle.mp_replies.specs.Command.{Session, OpenSlot, Load, Append, Profile, End}
+use Rattle.mp_replies.specs.Command.{Session, OpenAnew, Load, Append, Profile, End}
 use Rattle.mp_replies.specs.Command.{Join, Multi, Match, Motifs, Discords, Chain, Chains, Segments, Mpdist, Consensus}
 use Rattle.mp_replies.specs.Conditions.{first_cause}
 use Rattle.mp_replies.specs.Line.{Asked, Nothing, Asks, Faulty, asked_of}
@@ -95,7 +95,7 @@ pub record AskedLines : Type 0 where
   pub no_items : asked (codes "append 0") ≡ Faulty cause.Fields
   pub no_slot : asked (codes "append x 1") ≡ Faulty cause.Number
   pub items : asked (codes "append 00 1 2") ≡ Asks (Append 0 (codes "1" ∷ codes "2" ∷ []))
-  pub open_two : asked (codes "open 1 2") ≡ Asks (OpenSlot 1 2)
+  pub open_two : asked (codes "open 1 2") ≡ Asks (OpenAnew 1 2)
   pub columns : asked (codes "load 1 day.csv 1,2 header") ≡ Asks (Load 1 (codes "day.csv") (1 ∷ 2 ∷ []) true)
   pub no_header : asked (codes "load 1 day.csv 1,2") ≡ Asks (Load 1 (codes "day.csv") (1 ∷ 2 ∷ []) false)
   pub other_header : asked (codes "load 1 day.csv 1,2 head") ≡ Faulty cause.Fields

@@ -2,7 +2,7 @@
 use Rattle.std.specs.Prelude.{ℕ, List, [], ◌∷◌, ◌++◌, codes, Option}
 use Rattle.mp_nums.specs.declared.nearest.Near.{Near}
 use Rattle.mp_defs.specs.Profile.{ab_join}
-use Rattle.mp_replies.specs.Answer.{Report, JoinReport}
+use Rattle.mp_replies.specs.Command.{Report, JoinReport}
 use Rattle.mp_replies.specs.Conditions.{Condition, no_slots, no_channels}
 use Rattle.mp_replies.specs.declared.refs.Ref.{Ref}
 use Rattle.mp_replies.specs.State.{State, Store, series_at}

@@ -10,7 +10,8 @@ use Rattle.mp_replies.specs.declared.causes.Cause.{Cause}
 use Rattle.mp_replies.specs.declared.causes.Cause.TheVariants as words
 use Rattle.mp_replies.specs.Words.{Job}
 use Rattle.mp_replies.specs.State.{Files, State, channels_at, version_of}
-use Rattle.mp_replies.specs.Answer.{Silent, Refused, Ended, Report}
+use Rattle.mp_replies.specs.Answer.{Silent, Refused, Ended}
+use Rattle.mp_replies.specs.Command.{Report}
 use Rattle.mp_replies.specs.Command.{Command, Load, Append, Match, Motifs, Discords, Segments, Consensus}
 use Rattle.mp_replies.specs.Limits.{max_channels, max_column, max_count, max_factor, max_motifs, max_refs, max_square}
 use Rattle.mp_replies.specs.Limits.{min_refs}

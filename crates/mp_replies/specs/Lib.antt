@@ -5,6 +5,7 @@ pub mod Words
 pub mod Conditions
 pub mod Change
 pub mod Command
+pub mod Commands
 pub mod Answer
 pub mod Text
 pub mod Shapes

@@ -19,7 +19,8 @@ use Rattle.mp_replies.specs.ConsensusCommand.{consensus_fits, consensus_shape}
 use Rattle.mp_replies.specs.Limits.{max_channels, max_column, max_count, max_digits, max_factor, max_motifs, max_refs}
 use Rattle.mp_replies.specs.Limits.{max_square, min_refs}
 use Rattle.mp_replies.specs.LoadCommand.{header_of, load_shape}
-use Rattle.mp_replies.specs.Line.{Nothing, Asks, Faulty, Form, asked_in, asked_of, asks, command_in, forms, made, row}
+use Rattle.mp_replies.specs.Line.{Nothing, Asks, Faulty, asked_in, asked_of, asks, command_in}
+use Rattle.mp_replies.specs.Commands.{Form, forms, made, row}
 use Rattle.mp_replies.specs.MatchCommand.{match_shape}
 use Rattle.mp_replies.specs.MotifsCommand.{motif_query, motifs_shape}
 use Rattle.mp_replies.specs.Numbers.{all_some, column, columns, count, factor, few, neighbours, number, onto_some}

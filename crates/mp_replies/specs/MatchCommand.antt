@@ -6,7 +6,7 @@ use Rattle.mp_defs.specs.Window.{excl, is_free}
 use Rattle.mp_results.specs.Slide.{distances_of}
 use Rattle.mp_results.specs.Matches.{matches}
 use Rattle.mp_replies.specs.declared.causes.Cause.TheVariants.{Missing}
-use Rattle.mp_replies.specs.Answer.{Report, MatchReport}
+use Rattle.mp_replies.specs.Command.{Report, MatchReport}
 use Rattle.mp_replies.specs.Command.{Command, Match}
 use Rattle.mp_replies.specs.Conditions.{Condition, when, no_slots, no_channels, no_window}
 use Rattle.mp_replies.specs.Numbers.{number, count, squared, ref}

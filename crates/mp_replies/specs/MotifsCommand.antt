@@ -1,7 +1,7 @@
 -- `motifs R COUNT CUTOFF RADIUS NEIGHBOURS MATCHES`: the repeated patterns of a channel.
 use Rattle.std.specs.Prelude.{ℕ, List, [], ◌∷◌, ◌++◌, length, codes, decimal, flat_map}
 use Rattle.mp_results.specs.Motifs.{MotifQuery, Repeated, motifs}
-use Rattle.mp_replies.specs.Answer.{Report, MotifsReport}
+use Rattle.mp_replies.specs.Command.{Report, MotifsReport}
 use Rattle.mp_replies.specs.Command.{Command, Motifs}
 use Rattle.mp_replies.specs.Conditions.{Condition, no_slot, no_channel}
 use Rattle.mp_replies.specs.Numbers.{few, squared, neighbours, ref}

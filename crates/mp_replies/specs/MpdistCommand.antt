@@ -4,7 +4,7 @@ use Rattle.mp_nums.specs.declared.nearest.Sq.{Sq}
 use Rattle.mp_defs.specs.Profile.{ab_join}
 use Rattle.mp_defs.specs.Series.{Series}
 use Rattle.mp_results.specs.Mpdist.{mpdist_of}
-use Rattle.mp_replies.specs.Answer.{Report, MpdistReport}
+use Rattle.mp_replies.specs.Command.{Report, MpdistReport}
 use Rattle.mp_replies.specs.Conditions.{Condition, no_slots, no_channels}
 use Rattle.mp_replies.specs.declared.refs.Ref.{Ref}
 use Rattle.mp_replies.specs.State.{State, Store, series_at}

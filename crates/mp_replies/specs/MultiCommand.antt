@@ -3,7 +3,7 @@ use Rattle.std.specs.Prelude.{ℕ, ◌||◌, not, nat_le, List, [], ◌∷◌, �
 use Rattle.mp_nums.specs.declared.nearest.Near.{Near}
 use Rattle.mp_results.specs.Multi.{multi_of as multi_profile}
 use Rattle.mp_replies.specs.declared.causes.Cause.TheVariants.{Channel}
-use Rattle.mp_replies.specs.Answer.{Report, MultiReport}
+use Rattle.mp_replies.specs.Command.{Report, MultiReport}
 use Rattle.mp_replies.specs.Conditions.{Condition, when, no_slot}
 use Rattle.mp_replies.specs.State.{State, Store, channels_at}
 use Rattle.mp_replies.specs.Text.{column_text}

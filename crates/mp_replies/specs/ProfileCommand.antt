@@ -2,7 +2,7 @@
 use Rattle.std.specs.Prelude.{ℕ, List, [], ◌∷◌, ◌++◌, length, codes, decimal, flat_map, slice_index_or, None}
 use Rattle.std.specs.List.{range_with_len}
 use Rattle.mp_defs.specs.Profile.{Columns, matrix_profile}
-use Rattle.mp_replies.specs.Answer.{Report, ProfileReport}
+use Rattle.mp_replies.specs.Command.{Report, ProfileReport}
 use Rattle.mp_replies.specs.Conditions.{Condition, no_slot, no_channel}
 use Rattle.mp_replies.specs.declared.refs.Ref.{Ref}
 use Rattle.mp_replies.specs.State.{State, Store, series_at}

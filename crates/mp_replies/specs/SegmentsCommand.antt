@@ -6,7 +6,7 @@ use Rattle.mp_results.specs.Arcs.{arcs_of, indices_of}
 use Rattle.mp_results.specs.Curve.{curve_of, whole}
 use Rattle.mp_results.specs.Regimes.{regimes_in}
 use Rattle.mp_defs.specs.Profile.{matrix_profile}
-use Rattle.mp_replies.specs.Answer.{Report, SegmentsReport}
+use Rattle.mp_replies.specs.Command.{Report, SegmentsReport}
 use Rattle.mp_replies.specs.Command.{Command, Segments}
 use Rattle.mp_replies.specs.Conditions.{Condition, no_slot, no_channel}
 use Rattle.mp_replies.specs.Numbers.{count, factor, ref}

@@ -1,104 +1,17 @@
 -- One line: why it is refused, what it changes and what it is answered.
 use Rattle.std.specs.Prelude.{ℕ, ◌+◌, Bool, true, false, List, [], ◌++◌, is_none, if◌then◌else◌, Option, Some, None}
 use Rattle.mp_replies.specs.declared.causes.Cause.{Cause}
-use Rattle.mp_replies.specs.State.{Files, State, channels_at, samples_in, version_of}
+use Rattle.mp_replies.specs.State.{Files, State, version_of}
 use Rattle.mp_replies.specs.Change.{Change, Keep, changed}
-use Rattle.mp_replies.specs.Command.{Command, Session, OpenSlot, Load, Append, Window, Profile, Entry, End}
-use Rattle.mp_replies.specs.Command.{Join, Multi, Match, Motifs, Discords, Chain, Chains, Segments, Mpdist, Consensus}
+use Rattle.mp_replies.specs.Command.{Command, Load, End, Report}
+use Rattle.mp_replies.specs.Commands.{meaning}
 use Rattle.mp_replies.specs.Conditions.{Condition, first_cause}
-use Rattle.mp_replies.specs.SessionCommand.{session_conditions}
-use Rattle.mp_replies.specs.OpenCommand.{open_conditions, open_change}
-use Rattle.mp_replies.specs.LoadCommand.{load_conditions, file_conditions, file_in, load_change}
-use Rattle.mp_replies.specs.AppendCommand.{append_conditions, append_change}
-use Rattle.mp_replies.specs.WindowCommand.{window_conditions, window_report}
-use Rattle.mp_replies.specs.ProfileCommand.{profile_conditions, profile_report}
-use Rattle.mp_replies.specs.EntryCommand.{entry_conditions, entry_report}
-use Rattle.mp_replies.specs.JoinCommand.{join_conditions, join_report}
-use Rattle.mp_replies.specs.MultiCommand.{multi_conditions, multi_report}
-use Rattle.mp_replies.specs.MatchCommand.{match_conditions, match_report}
-use Rattle.mp_replies.specs.MotifsCommand.{motifs_conditions, motifs_report}
-use Rattle.mp_replies.specs.DiscordsCommand.{discords_conditions, discords_report}
-use Rattle.mp_replies.specs.ChainCommand.{chain_conditions, chain_report}
-use Rattle.mp_replies.specs.ChainsCommand.{chains_conditions, chains_report}
-use Rattle.mp_replies.specs.SegmentsCommand.{segments_conditions, segments_report}
-use Rattle.mp_replies.specs.MpdistCommand.{mpdist_conditions, mpdist_report}
-use Rattle.mp_replies.specs.ConsensusCommand.{consensus_conditions, consensus_report}
-use Rattle.mp_replies.specs.Answer.{Report, SessionReport, OpenReport, LoadReport, AppendReport, EndReport, Answer}
+use Rattle.mp_replies.specs.LoadCommand.{load_conditions}
+use Rattle.mp_replies.specs.Answer.{Answer}
 use Rattle.mp_replies.specs.Answer.{Silent, Refused, Accepted, Ended}
 use Rattle.mp_replies.specs.Line.{Asked, Nothing, Asks, Faulty, asked_of}
 
 -- ---- each command
-
--- what a command means
-pub record Meaning : Type 0 where
-  -- what is tested without the files, word for word in their order
-  pub conditions : State → List Condition
-  -- and what is tested of a file, behind them
-  pub file_conditions : State → Files → List Condition
-  -- what it changes where nothing refuses it
-  pub change : State → Files → Change
-  -- what is reported of it, from the state behind it
-  pub report : State → Report
-
--- a command that changes nothing
-abbrev reporting : (State → List Condition) → (State → Report) → Meaning
-reporting conditions report = record {
-  conditions = conditions;
-  file_conditions = λ state files. [];
-  change = λ state files. Keep;
-  report = report;
-}
-
--- a command that changes a slot and reads no file
-abbrev changing : (State → List Condition) → (State → Change) → (State → Report) → Meaning
-changing conditions change report = record {
-  conditions = conditions;
-  file_conditions = λ state files. [];
-  change = λ state files. change state;
-  report = report;
-}
-
--- the number of samples in each channel of a slot
-abbrev samples_at : State → ℕ → ℕ
-samples_at state slot = samples_in (channels_at state.stores slot)
-
-abbrev pub meaning : Command → Meaning
-meaning (Session version) = reporting session_conditions (λ state. SessionReport)
-meaning (OpenSlot slot channels) =
-    changing (λ state. open_conditions slot channels) (λ state. open_change slot channels)
-    (λ state. OpenReport (samples_at state slot))
-meaning (Load slot file columns header) = record {
-  conditions = λ state. load_conditions state.stores slot columns;
-  file_conditions = λ state files. file_conditions state.scale columns header (file_in files file);
-  change = λ state files. load_change state.scale files slot file columns header;
-  report = λ state. LoadReport (samples_at state slot);
-}
-meaning (Append slot items) =
-    changing (λ state. append_conditions state.scale state.stores slot items)
-    (λ state. append_change state.scale state.stores slot items) (λ state. AppendReport (samples_at state slot))
-meaning (Window at start) =
-    reporting (λ state. window_conditions state.window state.stores at start) (λ state. window_report state at start)
-meaning (Profile at) = reporting (λ state. profile_conditions state.stores at) (λ state. profile_report state at)
-meaning (Entry at start) =
-    reporting (λ state. entry_conditions state.window state.stores at start) (λ state. entry_report state at start)
-meaning (Join a b) = reporting (λ state. join_conditions state.stores a b) (λ state. join_report state a b)
-meaning (Multi slot k) = reporting (λ state. multi_conditions state.stores slot k) (λ state. multi_report state slot k)
-meaning (Match at query start radius max) =
-    reporting (λ state. match_conditions state.window state.stores at query start)
-    (λ state. match_report state at query start radius max)
-meaning (Motifs at query) =
-    reporting (λ state. motifs_conditions state.stores at) (λ state. motifs_report state at query)
-meaning (Discords at count) =
-    reporting (λ state. discords_conditions state.stores at) (λ state. discords_report state at count)
-meaning (Chain at start) =
-    reporting (λ state. chain_conditions state.window state.stores at start) (λ state. chain_report state at start)
-meaning (Chains at) = reporting (λ state. chains_conditions state.stores at) (λ state. chains_report state at)
-meaning (Segments at count factor) =
-    reporting (λ state. segments_conditions state.stores at) (λ state. segments_report state at count factor)
-meaning (Mpdist a b) = reporting (λ state. mpdist_conditions state.stores a b) (λ state. mpdist_report state a b)
-meaning (Consensus refs) =
-    reporting (λ state. consensus_conditions state.stores refs) (λ state. consensus_report state refs)
-meaning End = reporting (λ state. []) (λ state. EndReport)
 
 abbrev pub state_conditions : State → Command → List Condition
 state_conditions state command = (meaning command).conditions state

@@ -2,7 +2,7 @@
 use Rattle.std.specs.Prelude.{ℕ, List, [], ◌∷◌, ◌++◌, take, drop, codes, decimal, flat_map}
 use Rattle.mp_defs.specs.Series.{Series}
 use Rattle.mp_text.specs.SampleText.{sample_text}
-use Rattle.mp_replies.specs.Answer.{Report, WindowReport}
+use Rattle.mp_replies.specs.Command.{Report, WindowReport}
 use Rattle.mp_replies.specs.Conditions.{Condition, no_slot, no_channel, no_window}
 use Rattle.mp_replies.specs.declared.refs.Ref.{Ref}
 use Rattle.mp_replies.specs.State.{State, Store, series_at}

@@ -1,15 +1,15 @@
-//! The texts of the reports, each with the bytes that the definitions give.
+//! The texts of the reports, each with the bytes that the definitions give. A writer has its name here and in its module.
 #![tactic(auto)]
 
-mod answers;
-mod chains;
-mod channels;
-mod matches;
+pub mod answers;
+pub mod chains;
+pub mod channels;
+pub mod matches;
 mod numbers;
-mod profiles;
-mod segments;
-mod slots;
-mod summaries;
+pub mod profiles;
+pub mod segments;
+pub mod slots;
+pub mod summaries;
 
 pub use answers::{ok_text, refused_text};
 pub use chains::{chain_text, chains_text};

@@ -4,7 +4,7 @@ ghost use Rattle.std.specs.Prelude.{◌≡◌, ◌<◌, ◌≤◌, ◌++◌, len
 ghost use Rattle.mp_defs.specs.Series.{series_of};
 ghost use Rattle.mp_replies.specs.EntryCommand.{entry_in};
 ghost use Rattle.mp_replies.specs.ProfileCommand.{profile_text as profile_text_of, rows_text};
-ghost use Rattle.mp_replies.specs.Report.{report_text};
+ghost use Rattle.mp_replies.specs.Commands.{report_text};
 ghost use Rattle.mp_replies.specs.WindowCommand.{samples_text, window_text as window_text_of};
 ghost use Rattle.mp_replies.specs.Profiles.{columns_in};
 

@@ -3,7 +3,7 @@ use Rattle.std.proofs.Common.{◌≡◌, ℕ, zero, suc, ◌+◌, ◌==◌, Bool
 use Rattle.std.proofs.Common.{◌∙◌, sym, subst, arith}
 use Rattle.std.proofs.lemmas.Bool.Decides.{nat_tests}
 use Rattle.std.specs.Prelude.{Option, Some, None, is_none, if◌then◌else◌}
-use Rattle.mp_commands.specs.Answers.{is_accepted, kind_of}
+use Rattle.mp_commands.specs.Commands.{is_accepted, kind_of}
 use Rattle.mp_commands.specs.declared.answers.ReplyKind.TheVariants as kinds
 use Rattle.mp_replies.specs.declared.causes.Cause.{Cause}
 use Rattle.mp_replies.specs.declared.causes.Cause.TheVariants.{File, FileSize, Record, Rows}
@@ -11,34 +11,31 @@ use Rattle.mp_replies.specs.Change.{Change, changed}
 use Rattle.mp_replies.specs.Command as asked
 use Rattle.mp_replies.specs.Command.{Command}
 use Rattle.mp_replies.specs.Conditions.{Condition, first_cause}
-use Rattle.mp_replies.specs.Line.{Asked, Asks, Faulty, Nothing, asked_of}
+use Rattle.mp_replies.specs.Line.{Asked, Asks, asked_of}
 use Rattle.mp_replies.specs.LoadCommand.{file_conditions, file_in, load_conditions}
 use Rattle.mp_replies.specs.Output.{reply}
 use Rattle.mp_replies.specs.Report.{text_of}
-use Rattle.mp_replies.specs.State.{Files, State, Store, store_at}
-use Rattle.mp_replies.specs.Step.{IsAccepted, IsRefused, Passes, Verdict, after, after_by, answer, answer_by}
+use Rattle.mp_replies.specs.State.{Files, State, Store, store_at, version_of}
+use Rattle.mp_replies.specs.Step.{IsAccepted, Verdict, after, after_by, answer, answer_by}
 use Rattle.mp_replies.specs.Step.{change_by, conditions, counted, fetches, fetches_by, is_last, report_by, verdict}
 use Rattle.mp_replies.specs.Step.{verdict_by, verdict_of}
 use Rattle.mp_commands.specs.declared.replies.Reply.{Reply}
-use Rattle.mp_session.specs.Sessions.{IsFileRefused, IsOfFile, IsReplyBySome, SessionParts, StandsFor, WasAccepted}
-use Rattle.mp_session.specs.Sessions.{changes}
+use Rattle.mp_session.specs.Sessions.{IsFileRefused, IsOfFile, IsReplyBySome, IsReplyOverAny, SessionParts}
+use Rattle.mp_session.specs.Sessions.{StandsFor, WasAccepted, changes}
 use Rattle.mp_session.proofs.StepLemmas.{accepted_by}
-use Rattle.mp_replies.specs.State.{version_of}
 
 -- ---- a line that isn't accepted
 
 counted_by : (state later : State) (v : Verdict) → is_accepted (kind_of (answer_by later v)) ≡ false
     → after_by state v ≡ counted state
-counted_by state later Passes h = refl
-counted_by state later (IsRefused why) h = refl
 counted_by state later (IsAccepted command change) h =
     absurd (cc (accepted_by (is_last command) (report_by later command), h))
+counted_by state later other h = refl
 
-pub unaccepted_after : (state : State) (line : List ℕ) (files : Files)
+unaccepted_after : (state : State) (line : List ℕ) (files : Files)
     → is_accepted (kind_of (answer state line files)) ≡ false → after state line files ≡ counted state
 unfolding answer after
-unaccepted_after state line files h =
-    counted_by state (after_by state (verdict state line files)) (verdict state line files) h
+unaccepted_after state line files h = counted_by state (after state line files) (verdict state line files) h
 
 -- ---- one that is
 
@@ -53,7 +50,7 @@ other_store (s ∷ stores) (suc at) (suc slot) store apart =
 
 others_stay : (state : State) (files : Files) (command : Command) (slot : ℕ) → changes (Asks command) slot ≡ false
     → store_at (changed state.stores (change_by state files command)) slot ≡ store_at state.stores slot
-others_stay state files (asked.OpenSlot at channels) slot apart = other_store state.stores at slot _ apart
+others_stay state files (asked.OpenAnew at channels) slot apart = other_store state.stores at slot _ apart
 others_stay state files (asked.Load at file columns header) slot apart = other_store state.stores at slot _ apart
 others_stay state files (asked.Append at items) slot apart = other_store state.stores at slot _ apart
 others_stay state files other slot apart = refl
@@ -70,20 +67,17 @@ accepted_where state later new command None change stay h stands =
 accepted_of : (state later : State) (new : SessionParts) (files : Files) (what : Asked)
     → is_accepted (kind_of (answer_by later (verdict_of state files what))) ≡ true
     → StandsFor new (after_by state (verdict_of state files what)) → WasAccepted what state new
-accepted_of state later new files Nothing h stands = absurd (cc h)
-accepted_of state later new files (Faulty why) h stands = absurd (cc h)
 accepted_of state later new files (Asks command) h stands =
-    accepted_where state later new command (first_cause (conditions state files command)) (change_by state files
-    command)
-    (others_stay state files command) h stands
+    accepted_where state later new command (first_cause (conditions state files command))
+    (change_by state files command) (others_stay state files command) h stands
+accepted_of state later new files other h stands = absurd (cc h)
 
-pub was_accepted : (state : State) (new : SessionParts) (line : List ℕ) (files : Files)
+was_accepted : (state : State) (new : SessionParts) (line : List ℕ) (files : Files)
     → is_accepted (kind_of (answer state line files)) ≡ true → StandsFor new (after state line files)
     → WasAccepted (asked_of (version_of state) line) state new
 unfolding answer after verdict
 was_accepted state new line files h stands =
-    accepted_of state (after_by state (verdict_of state files (asked_of (version_of state) line))) new files (asked_of
-    (version_of state) line) h stands
+    accepted_of state (after state line files) new files (asked_of (version_of state) line) h stands
 
 -- ---- a load that is refused by its file
 
@@ -124,8 +118,6 @@ refused_where later slot line file cols header None change text of kind is = abs
 refused_of : (state later : State) (files : Files) (what : Asked) (line : ℕ) (text : List ℕ)
     → fetches_by state what ≡ true → kinds.Refused ≡ kind_of (answer_by later (verdict_of state files what))
     → text ≡ text_of line (answer_by later (verdict_of state files what)) → IsFileRefused line text
-refused_of state later files Nothing line text asks kind is = absurd (cc asks)
-refused_of state later files (Faulty why) line text asks kind is = absurd (cc asks)
 refused_of state later files (Asks (asked.Load slot file cols header)) line text asks kind is =
     refused_where later slot line file cols header
     (first_cause (conditions state files (asked.Load slot file cols header)))
@@ -134,9 +126,9 @@ refused_of state later files (Asks (asked.Load slot file cols header)) line text
     (sym (behind (load_conditions state.stores slot cols)
     (file_conditions state.scale cols header (file_in files file)) asks) ∙ h))
     kind is
-refused_of state later files (Asks other) line text asks kind is = absurd (cc asks)
+refused_of state later files other line text asks kind is = absurd (cc asks)
 
-pub file_refused : (state : State) (line : List ℕ) (files : Files) (text : List ℕ) → fetches state line ≡ true
+file_refused : (state : State) (line : List ℕ) (files : Files) (text : List ℕ) → fetches state line ≡ true
     → kinds.Refused ≡ kind_of (answer state line files) → text ≡ reply state line files
     → IsFileRefused (state.lines + 1) text
 unfolding answer verdict fetches reply
@@ -146,21 +138,14 @@ file_refused state line files text asks kind is =
 
 -- ---- what a reply by some files says of the session
 
-module _ (state : State) (old new : SessionParts) (line : List ℕ) (answered : Reply)
-    (some : IsReplyBySome line old new answered) (h : StandsFor old state) where
-  pub unaccepted_by : is_accepted answered.kind ≡ false → StandsFor new (counted state)
-  unaccepted_by unaccepted =
-      let by = some.is state h in
-      subst (StandsFor new) (unaccepted_after state line some.files (ap is_accepted (sym by.kind)
-      ∙ unaccepted)) by.after
-
-  pub accepted_by_some : is_accepted answered.kind ≡ true → WasAccepted (asked_of (version_of state) line) state new
-  accepted_by_some accepted =
-      let by = some.is state h in
-      was_accepted state new line some.files (ap is_accepted (sym by.kind) ∙ accepted) by.after
-
-  pub file_refused_by : fetches state line ≡ true → answered.kind ≡ kinds.Refused
-      → IsFileRefused (state.lines + 1) answered.text.items
-  file_refused_by asks refused =
-      let by = some.is state h in
-      file_refused state line some.files answered.text.items asks (sym refused ∙ by.kind) by.text
+pub over_any : (state : State) (old new : SessionParts) (line : List ℕ) (answered : Reply)
+    → IsReplyBySome line old new answered → StandsFor old state → IsReplyOverAny state line new answered
+over_any state old new line answered some h =
+    let by = some.is state h in
+    record {
+      unaccepted = λ no.
+          subst (StandsFor new) (unaccepted_after state line some.files (ap is_accepted (sym by.kind) ∙ no)) by.after;
+      accepted = λ yes. was_accepted state new line some.files (ap is_accepted (sym by.kind) ∙ yes) by.after;
+      file_refused = λ asks refused.
+          file_refused state line some.files answered.text.items asks (sym refused ∙ by.kind) by.text;
+    }

@@ -17,9 +17,9 @@ use Rattle.mp_commands.specs.declared.prepared.Change.{Change}
 use Rattle.mp_commands.specs.declared.prepared.Change.TheVariants.{Keep, PutChannels, AddSamples}
 use Rattle.mp_commands.specs.declared.prepared.Prepared.{Prepared}
 use Rattle.mp_commands.specs.declared.replies.Reply.{Reply}
-use Rattle.mp_commands.specs.Answers.{is_accepted, kind_by}
+use Rattle.mp_commands.specs.Commands.{is_accepted, is_unread, kind_by}
 use Rattle.mp_commands.specs.Preparing.{AddsAsAsked, IsReady, adds, puts}
-use Rattle.mp_commands.specs.Reads.{AreUnread, IsKept, WereRead, append_reads, is_unread, most_added, most_lent}
+use Rattle.mp_commands.specs.Reads.{AreUnread, IsKept, WereRead, append_reads, most_added, most_lent}
 use Rattle.mp_commands.specs.Reads.{most_reads, renews}
 use Rattle.mp_session.specs.Sessions.{AddsEach, WereReadBy}
 
@@ -86,19 +86,12 @@ most_is old mid new asked change slot put is rest added kept =
 -- ---- a line that reads no sample
 
 lent_none : (held : Stored) (what : Asked) (slot : ℕ) → is_unread what ≡ true → most_lent held what slot ≡ 0
-lent_none held (Asks (asked.Window at start)) slot is = absurd (cc is)
-lent_none held (Asks (asked.Join a b)) slot is = absurd (cc is)
-lent_none held (Asks (asked.Mpdist a b)) slot is = absurd (cc is)
-lent_none held (Asks (asked.Match at query start radius max)) slot is = absurd (cc is)
-lent_none held (Asks (asked.Motifs at query)) slot is = absurd (cc is)
-lent_none held (Asks (asked.Multi at k)) slot is = absurd (cc is)
-lent_none held (Asks (asked.Consensus refs)) slot is = absurd (cc is)
-lent_none held other slot is = refl
+lent_none held (Asks (asked.Window at start)) slot is = cc
+lent_none held other slot is = cc
 
 renews_none : (what : Asked) (slot : ℕ) → is_unread what ≡ true → renews what slot ≡ false
-renews_none (Asks (asked.OpenSlot at channels)) slot is = absurd (cc is)
-renews_none (Asks (asked.Load at file columns header)) slot is = absurd (cc is)
-renews_none other slot is = refl
+renews_none (Asks (asked.OpenAnew at channels)) slot is = cc
+renews_none other slot is = cc
 
 adds_none : (what : Asked) (change : Change) (slot : ℕ) → AddsAsAsked what change → is_unread what ≡ true
     → adds change slot ≡ false

@@ -9,17 +9,16 @@ use Rattle.mp_feed.specs.Writing.{none}
 use Rattle.mp_feed.specs.WritingLaws.{wrote_on}
 use Rattle.mp_bytes.specs.Lines.{cut}
 use Rattle.mp_replies.specs.CutLaws.{ends_cut}
-use Rattle.mp_replies.specs.State.{Files, State}
+use Rattle.mp_replies.specs.State.{Files, State, version_of}
 use Rattle.mp_replies.specs.Step.{cause, after, fetches}
 use Rattle.mp_replies.specs.Output.{reply, replies, state_after, some_refused, some_ends, until_end}
 use Rattle.mp_replies.specs.Line.{asked_of, ends}
 use Rattle.mp_commands.specs.Preparing.{ToldFor}
-use Rattle.mp_session.specs.Sessions.{SessionParts, StandsFor, ToldForAll, some_fetch}
-use Rattle.mp_session.specs.Running.{HaveRun, Course, WereRun}
-use Rattle.mp_replies.specs.State.{version_of}
+use Rattle.mp_session.specs.Sessions.{AsksNoFile, SessionParts, StandsFor, ToldForAll, some_fetch}
+use Rattle.mp_session.specs.Running.{HaveRun, Course, WereRun, course_at}
 
 pub not_both : {P : Type 0} {b : Bool} → b ≡ true → b ≡ false → P
-not_both t f = let clash : true ≡ false = sym t ∙ f in absurd (cc clash)
+not_both t f = cc
 
 -- ---- lists of lines
 
@@ -94,16 +93,8 @@ told_line state files line t = λ asks. t (rw asks refl)
 
 -- ---- sessions
 
-pub have_run_none : (told : Option Files) (session : SessionParts) → HaveRun told [] [] session session false
-have_run_none told session = record {
-  texts_are = λ state files h t. refl;
-  stands = λ state files h t. h;
-  refused_is = λ state files h t. refl;
-  count = omega arith;
-}
-
 -- the session stopped at a line, and is as before
-pub have_run_stopped : (told : Option Files) (old new : SessionParts)
+have_run_stopped : (told : Option Files) (old new : SessionParts)
     → ((state : State) → StandsFor old state → StandsFor new state)
     → new.lines ≡ old.lines → HaveRun told [] [] old new false
 have_run_stopped told old new stop count = record {
@@ -157,11 +148,25 @@ have_run_one told line text old new refused text_is later is count = record {
   count = omega (arith, count);
 }
 
+-- a line that can't fail where it asks for no file asks for one, where it failed
+pub asks_where : (session : SessionParts) (state : State) (line : List ℕ) → StandsFor session state
+    → (AsksNoFile line session → ⊥) → fetches state line ≡ true
+asks_where session state line h failed =
+    ⊎_elim (λ (asks : fetches state line ≡ true). asks)
+    (λ (asks : fetches state line ≡ false). absurd (failed (record { state = state; stand = h; none = asks })))
+    (cases_Bool (fetches state line))
+
 -- ---- sessions and sinks
 
 module _ {Out : Type 0} {sink : Ghosts Out} where
+  pub were_run_stopped : (told : Option Files) (old new : SessionParts) {left : Option (List ℕ)} {out : Out}
+      → ((state : State) → StandsFor old state → StandsFor new state) → new.lines ≡ old.lines
+      → WereRun sink told [] (course_at old left out) (course_at new left out) false
+  were_run_stopped told old new stop count =
+      record { texts = []; run = have_run_stopped told old new stop count; wrote = none }
+
   pub were_run_none : (told : Option Files) (course : Course Out) → WereRun sink told [] course course false
-  were_run_none told course = record { texts = []; run = have_run_none told course.session; wrote = none }
+  were_run_none told course = were_run_stopped told course.session course.session (λ state h. h) refl
 
   pub were_run_on : {told : Option Files} {lines more : List (List ℕ)} {old mid new : Course Out} {refused later : Bool}
       → WereRun sink told lines old mid refused → WereRun sink told more mid new later

@@ -3,27 +3,25 @@ use Rattle.std.proofs.Common.{◌≡◌, ℕ, ◌+◌, Bool, true, false, ◌||�
 use Rattle.std.proofs.Math.Bool.{or-false, or-true}
 use Rattle.std.specs.Prelude.{Option, is_some, if◌then◌else◌}
 use Rattle.mp_replies.specs.Answer as replies
-use Rattle.mp_replies.specs.Answer.{Report}
+use Rattle.mp_replies.specs.Command.{Report}
 use Rattle.mp_replies.specs.Change.{changed}
 use Rattle.mp_replies.specs.Line.{Asked, asked_of}
-use Rattle.mp_replies.specs.State.{Files, State, Store}
-use Rattle.mp_replies.specs.Step.{Verdict, Passes, IsRefused, IsAccepted, verdict, verdict_of, cause, cause_in}
+use Rattle.mp_replies.specs.State.{Files, State, Store, version_of}
+use Rattle.mp_replies.specs.Step.{Verdict, IsAccepted, verdict, verdict_of, cause, cause_in}
 use Rattle.mp_replies.specs.Step.{change_in, after, after_by, answer, answer_by, fetches, fetches_by, is_last}
 use Rattle.mp_replies.specs.Step.{report_by}
 use Rattle.mp_replies.specs.Output.{reply}
 use Rattle.mp_replies.specs.Report.{text_of}
 use Rattle.mp_stores.specs.StoreLaws.{stand_as_before}
-use Rattle.mp_stores.specs.Stores.{StandAsBefore, StandFor}
+use Rattle.mp_stores.specs.Stores.{StandAsBefore, StandFor, Stored}
 use Rattle.mp_commands.specs.declared.prepared.Prepared.{Prepared}
 use Rattle.mp_commands.specs.declared.answers.Answer.{Answer}
-use Rattle.mp_commands.specs.declared.answers.Answer.TheVariants.{Silent, Refused, Accepted, Ended}
-use Rattle.mp_commands.specs.Answers.{AreSlotsOf, answered, kind_by, kind_of, is_accepted, is_refused}
+use Rattle.mp_commands.specs.declared.answers.Answer.TheVariants.{Silent}
+use Rattle.mp_commands.specs.Commands.{AreSlotsOf, answered, kind_by, kind_of, is_accepted, is_refused}
 use Rattle.mp_commands.specs.declared.context.Context.{Context}
 use Rattle.mp_commands.specs.declared.replies.Reply.{Reply}
-use Rattle.mp_commands.specs.Preparing.{IsAsked, IsPrepared, NeedsNoFile, ToldFor, state_over, version_in}
-use Rattle.mp_outside.specs.declared.shelves.Shelf as shelves
-use Rattle.mp_session.specs.Sessions.{AsksNoFile, HasCommitted, IsReplyBy, SessionParts, StandsFor}
-use Rattle.mp_replies.specs.State.{version_of}
+use Rattle.mp_commands.specs.Preparing.{IsPrepared, NeedsNoFile, ToldFor, state_over}
+use Rattle.mp_session.specs.Sessions.{AsksNoFile, HasCommitted, IsReplyBy, SessionParts, StandsFor, version_at}
 
 -- ---- kinds
 
@@ -33,9 +31,8 @@ refused_by true report = refl
 refused_by false report = refl
 
 refused_in : (later : State) (v : Verdict) → is_refused (kind_of (answer_by later v)) ≡ is_some (cause_in v)
-refused_in later Passes = refl
-refused_in later (IsRefused why) = refl
 refused_in later (IsAccepted command change) = refused_by (is_last command) (report_by later command)
+refused_in later other = refl
 
 pub refused_kind : (state : State) (line : List ℕ) (files : Files)
     → is_refused (kind_of (answer state line files)) ≡ is_some (cause state line files)
@@ -84,9 +81,7 @@ text_is state files line prepared step = ap (text_of (state.lines + 1)) step.ans
 
 kind_said : (state : State) (said : Answer) → kind_by said ≡ kind_of (answered state said)
 kind_said state Silent = refl
-kind_said state (Refused why) = refl
-kind_said state (Accepted report) = refl
-kind_said state (Ended report) = refl
+kind_said state other = refl
 
 pub kind_is : (state : State) (files : Files) (line : List ℕ) (prepared : Prepared)
     → IsPrepared state files (asked_of (version_of state) line) prepared
@@ -115,20 +110,6 @@ record IsBehind (state later : State) (v : Verdict) : Type 0 where
   stores_is : later.stores ≡ changed state.stores (change_in v)
 
 behind : (state : State) (v : Verdict) → IsBehind state (after_by state v) v
-behind state Passes = record {
-  window_is = refl;
-  scale_is = refl;
-  lines_is = refl;
-  begun_is = sym (or-false state.begun);
-  stores_is = refl;
-}
-behind state (IsRefused why) = record {
-  window_is = refl;
-  scale_is = refl;
-  lines_is = refl;
-  begun_is = sym (or-false state.begun);
-  stores_is = refl;
-}
 behind state (IsAccepted command change) =
     let later = after_by state (IsAccepted command change) in
     record {
@@ -138,6 +119,13 @@ behind state (IsAccepted command change) =
       begun_is = rw (accepted_by (is_last command) (report_by later command)) (sym (or-true state.begun));
       stores_is = refl;
     }
+behind state other = record {
+  window_is = refl;
+  scale_is = refl;
+  lines_is = refl;
+  begun_is = sym (or-false state.begun);
+  stores_is = refl;
+}
 
 -- the session that made the change stands for the state behind the line
 stands_by : (old new : SessionParts) (state : State) (files : Files) (asked : Asked) (prepared : Prepared)
@@ -193,43 +181,36 @@ prepared_by session state files line prepared m h step =
     subst (λ (s : State). IsPrepared s files (asked_of (version_of state) line) prepared) (state_is session state m h)
     (step state.stores h.stores_stand)
 
--- the reply to the line, whose change was made
-pub replied : (mid new : SessionParts) (state : State) (files : Files) (line : List ℕ) (prepared : Prepared)
-    (made : Reply) → mid.stores.m ≡ mid.settings.window
-    → (AreSlotsOf state mid.stores → made.text.items ≡ text_of (mid.lines + 1) (answered state prepared.answer))
-    → made.kind ≡ kind_by prepared.answer
-    → HasCommitted mid new prepared.change (is_accepted (kind_by prepared.answer))
-    → StandsFor mid state → IsPrepared state files (asked_of (version_of state) line) prepared
+-- the reply to the line, whose change was made where the slots are these
+pub replied : (old new : SessionParts) (stores : Stored) (state : State) (files : Files) (line : List ℕ)
+    (prepared : Prepared) (made : Reply) (accepted : Bool) → old.stores.m ≡ old.settings.window
+    → StandAsBefore old.stores stores
+    → (AreSlotsOf state stores → made.text.items ≡ text_of (old.lines + 1) (answered state prepared.answer))
+    → made.kind ≡ kind_by prepared.answer → accepted ≡ is_accepted (kind_by prepared.answer)
+    → HasCommitted (record old { stores = stores }) new prepared.change accepted
+    → StandsFor old state → IsPrepared state files (asked_of (version_of state) line) prepared
     → IsReplyBy state files line new made
-replied mid new state files line prepared made m text kind committed h step = record {
-  text = text (record { window_is = m ∙ sym h.window_is; stand = h.stores_stand })
-      ∙ (ap (λ (n : ℕ). text_of (n + 1) (answered state prepared.answer)) (sym h.lines_is)
-      ∙ text_is state files line prepared step);
-  kind = kind ∙ kind_is state files line prepared step;
-  after = stands_after mid new state files line prepared h step committed;
-}
+replied old new stores state files line prepared made accepted m last text kind same committed h step =
+    let mid : SessionParts = record old { stores = stores } in
+    let stands = stands_still old mid state refl refl refl last h in
+    record {
+      text = text (record { window_is = last.window_is ∙ (m ∙ sym h.window_is); stand = stands.stores_stand })
+          ∙ (ap (λ (n : ℕ). text_of (n + 1) (answered state prepared.answer)) (sym h.lines_is)
+          ∙ text_is state files line prepared step);
+      kind = kind ∙ kind_is state files line prepared step;
+      after = stands_after mid new state files line prepared stands step
+          (subst (HasCommitted mid new prepared.change) same committed);
+    }
 
 -- a line that asks for no file there
 pub needs_no_file : (context : Context) (session : SessionParts) (line : List ℕ)
     → ((stores : List Store) → state_over context session.stores stores ≡ state_of session stores)
     → session.stores.m ≡ session.settings.window → AsksNoFile line session
-    → NeedsNoFile context (asked_of (version_in context) line) session.stores
+    → NeedsNoFile context (asked_of (version_at session) line) session.stores
 needs_no_file context session line over m asks = record {
   stores = asks.state.stores;
   stand = asks.stand.stores_stand;
-  none = ap (λ (s : State). fetches_by s (asked_of (version_in context) line))
+  none = ap (λ (s : State). fetches_by s (asked_of (version_at session) line))
       (over asks.state.stores ∙ state_is session asks.state m asks.stand)
       ∙ (sym (fetches_is asks.state line) ∙ asks.none);
-}
-
--- what is known of the shelf, by other words for what isn't wanted and what failed
-pub asked_by : {H : Type 0} {shelf : shelves.Ghosts H} {unwanted also failed stopped : Type 0} {old new : H}
-    → IsAsked shelf unwanted failed old new → (also → unwanted) → (stopped → failed) → (failed → stopped)
-    → IsAsked shelf also stopped old new
-asked_by asked wants to from = record {
-  files = asked.files;
-  fault = λ stop. asked.fault (to stop);
-  calm = λ none. asked.calm (λ failed. none (from failed));
-  unfetched = λ also. asked.unfetched (wants also);
-  no_fault = λ also stop. asked.no_fault (wants also) (to stop);
 }

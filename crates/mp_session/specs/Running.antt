@@ -1,6 +1,8 @@
 -- What runs of lines do to a session and to a sink.
 use Rattle.std.specs.Prelude.{◌≡◌, ◌⊎◌, ℕ, ◌+◌, ◌<◌, ◌≤◌, Bool, true, false, List, [], ◌∷◌, ◌++◌, length, take}
-use Rattle.std.specs.Prelude.{Option, Some, None}
+use Rattle.std.specs.Prelude.{IsErrOf, Option, Some, None, Result}
+use Rattle.mp_outside.specs.Counts.{Rose}
+use Rattle.mp_outside.specs.declared.sources.Source as sources
 use Rattle.mp_outside.specs.declared.sinks.Sink.{Ghosts}
 use Rattle.mp_feed.specs.Feeding.{nothing, lines_left, ended_lines_left}
 use Rattle.mp_feed.specs.Reading.{IsTakenOff}
@@ -12,6 +14,8 @@ use Rattle.mp_session.specs.Sessions.{SessionParts, StandsFor, ToldForAll}
 use Rattle.mp_feed.specs.declared.readers.Next.{Next}
 use Rattle.mp_feed.specs.declared.readers.Next.TheVariants.{Line, End}
 use Rattle.mp_feed.specs.Writing.{Wrote, WroteFront}
+use Rattle.mp_session.specs.declared.halts.Halt.{Halt}
+use Rattle.mp_session.specs.declared.halts.Halt.TheVariants.{InputLimit, ReadFault}
 
 -- these lines were run one behind the other with a shelf that tells these files, with these reports
 pub record HaveRun (told : Option Files) (lines texts : List (List ℕ)) (old new : SessionParts) (refused : Bool)
@@ -102,6 +106,14 @@ pub record RanEnded {Out : Type 0} (sink : Ghosts Out) (told : Option Files) (ov
   pub taken : List ℕ
   pub source : (bytes : List ℕ) → old.left ≡ Some bytes → IsTakenOff taken overs bytes new.left
   pub lines_are : ended_lines_left nothing taken ≡ some.lines
+
+-- What was taken of a source: no more than the limit and a byte. More than the limit where a run ended at it, and a
+-- fault of a read was counted where it ended by one.
+pub record WasTaken {In : Type 0} (source : sources.Ghosts In) (limit : ℕ) (result : Result Bool Halt)
+    (old new : In) : Type 0 where
+  pub given : source.given new ≤ source.given old + limit + 1
+  pub over : IsErrOf result InputLimit → source.given old + limit < source.given new
+  pub fault : IsErrOf result ReadFault → Rose (source.faults old) (source.faults new)
 
 -- some of them were run, and a front of the report of the next one was written
 pub record RanInto {Out : Type 0} (sink : Ghosts Out) (told : Option Files) (old new : Course Out) : Type 0 where

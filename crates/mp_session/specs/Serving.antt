@@ -45,8 +45,8 @@ pub record WritesOutput {Sh Out : Type 0} (call : Call Sh Out) : Type 0 where
   -- Where nothing is to be written, nothing is done with the sink, however the run ended.
   pub quiet : (files : Files) (bytes : List ℕ) → TellsInput call files bytes → output call.words files bytes ≡ []
       → call.new.sink ≡ call.old.sink
-  -- Every sink is flushed, or nothing was done with it, also one that tells nothing, and however the run ended, unless a
-  -- write or a flush failed. So one that was flushed is flushed.
+  -- Every sink is flushed, or nothing was done with it, also one that tells nothing, and however the run ended, unless
+  -- a write or a flush failed. So one that was flushed is flushed.
   pub flushed_or_untouched : ¬ (call.status ≡ statuses.WriteFault)
       → (call.new.flushed ≡ true) ⊎ (call.new.sink ≡ call.old.sink)
   pub flushed : call.old.flushed ≡ true → ¬ (call.status ≡ statuses.WriteFault) → call.new.flushed ≡ true

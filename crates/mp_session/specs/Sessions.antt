@@ -3,16 +3,17 @@ use Rattle.std.specs.Prelude.{◌≡◌, ℕ, ◌+◌, ◌≤◌, ◌==◌, Bool
 use Rattle.std.specs.Prelude.{Option, Some, Result, IfOk, OnOk, OnErr}
 use Rattle.mp_replies.specs.declared.causes.Cause.{Cause}
 use Rattle.mp_replies.specs.declared.causes.Cause.TheVariants.{File, FileSize, Record, Rows}
-use Rattle.mp_replies.specs.Command.{OpenSlot, Load, Append}
-use Rattle.mp_replies.specs.Line.{Asked, Asks}
+use Rattle.mp_replies.specs.Command.{OpenAnew, Load, Append}
+use Rattle.mp_replies.specs.Line.{Asked, Asks, asked_of}
 use Rattle.mp_replies.specs.Output.{reply}
 use Rattle.mp_replies.specs.State.{Files, State, Store, store_at, version_of}
-use Rattle.mp_replies.specs.Step.{after, answer, fetches}
+use Rattle.mp_replies.specs.Step.{after, answer, counted, fetches}
 use Rattle.mp_replies.specs.Text.{refused_text}
 use Rattle.mp_replies.specs.Words.{Setup}
 use Rattle.mp_stores.specs.Stores.{StandChanged, StandFor, Stored, lists_in, reads_at}
-use Rattle.mp_commands.specs.Answers.{is_accepted, kind_of}
-use Rattle.mp_commands.specs.Reads.{AreUnread, is_unread, most_reads, renews}
+use Rattle.mp_commands.specs.Commands.{is_accepted, is_unread, kind_of}
+use Rattle.mp_commands.specs.declared.answers.ReplyKind.TheVariants as kinds
+use Rattle.mp_commands.specs.Reads.{AreUnread, most_reads, renews}
 use Rattle.mp_commands.specs.declared.replies.Reply.{Reply}
 use Rattle.mp_commands.specs.declared.prepared.Change.{Change}
 use Rattle.mp_commands.specs.declared.prepared.Change.TheVariants.{Keep, PutChannels, AddSamples}
@@ -79,7 +80,7 @@ pub record IsReplyBySome (line : List ℕ) (old new : SessionParts) (answered : 
 
 -- whether a line that asks for this changes a slot where it is accepted
 abbrev pub changes : Asked → ℕ → Bool
-changes (Asks (OpenSlot at channels)) slot = slot == at
+changes (Asks (OpenAnew at channels)) slot = slot == at
 changes (Asks (Load at file columns header)) slot = slot == at
 changes (Asks (Append at items)) slot = slot == at
 changes other slot = false
@@ -103,6 +104,14 @@ pub record IsFileRefused (line : ℕ) (text : List ℕ) : Type 0 where
   pub cause : Cause
   pub of_file : IsOfFile cause
   pub text_is : text ≡ refused_text line cause
+
+-- what such an answer says in this state. A line that isn't accepted is counted and changes nothing else, and a load
+-- that asks for its file is refused for that alone
+pub record IsReplyOverAny (state : State) (line : List ℕ) (new : SessionParts) (answered : Reply) : Type 0 where
+  pub unaccepted : is_accepted answered.kind ≡ false → StandsFor new (counted state)
+  pub accepted : is_accepted answered.kind ≡ true → WasAccepted (asked_of (version_of state) line) state new
+  pub file_refused : fetches state line ≡ true → answered.kind ≡ kinds.Refused
+      → IsFileRefused (state.lines + 1) answered.text.items
 
 -- ---- counts
 

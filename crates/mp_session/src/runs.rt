@@ -1,15 +1,14 @@
 //! Lines run one after another, each with its report.
 
-ghost use Rattle.std.specs.Prelude.{◌≡◌, ◌⊎◌, ℕ, ◌+◌, ◌-◌, ◌^◌, ◌<◌, ◌≤◌, List, [], ◌∷◌, length, IfOk, OnErr, IsErrOf};
-ghost use Rattle.std.specs.Prelude.{IsTrue, Some, true, false};
+ghost use Rattle.std.specs.Prelude.{◌≡◌, ◌⊎◌, ◌+◌, ◌-◌, ◌^◌, ◌<◌, ◌≤◌, [], ◌∷◌, length, IfOk, OnErr, IsErrOf};
+ghost use Rattle.std.specs.Prelude.{IsTrue, Some, false};
 ghost use Rattle.mp_feed.specs.Reading.{IsFailed, IsNext, bit};
 ghost use Rattle.mp_outside.specs.Counts.{Rose};
 ghost use Rattle.mp_replies.specs.Line.{ends};
-ghost use Rattle.mp_replies.specs.State.{State};
-ghost use Rattle.mp_replies.specs.Step.{fetches};
+ghost use Rattle.mp_commands.specs.Preparing.{IsAsked};
 ghost use Rattle.mp_session.specs.Running.{RanAll, RanEnded, RanInto, RanSome, RanToFile};
-ghost use Rattle.mp_session.specs.Running.{WasBegun, WereRun, course_at, next_by};
-ghost use Rattle.mp_session.specs.Sessions.{StandsFor};
+ghost use Rattle.mp_session.specs.Running.{WasBegun, WasTaken, WereRun, course_at, next_by};
+ghost use Rattle.mp_session.specs.Sessions.{AsksNoFile};
 
 use crate::halts::Halt;
 use crate::sessions::Session;
@@ -18,6 +17,14 @@ use mp_feed::{LineReader, Next, write_report};
 use mp_outside::{Failed, Gate, Shelf, Sink, Source};
 use std::alloc::Global;
 use std::thread::Threads;
+
+/// What lines are run with: what starts threads, where memory is from, and what workers pass before each piece of work.
+#[derive(Drop)]
+pub(crate) struct Resources<'a, R, G> {
+    pub(crate) rt: &'a R,
+    pub(crate) alloc: Global,
+    pub(crate) gate: &'a G,
+}
 
 /// What became of a line.
 #[derive(Clone, Copy)]
@@ -29,12 +36,10 @@ struct Ran {
 /// Runs a line and writes its report.
 fn run_line<R: Threads + Sync, H: Shelf, K: Sink, G: Gate>(
     session: &mut Session,
-    rt: &R,
-    alloc: Global,
+    with: &Resources<'_, R, G>,
     line: &[u8],
     shelf: &mut H,
     out: &mut K,
-    gate: &G,
 ) -> Result<Ran, Halt>
     requires { session.old.lines < 2 ^ 64 - 1 }
     ensures run { (left : _) → IfOk result (λ ran. WereRun K.Sink (H.files shelf.old) (line.now ∷ [])
@@ -50,15 +55,12 @@ fn run_line<R: Threads + Sync, H: Shelf, K: Sink, G: Gate>(
     ensures shelf_fault { (left : _) → IsErrOf result Halt.ShelfFault
         → WereRun K.Sink (H.files shelf.old) [] (course_at session.old left out.old)
         (course_at session.new left out.new) false }
-    ensures shelf_cause { IsErrOf result Halt.ShelfFault → Rose (H.faults shelf.old) (H.faults shelf.new) }
-    ensures shelf_asked { (state : State) → StandsFor session.old state → IsErrOf result Halt.ShelfFault
-        → fetches state line.now ≡ true }
-    ensures calm { ¬ IsErrOf result Halt.ShelfFault → H.faults shelf.new ≡ H.faults shelf.old }
-    ensures files { H.files shelf.new ≡ H.files shelf.old }
+    ensures shelf { IsAsked H.Shelf (AsksNoFile line.now session.old) (IsErrOf result Halt.ShelfFault) shelf.old
+        shelf.new }
     ensures only { OnErr result ((result ≡ Err Halt.WriteFault)
         ⊎ ((result ≡ Err Halt.Memory) ⊎ (result ≡ Err Halt.ShelfFault))) }
 {
-    let reply = match session.run(rt, alloc, line, shelf, gate) {
+    let reply = match session.run(with.rt, with.alloc, line, shelf, with.gate) {
         Ok(reply) => reply,
         Err(Stop::ShelfFault) => return Err(Halt::ShelfFault),
         Err(Stop::Memory) => return Err(Halt::Memory),
@@ -102,15 +104,12 @@ fn next_line<S: Source>(reader: &mut LineReader, input: &mut S) -> Result<Option
 /// whole, and the sink flushed, before the next line is run. It answers whether some line was refused.
 pub(crate) fn run_lines<R: Threads + Sync, H: Shelf, S: Source, K: Sink, G: Gate>(
     session: &mut Session,
-    rt: &R,
-    alloc: Global,
+    with: &Resources<'_, R, G>,
     shelf: &mut H,
     input: &mut S,
     out: &mut K,
-    gate: &G,
     limit: u64,
 ) -> Result<bool, Halt>
-    requires limit { limit < 2 ^ 64 - 1 }
     requires lines { session.old.lines + limit < 2 ^ 64 - 1 }
     requires given { S.given input.old ≤ 2 ^ 127 }
 
@@ -130,26 +129,22 @@ pub(crate) fn run_lines<R: Threads + Sync, H: Shelf, S: Source, K: Sink, G: Gate
         → RanSome K.Sink (H.files shelf.old) (course_at session.old (S.left input.old) out.old)
         (course_at session.new (S.left input.new) out.new) }
     ensures write_fault { IsErrOf result Halt.WriteFault
-        → RanInto K.Sink (H.files shelf.old) (course_at session.old (S.left input.old) out.old)
-        (course_at session.new (S.left input.new) out.new) }
+        → (RanInto K.Sink (H.files shelf.old) (course_at session.old (S.left input.old) out.old)
+        (course_at session.new (S.left input.new) out.new)) × Rose (K.faults out.old) (K.faults out.new) }
     ensures shelf_fault { IsErrOf result Halt.ShelfFault
         → RanToFile K.Sink (H.files shelf.old) (course_at session.old (S.left input.old) out.old)
         (course_at session.new (S.left input.new) out.new) }
-    ensures shelf_cause { IsErrOf result Halt.ShelfFault → Rose (H.faults shelf.old) (H.faults shelf.new) }
-    ensures read_cause { IsErrOf result Halt.ReadFault → Rose (S.faults input.old) (S.faults input.new) }
-    ensures write_cause { IsErrOf result Halt.WriteFault → Rose (K.faults out.old) (K.faults out.new) }
-    ensures limit_cause { IsErrOf result Halt.InputLimit → S.given input.old + limit < S.given input.new }
-    ensures given { S.given input.new ≤ S.given input.old + limit + 1 }
-    ensures calm { ¬ IsErrOf result Halt.ShelfFault → H.faults shelf.new ≡ H.faults shelf.old }
-    ensures files { H.files shelf.new ≡ H.files shelf.old }
+
+    ensures shelf { IsAsked H.Shelf ⊥ (IsErrOf result Halt.ShelfFault) shelf.old shelf.new }
+    ensures source { WasTaken S.Source limit result input.old input.new }
 {
-    let mut reader = LineReader::new(alloc, limit)?;
+    let mut reader = LineReader::new(with.alloc, limit)?;
     let mut refused = false;
     loop {
         let Some(last) = next_line(&mut reader, input)? else {
             return Ok(refused);
         };
-        let ran = run_line(session, rt, alloc, reader.line(), shelf, out, gate)?;
+        let ran = run_line(session, with, reader.line(), shelf, out)?;
         refused |= ran.refused;
         if ran.ends || last {
             return Ok(refused);

@@ -1,7 +1,7 @@
 //! A session: lines in, replies out.
 
 ghost use Rattle.std.specs.Prelude.{◌≡◌, ◌↔◌, ℕ, ◌+◌, ◌-◌, ◌^◌, ◌<◌, ◌≤◌, min, IfOk, OnErr, IsErrOf};
-ghost use Rattle.std.specs.Prelude.{IsNone, IfSome, true, false};
+ghost use Rattle.std.specs.Prelude.{IsNone, IfSome, false};
 
 use mp_commands::{Change, Context, Prepared, Reply, Stop, prepare};
 use mp_nums::Memory;
@@ -35,15 +35,12 @@ impl Model for Session {
 impl Session {
     ghost use Rattle.mp_replies.specs.Line.{asked_of, ends};
     ghost use Rattle.mp_replies.specs.State.{Files, State, opening, store_at, version_of, Closed};
-    ghost use Rattle.mp_replies.specs.Step.{counted, fetches};
-    ghost use Rattle.mp_commands.specs.declared.answers.ReplyKind.TheVariants as kinds;
-    ghost use Rattle.mp_commands.specs.Answers.{is_accepted, is_ended};
+    ghost use Rattle.mp_commands.specs.Commands.{is_ended};
     ghost use Rattle.mp_commands.specs.Preparing.{CanMake, IsAsked, ToldFor, adds, puts};
     ghost use Rattle.mp_commands.specs.Reads.{append_reads};
     ghost use Rattle.mp_stores.specs.Stores.{reads_at};
-    ghost use Rattle.mp_session.specs.Sessions.{AddsEach, AsksNoFile, HasCommitted, IsFileRefused, IsReplyBy};
-    ghost use Rattle.mp_session.specs.Sessions.{IsReplyBySome, StandsFor, WasAccepted, WasCounted, WereReadBy};
-    ghost use Rattle.mp_session.specs.Sessions.{version_at};
+    ghost use Rattle.mp_session.specs.Sessions.{AddsEach, AsksNoFile, HasCommitted, IsReplyBy, IsReplyBySome};
+    ghost use Rattle.mp_session.specs.Sessions.{IsReplyOverAny, StandsFor, WasCounted, WereReadBy, version_at};
 
     /// Slot 0 is open with one empty channel, all other slots are closed, and no line was run.
     pub fn new<R: Threads + Sync>(
@@ -87,13 +84,8 @@ impl Session {
 
         // What they say over any shelf, also one that tells nothing.
         ensures some_files { IfOk result (IsReplyBySome line.now self.old self.new) }
-        ensures unaccepted { (state : State) → StandsFor self.old state
-            → IfOk result (λ r. is_accepted r.kind ≡ false → StandsFor self.new (counted state)) }
-        ensures accepted { (state : State) → StandsFor self.old state
-            → IfOk result (λ r. is_accepted r.kind ≡ true
-            → WasAccepted (asked_of (version_of state) line.now) state self.new) }
-        ensures file_refused { (state : State) → StandsFor self.old state → fetches state line.now ≡ true
-            → IfOk result (λ r. r.kind ≡ kinds.Refused → IsFileRefused (state.lines + 1) r.text.items) }
+        ensures any_shelf { (state : State) → StandsFor self.old state
+            → IfOk result (IsReplyOverAny state line.now self.new) }
         ensures stop { (state : State) → StandsFor self.old state → OnErr result (StandsFor self.new state) }
 
         ensures ends { IfOk result (λ r. is_ended r.kind ≡ ends line.now) }

@@ -13,7 +13,7 @@ ghost use Rattle.mp_session.specs.Serving.{IsServed};
 ghost use Rattle.mp_session.specs.Statuses.{status_by};
 
 use crate::halts::Halt;
-use crate::runs::run_lines;
+use crate::runs::{Resources, run_lines};
 use crate::sessions::Session;
 use mp_feed::write_report;
 use mp_made::summary;
@@ -83,6 +83,7 @@ pub fn serve<R: Threads + Sync, H: Shelf, S: Source, K: Sink, G: Gate>(
 /// `InputLimit` comes exactly where the input has more than `limit` bytes, none of the lines that an LF ends within the
 /// first `limit` bytes is an accepted `end`, and no fault and no want of memory ended the run before. So a source
 /// without end, such as `LoopSource`, ends the run at the limit.
+// (its arguments are those of `serve`, which users know, and the limit)
 pub fn serve_within<R: Threads + Sync, H: Shelf, S: Source, K: Sink, G: Gate>(
     rt: &R,
     alloc: Global,
@@ -110,7 +111,10 @@ pub fn serve_within<R: Threads + Sync, H: Shelf, S: Source, K: Sink, G: Gate>(
     };
     match make {
         Some(make) => write_summary(rt, alloc, settings, make, out, gate),
-        None => run_session(rt, alloc, settings, shelf, input, out, gate, limit),
+        None => {
+            let with = Resources { rt, alloc, gate };
+            run_session(&with, settings, shelf, input, out, limit)
+        }
     }
 }
 
@@ -189,13 +193,11 @@ fn status_of(outcome: Result<bool, Halt>) -> Status
 
 /// Runs a session of these settings on the input, for all words that ask for it.
 fn run_session<R: Threads + Sync, H: Shelf, S: Source, K: Sink, G: Gate>(
-    rt: &R,
-    alloc: Global,
+    with: &Resources<'_, R, G>,
     settings: Settings,
     shelf: &mut H,
     input: &mut S,
     out: &mut K,
-    gate: &G,
     limit: u64,
 ) -> Status
     requires limit { limit < 2 ^ 64 - 1 }
@@ -208,9 +210,9 @@ fn run_session<R: Threads + Sync, H: Shelf, S: Source, K: Sink, G: Gate>(
       status = result;
     }) }
 {
-    let Ok(mut session) = Session::new(rt, alloc, settings) else {
+    let Ok(mut session) = Session::new(with.rt, with.alloc, settings) else {
         return Status::Memory;
     };
-    let outcome = run_lines(&mut session, rt, alloc, shelf, input, out, gate, limit);
+    let outcome = run_lines(&mut session, with, shelf, input, out, limit);
     status_of(outcome)
 }

@@ -16,10 +16,9 @@ use Rattle.mp_nums.specs.declared.samples.Sample.{Sample}
 use Rattle.mp_defs.specs.Limits.{max_samples, max_window, min_window}
 use Rattle.mp_defs.specs.Series.{Series, reading_of, series_of}
 use Rattle.mp_defs.specs.Window.{windows}
-use Rattle.mp_replies.specs.declared.refs.Ref.{Ref}
 use Rattle.mp_replies.specs.Change.{extended}
 use Rattle.mp_replies.specs.State as states
-use Rattle.mp_replies.specs.State.{Store, channels_at, channels_in, store_at}
+use Rattle.mp_replies.specs.State.{Store, channels_in, store_at}
 use Rattle.mp_stream.specs.Streams.{Streamed}
 use Rattle.mp_stores.specs.declared.store.Store.{Store as Kept}
 use Rattle.mp_stores.specs.declared.store.Store.TheVariants as program
@@ -27,10 +26,9 @@ use Rattle.mp_stores.specs.Channels.{HasGrownBy, HaveGrown}
 use Rattle.mp_stores.specs.Seen.{held_of}
 use Rattle.mp_stores.specs.StoreLaws.{holds_still, last_as_before}
 use Rattle.mp_stores.specs.Stores.{Held, Closed, Open, AreAlike, AreChannels, AreEven, AreStores, CanOpen, HasRoomFor}
-use Rattle.mp_stores.specs.Stores.{HaveRoom, HaveWindow, HoldsAsBefore, IsHeld, RoomWasMade, StandChanged, StandFor}
-use Rattle.mp_stores.specs.Stores.{StandForStore}
+use Rattle.mp_stores.specs.Stores.{HaveRoom, HaveWindow, HoldsAsBefore, IsHeld, RoomWasMade, StandFor, StandForStore}
 use Rattle.mp_stores.specs.Stores.{Stored, WasRead, WasReadIn, count_in, count_of, items_in, lasting, lent_of}
-use Rattle.mp_stores.specs.Stores.{nothing, reads_at, reads_in, reads_of, reads_to_add, series_in, slot_at, stream_in}
+use Rattle.mp_stores.specs.Stores.{nothing, reads_at, reads_in, reads_of, series_in, slot_at, stream_in}
 use Rattle.mp_stores.specs.Stores.{streams_at, streams_in, without_room}
 use Rattle.mp_stores.proofs.GroupLemmas.{HaveRisen, extended_from, risen_from, window_kept}
 
@@ -106,8 +104,6 @@ window_like m (o ∷ old) (n ∷ new) same have =
 
 held_as_before : (m : ℕ) (old new : Held) → HoldsAsBefore old new → IsHeld m old → IsHeld m new
 held_as_before m Closed Closed same is = tt
-held_as_before m Closed (Open new) same is = absurd same
-held_as_before m (Open old) Closed same is = absurd same
 held_as_before m (Open old) (Open new) same is =
     let last = last_as_before old new same in
     let some = is.some in
@@ -116,6 +112,7 @@ held_as_before m (Open old) (Open new) same is =
       alike = subst AreAlike (sym last.items) is.alike;
       window = window_like m old new same is.window;
     }
+held_as_before m old new same is = absurd same
 
 -- the slots behind that
 pub record IsReadSlot (old new : Stored) (slot : ℕ) (held : Held) (most : ℕ) : Type 0 where
@@ -329,8 +326,6 @@ pub record WasExtended (m : ℕ) (added : List (List Sample)) (old new : Held) :
 
 was_extended : (m : ℕ) (old new : Held) (added : List (List Sample)) → HasGrownBy added old new
     → HaveRoom (streams_in old) added → AreEven added → IsHeld m old → WasExtended m added old new
-was_extended m Closed new added grown room even is = absurd grown
-was_extended m (Open old) Closed added grown room even is = absurd grown
 was_extended m (Open old) (Open new) added grown room even is =
     let long = AllZip-long HasRoomFor old added room in
     record {
@@ -340,6 +335,7 @@ was_extended m (Open old) (Open new) added grown room even is =
           (even_count added even);
       stands = grown_stands old new added long grown;
     }
+was_extended m old new added grown room even is = absurd grown
 
 -- ---- another store stands there
 
@@ -379,49 +375,45 @@ pub record AreSeen (m : ℕ) (stored : List Kept) (old : Stored) (slot : ℕ) : 
 pub stored_long : (m : ℕ) (stored : List Kept) → AreStores (view m stored) → length stored ≡ 8
 stored_long m stored are = sym (length-map stored held_of) ∙ are.count
 
-pub stores_seen : (m : ℕ) (stored : List Kept) (old : Stored) (slot : ℕ) → AreSeen m stored old slot
-    → AreStores old
-stores_seen m stored old slot all = subst AreStores all.seen all.are
+module _ {m : ℕ} {stored : List Kept} {old : Stored} {slot : ℕ} (all : AreSeen m stored old slot) where
+  pub stores_seen : AreStores old
+  stores_seen = subst AreStores all.seen all.are
 
--- a store holds what its slot is seen to hold
-pub slot_seen : (m : ℕ) (stored : List Kept) (old : Stored) (slot : ℕ) (v : Kept)
-    → AreSeen m stored old slot → v ≡ get_or stored slot v → held_of v ≡ slot_at old slot
-slot_seen m stored old slot v all is =
-    let within = all.within in
-    ap held_of is
-    ∙ (sym (get_or-map held_of stored slot v Closed (omega (arith, stored_long m stored all.are, within)))
-    ∙ ap (λ (s : Stored). slot_at s slot) all.seen)
+  set_seen : (w : Kept) → with_slot old slot (held_of w) ≡ view m (set stored slot w)
+  set_seen w = ap (λ (s : Stored). with_slot s slot (held_of w)) (sym all.seen) ∙ view_set m stored slot w
 
--- behind a change of a store that only reads
-pub seen_read : (m : ℕ) (stored : List Kept) (old : Stored) (slot : ℕ) (v w : Kept)
-    (most : Held → ℕ) → AreSeen m stored old slot → v ≡ get_or stored slot v
-    → WasReadIn (most (held_of v)) (held_of v) (held_of w)
-    → IsReadSlot old (view m (set stored slot w)) slot (held_of w) (most (slot_at old slot))
-seen_read m stored old slot v w most all is read =
-    subst (λ (s : Stored). IsReadSlot old s slot (held_of w) (most (slot_at old slot)))
-    (ap (λ (s : Stored). with_slot s slot (held_of w)) (sym all.seen) ∙ view_set m stored slot w)
-    (read_set old slot (held_of w) (most (slot_at old slot)) (stores_seen m stored old slot all) all.within
-    (subst (λ (h : Held). WasReadIn (most h) h (held_of w)) (slot_seen m stored old slot v all is) read))
+  -- behind a change of what a store stands for
+  pub seen_set : (w : Kept) (behind : List Store → Store) → IsHeld old.m (held_of w)
+      → ((stores : List Store) → StandFor old stores → StandForStore (held_of w) (behind stores))
+      → AreSet old (view m (set stored slot w)) slot (held_of w) behind
+  seen_set w behind is stands =
+      subst (λ (s : Stored). AreSet old s slot (held_of w) behind) (set_seen w)
+      (held_set old slot (held_of w) behind stores_seen all.within is stands)
 
--- behind one that changes what it stands for
-pub seen_set : (m : ℕ) (stored : List Kept) (old : Stored) (slot : ℕ) (w : Kept)
-    (behind : List Store → Store) → AreSeen m stored old slot → IsHeld old.m (held_of w)
-    → ((stores : List Store) → StandFor old stores → StandForStore (held_of w) (behind stores))
-    → AreSet old (view m (set stored slot w)) slot (held_of w) behind
-seen_set m stored old slot w behind all is stands =
-    subst (λ (s : Stored). AreSet old s slot (held_of w) behind)
-    (ap (λ (s : Stored). with_slot s slot (held_of w)) (sym all.seen) ∙ view_set m stored slot w)
-    (held_set old slot (held_of w) behind (stores_seen m stored old slot all) all.within is stands)
+module _ {m : ℕ} {stored : List Kept} {old : Stored} {slot : ℕ} {v : Kept} (all : AreSeen m stored old slot)
+    (is : v ≡ get_or stored slot v) where
+  -- a store holds what its slot is seen to hold
+  pub slot_seen : held_of v ≡ slot_at old slot
+  slot_seen =
+      let within = all.within in
+      ap held_of is
+      ∙ (sym (get_or-map held_of stored slot v Closed (omega (arith, stored_long m stored all.are, within)))
+      ∙ ap (λ (s : Stored). slot_at s slot) all.seen)
 
-pub seen_extended : (m : ℕ) (stored : List Kept) (old : Stored) (slot : ℕ) (v w : Kept)
-    (added : List (List Sample)) → AreSeen m stored old slot → v ≡ get_or stored slot v
-    → HasGrownBy added (held_of v) (held_of w) → HaveRoom (streams_at old slot) added → AreEven added
-    → WasExtended old.m added (slot_at old slot) (held_of w)
-seen_extended m stored old slot v w added all is grown room even =
-    let are = stores_seen m stored old slot all in
-    was_extended old.m (slot_at old slot) (held_of w) added
-    (subst (λ (h : Held). HasGrownBy added h (held_of w)) (slot_seen m stored old slot v all is) grown) room even
-    (are.each slot)
+  -- behind a change of a store that only reads
+  pub seen_read : (w : Kept) (most : Held → ℕ) → WasReadIn (most (held_of v)) (held_of v) (held_of w)
+      → IsReadSlot old (view m (set stored slot w)) slot (held_of w) (most (slot_at old slot))
+  seen_read w most read =
+      subst (λ (s : Stored). IsReadSlot old s slot (held_of w) (most (slot_at old slot))) (set_seen all w)
+      (read_set old slot (held_of w) (most (slot_at old slot)) (stores_seen all) all.within
+      (subst (λ (h : Held). WasReadIn (most h) h (held_of w)) slot_seen read))
+
+  pub seen_extended : (w : Kept) (added : List (List Sample)) → HasGrownBy added (held_of v) (held_of w)
+      → HaveRoom (streams_at old slot) added → AreEven added
+      → WasExtended old.m added (slot_at old slot) (held_of w)
+  seen_extended w added grown room even =
+      was_extended old.m (slot_at old slot) (held_of w) added
+      (subst (λ (h : Held). HasGrownBy added h (held_of w)) slot_seen grown) room even ((stores_seen all).each slot)
 
 -- ---- one channel
 
@@ -567,14 +559,12 @@ pub record ChannelsSeen (old : Stored) (slot : ℕ) (channels : List Streamed) :
   pub alike : AreChannels channels
   pub window : HaveWindow old.m channels
 
-pub channels_seen : (m : ℕ) (stored : List Kept) (old : Stored) (slot : ℕ) (v : Kept)
-    (channels : List Streamed) → AreSeen m stored old slot → v ≡ get_or stored slot v
-    → channels ≡ streams_in (held_of v)
+pub channels_seen : {m : ℕ} {stored : List Kept} {old : Stored} {slot : ℕ} {v : Kept} (channels : List Streamed)
+    → AreSeen m stored old slot → v ≡ get_or stored slot v → channels ≡ streams_in (held_of v)
     → ChannelsSeen old slot channels
-channels_seen m stored old slot v channels all is same =
-    let are = stores_seen m stored old slot all in
-    let here = are_in old.m (slot_at old slot) (are.each slot) in
-    subst (ChannelsSeen old slot) (sym (same ∙ ap streams_in (slot_seen m stored old slot v all is)))
+channels_seen {old = old} {slot = slot} channels all is same =
+    let here = are_in old.m (slot_at old slot) ((stores_seen all).each slot) in
+    subst (ChannelsSeen old slot) (sym (same ∙ ap streams_in (slot_seen all is)))
     (record {
       are = refl;
       closed = here.closed;

@@ -26,7 +26,7 @@ loop-k-init c =
 
 pub unwrap-requires : goal.unwrap-requires
 unwrap-requires c =
-    next_read _ _ _ _ _ _ _ _ _ c.loop-k.invariant.spread c.in-Some.ensures.steps.0 c.read_sample.ensures.fault
+    next_read c.loop-k.invariant.spread c.in-Some.ensures.steps.0 _ c.read_sample.ensures.fault
 
 pub bounds-added-k : goal.bounds-added-k
 bounds-added-k c =
@@ -49,8 +49,8 @@ loop-k-preserved c =
             length-set added c.in-Some.k c.push.new.self,
           );
       spread =
-          spread_more _ _ _ _ _ _ _ _ _ _ _ (reading_of c.unwrap.result) c.loop-k.invariant.spread
-          c.in-Some.ensures.steps.0 c.in-Some.ensures.steps.1 c.in-Some.ensures.steps.2 read
+          spread_more c.loop-k.invariant.spread c.in-Some.ensures.steps.0 (reading_of c.unwrap.result)
+          c.in-Some.ensures.steps.1 c.in-Some.ensures.steps.2 read
           (series_pushed added c.in-Some.k c.index-added-k.result c.push.new.self c.unwrap.result within
           c.in_ok-push.ensures.items);
     }

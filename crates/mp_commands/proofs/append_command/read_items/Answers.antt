@@ -33,7 +33,7 @@ read_item-requires-clause-lists c =
     ∙ added_long c.args.form.channels read.done (lists_in lists) read.series_are)
 
 pub read_item-requires-clause-good : goal.read_item-requires-clause-good
-read_item-requires-clause-good c = next_good _ _ _ _ _ _ _ c.loop-item.invariant c.in-Some.ensures.steps
+read_item-requires-clause-good c = next_good c.loop-item.invariant c.in-Some.ensures.steps
 
 pub loop-item-preserved : goal.loop-item-preserved
 loop-item-preserved c =
@@ -41,5 +41,5 @@ loop-item-preserved c =
     with_items_is c.loop-item.added c.read_item.new.added
     (c.read_item.auto.added ∙ (ap length c.deref_mut.ensures.value ∙ sym c.loop-item.added.ok.0)) in
     rw same
-    (read_more _ _ _ _ _ _ _ _ c.loop-item.invariant c.in-Some.ensures.steps
+    (read_more c.loop-item.invariant c.in-Some.ensures.steps
     (rw c.deref_mut.ensures.value at c.in_ok-read_item.ensures))

@@ -1,10 +1,10 @@
-use Rattle.std.proofs.Common.{[]}
-use Rattle.std.specs.Prelude.{unwrap_or}
-use Rattle.mp_replies.specs.declared.causes.Cause.TheVariants.{File, FileSize}
+use Rattle.std.proofs.Common.{◌∙◌, [], ap, sym}
+use Rattle.std.specs.Prelude.{Some, is_none, unwrap_or}
 use Rattle.mp_replies.specs.Numbers.{columns}
 use Rattle.mp_commands.specs.Preparing.{state_over}
-use Rattle.mp_commands.specs.Requests.{asks_for}
-use Rattle.mp_commands.proofs.FileLemmas.{absent_is, large_file, no_file, prepared_by, too_large_is}
+use Rattle.mp_commands.specs.Commands.{asks_for}
+use Rattle.mp_commands.specs.Fetching.{asked_by}
+use Rattle.mp_commands.proofs.FileLemmas.{no_file, on_err, prepared_by, wants_file}
 use Rattle.mp_commands.proofs.LoadLemmas.{file_refused, load_refused}
 use Rattle.mp_commands.proofs.load_command.prepare_load.Goals as goal
 
@@ -28,32 +28,55 @@ returns-in-Some-clause-some_files g c = record {
       (c.in-Some.ensures.cause stores stand) c.refused.ensures.answer c.refused.ensures.change;
 }
 
+pub returns-in-Ok-clause-prepared : goal.returns-in-Ok-clause-prepared
+returns-in-Ok-clause-prepared g c = record {
+  ok = λ stores files stand told.
+      c.prepare_table.ensures.ok stores files stand
+      (rw c.in-Ok.is at c.in_ok-fetched.ensures.found files (told (ap is_none (c.in_default.ensures.cause stores stand)))
+      ∙ ap Some (sym c.as_slice.ensures.value));
+  stop = λ stores stand. on_err c.prepare_table.result (c.in_default.ensures.cause stores stand);
+}
+
 pub returns-in-Ok-clause-some_files : goal.returns-in-Ok-clause-some_files
 returns-in-Ok-clause-some_files g c =
     prepared_by c.args.context (asks_for c.args.load) c.args.stores.now c.args.load.file.now c.as_slice.result.now
     c.prepare_table.result (λ stores files stand found. c.prepare_table.ensures.ok stores files stand found)
 
-pub returns-in-Err-Absent-clause-some_files : goal.returns-in-Err-Absent-clause-some_files
-returns-in-Err-Absent-clause-some_files g c = record {
-  files = no_file;
-  is = λ stores stand.
+pub returns-in-Err-clause-prepared : goal.returns-in-Err-clause-prepared
+returns-in-Err-clause-prepared g c = record {
+  ok = λ stores files stand told.
       let load = c.args.load in
       let cols = unwrap_or (columns load.columns.field.now) [] in
       let state = state_over c.args.context c.args.stores.now stores in
-      file_refused state no_file load.slot load.file.now cols load.header File c.refused-in-Err-Absent.result
-      (c.in_default.ensures.cause stores stand) (absent_is state.scale cols load.header load.file.now)
-      c.refused-in-Err-Absent.ensures.answer c.refused-in-Err-Absent.ensures.change;
+      let refused = rw c.in-Err.is at c.in_ok-fetched.ensures.refused in
+      let none = c.in_default.ensures.cause stores stand in
+      file_refused state files load.slot load.file.now cols load.header c.in-Err.cause c.refused-in-Err.result none
+      (refused.told files (told (ap is_none none)) state.scale cols load.header)
+      c.refused-in-Err.ensures.answer c.refused-in-Err.ensures.change;
+  stop = λ stores stand. tt;
 }
 
-pub returns-in-Err-TooLarge-clause-some_files : goal.returns-in-Err-TooLarge-clause-some_files
-returns-in-Err-TooLarge-clause-some_files g c = record {
-  files = large_file c.args.load.file.now;
-  is = λ stores stand.
-      let load = c.args.load in
-      let cols = unwrap_or (columns load.columns.field.now) [] in
-      let state = state_over c.args.context c.args.stores.now stores in
-      file_refused state (large_file load.file.now) load.slot load.file.now cols load.header FileSize
-      c.refused-in-Err-TooLarge.result
-      (c.in_default.ensures.cause stores stand) (too_large_is state.scale cols load.header load.file.now)
-      c.refused-in-Err-TooLarge.ensures.answer c.refused-in-Err-TooLarge.ensures.change;
-}
+pub returns-in-Err-clause-some_files : goal.returns-in-Err-clause-some_files
+returns-in-Err-clause-some_files g c =
+    let refused = rw c.in-Err.is at c.in_ok-fetched.ensures.refused in
+    record {
+      files = refused.files;
+      is = λ stores stand.
+          let load = c.args.load in
+          let cols = unwrap_or (columns load.columns.field.now) [] in
+          let state = state_over c.args.context c.args.stores.now stores in
+          file_refused state refused.files load.slot load.file.now cols load.header c.in-Err.cause
+          c.refused-in-Err.result (c.in_default.ensures.cause stores stand)
+          (refused.some state.scale cols load.header)
+          c.refused-in-Err.ensures.answer c.refused-in-Err.ensures.change;
+    }
+
+pub returns-in-Ok-clause-shelf : goal.returns-in-Ok-clause-shelf
+returns-in-Ok-clause-shelf g c =
+    asked_by c.in_ok-fetched.ensures.shelf (wants_file c.args.context c.args.load c.args.stores.now c.in_default.ensures.cause)
+    (λ fault. absurd (c.prepare_table.ensures.calm fault)) (λ fault. absurd (cc fault))
+
+pub returns-in-Err-clause-shelf : goal.returns-in-Err-clause-shelf
+returns-in-Err-clause-shelf g c =
+    asked_by c.in_ok-fetched.ensures.shelf (wants_file c.args.context c.args.load c.args.stores.now c.in_default.ensures.cause) (λ fault. absurd (cc fault))
+    (λ fault. absurd (cc fault))

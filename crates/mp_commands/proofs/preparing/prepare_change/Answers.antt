@@ -2,7 +2,7 @@ use Rattle.std.proofs.Common.{ap, subst, sym}
 use Rattle.std.specs.Prelude.{IfOk}
 use Rattle.mp_replies.specs.Line.{Asked}
 use Rattle.mp_commands.specs.Preparing.{IsPreparedBySome}
-use Rattle.mp_commands.specs.Requests.{changed_in}
+use Rattle.mp_commands.specs.Commands.{changed_in}
 use Rattle.mp_commands.proofs.PreparingLemmas.{some_taken}
 use Rattle.mp_commands.proofs.preparing.prepare_change.Goals as goal
 

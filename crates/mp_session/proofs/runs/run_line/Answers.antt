@@ -1,38 +1,37 @@
-use Rattle.std.proofs.Common.{◌≡◌, ◌∙◌, ℕ, List, true, false, [], ◌∷◌, ap, ⊎_elim, Err}
-use Rattle.std.proofs.lemmas.Bool.{cases_Bool}
-use Rattle.mp_feed.specs.Writing.{none}
+use Rattle.std.proofs.Common.{◌∙◌, ℕ, List, [], ◌∷◌, ap, Err, refl}
 use Rattle.mp_feed.specs.WritingLaws.{wrote_one}
-use Rattle.mp_replies.specs.Step.{fetches}
-use Rattle.mp_commands.specs.Answers.{is_refused}
-use Rattle.mp_session.proofs.RunLemmas.{have_run_one, have_run_stopped, told_line}
+use Rattle.mp_commands.specs.Commands.{is_refused}
+use Rattle.mp_commands.specs.Fetching.{asked_by}
+use Rattle.mp_session.proofs.RunLemmas.{have_run_one, told_line, were_run_stopped}
 use Rattle.mp_session.proofs.StepLemmas.{refused_kind}
 use Rattle.mp_session.proofs.runs.run_line.Goals as goal
 
 pub returns-in-Err-Memory-clause-memory : goal.returns-in-Err-Memory-clause-memory
-returns-in-Err-Memory-clause-memory g c = λ left _. record {
-  texts = [];
-  run =
-      have_run_stopped (g.H.Shelf.files c.args.shelf.now) c.args.session.now c.run.new.self c.in-Err-Memory.ensures.stop
-      c.in-Err-Memory.ensures.counted.stop_lines;
-  wrote = none;
-}
+returns-in-Err-Memory-clause-memory g c = λ left _.
+    were_run_stopped (g.H.Shelf.files c.args.shelf.now) c.args.session.now c.run.new.self c.in-Err-Memory.ensures.stop
+    c.in-Err-Memory.ensures.counted.stop_lines
 
 pub returns-in-Err-ShelfFault-clause-shelf_fault : goal.returns-in-Err-ShelfFault-clause-shelf_fault
-returns-in-Err-ShelfFault-clause-shelf_fault g c = λ left _. record {
-  texts = [];
-  run =
-      have_run_stopped (g.H.Shelf.files c.args.shelf.now) c.args.session.now c.run.new.self
-      c.in-Err-ShelfFault.ensures.stop c.in-Err-ShelfFault.ensures.counted.stop_lines;
-  wrote = none;
-}
+returns-in-Err-ShelfFault-clause-shelf_fault g c = λ left _.
+    were_run_stopped (g.H.Shelf.files c.args.shelf.now) c.args.session.now c.run.new.self
+    c.in-Err-ShelfFault.ensures.stop c.in-Err-ShelfFault.ensures.counted.stop_lines
 
-pub returns-in-Err-ShelfFault-clause-shelf_asked : goal.returns-in-Err-ShelfFault-clause-shelf_asked
-returns-in-Err-ShelfFault-clause-shelf_asked g c = λ state h _.
-    ⊎_elim (λ (asks : fetches state c.args.line.now ≡ true). asks)
-    (λ (asks : fetches state c.args.line.now ≡ false).
-    absurd (c.in-Err-ShelfFault.ensures.shelf.no_fault (record { state = state; stand = h; none = asks })
-    (ap Err c.in-Err-ShelfFault.field-0-is)))
-    (cases_Bool (fetches state c.args.line.now))
+pub returns-in-Err-ShelfFault-clause-shelf : goal.returns-in-Err-ShelfFault-clause-shelf
+returns-in-Err-ShelfFault-clause-shelf g c =
+    asked_by c.in-Err-ShelfFault.ensures.shelf (λ none. none) (λ _. ap Err c.in-Err-ShelfFault.field-0-is) (λ _. refl)
+
+pub returns-in-Err-Memory-clause-shelf : goal.returns-in-Err-Memory-clause-shelf
+returns-in-Err-Memory-clause-shelf g c =
+    asked_by c.in-Err-Memory.ensures.shelf (λ none. none) (λ fault. absurd (cc fault))
+    (λ fault. absurd (cc (c.in-Err-Memory.field-0-is, fault)))
+
+pub returns-in-Err-clause-shelf : goal.returns-in-Err-clause-shelf
+returns-in-Err-clause-shelf g c =
+    asked_by c.in-Ok.ensures.shelf (λ none. none) (λ fault. absurd (cc fault)) (λ fault. absurd (cc fault))
+
+pub returns-clause-shelf : goal.returns-clause-shelf
+returns-clause-shelf g c =
+    asked_by c.in-Ok.ensures.shelf (λ none. none) (λ fault. absurd (cc fault)) (λ fault. absurd (cc fault))
 
 pub returns-clause-run : goal.returns-clause-run
 returns-clause-run g c = λ left.

@@ -4,7 +4,7 @@ use Rattle.mp_feed.specs.Reading.{IsNext}
 use Rattle.mp_feed.specs.declared.readers.Next.TheVariants.{Line, End}
 use Rattle.mp_feed.specs.WritingLaws.{wrote_faults}
 use Rattle.mp_session.specs.Running.{course_at, next_by}
-use Rattle.mp_session.proofs.RunLemmas.{were_run_none}
+use Rattle.mp_session.proofs.RunLemmas.{asks_where, were_run_none}
 use Rattle.mp_session.proofs.UnderWay.{under_way_start, under_way_on, all_to_end, all_to_last, all_at_end, into_line}
 use Rattle.mp_session.proofs.UnderWay.{some_lines, lines_before_fault, lines_within, to_file}
 use Rattle.mp_session.proofs.runs.run_lines.Goals as goal
@@ -30,13 +30,11 @@ loop-reader-init g c = rw c.in_ok-reader.ensures (record {
 
 pub returns-in_err-last-clause-read_fault : goal.returns-in_err-last-clause-read_fault
 returns-in_err-last-clause-read_fault g c = λ e.
-    lines_before_fault c.next_line.new.reader (g.S.Source.left c.next_line.new.input) c.loop-reader.invariant.run
-    (c.in_err-last.ensures.failed (search rules))
+    lines_before_fault c.loop-reader.invariant.run (c.in_err-last.ensures.failed (search rules))
 
 pub returns-in_err-last-clause-input_limit : goal.returns-in_err-last-clause-input_limit
 returns-in_err-last-clause-input_limit g c = λ e.
-    lines_within c.next_line.new.reader (g.S.Source.left c.next_line.new.input) c.loop-reader.invariant.run
-    (c.in_err-last.ensures.past (search rules))
+    lines_within c.loop-reader.invariant.run (c.in_err-last.ensures.past (search rules))
 
 -- where no line comes, the end does
 no_line : (next : Option Bool) → ((last : Bool) → next ≡ Some last → ⊥) → next_by next ≡ End
@@ -45,7 +43,7 @@ no_line (Some last) none = absurd (none last refl)
 
 pub returns-in_default-clause-all : goal.returns-in_default-clause-all
 returns-in_default-clause-all g c =
-    all_at_end c.next_line.new.reader (g.S.Source.left c.next_line.new.input) c.loop-reader.invariant.run
+    all_at_end c.loop-reader.invariant.run
     (subst (IsNext c.loop-reader.reader c.next_line.new.reader (g.S.Source.left c.loop-reader.input)
     (g.S.Source.left c.next_line.new.input))
     (no_line c.in_ok-last.field-0 c.in_default.not-Some) c.in_ok-last.ensures.next)
@@ -58,18 +56,21 @@ returns-in_err-ran-clause-memory g c = λ e.
 
 pub returns-in_err-ran-clause-shelf_fault : goal.returns-in_err-ran-clause-shelf_fault
 returns-in_err-ran-clause-shelf_fault g c = λ e.
-    to_file c.next_line.new.reader (g.S.Source.left c.next_line.new.input) c.loop-reader.invariant.run c.in-Some.last
+    to_file c.loop-reader.invariant.run c.next_line.new.reader (g.S.Source.left c.next_line.new.input) c.in-Some.last
     (rw c.in-Some.is at c.in_ok-last.ensures.next) c.line.ensures
     (rw c.loop-reader.invariant.files at c.in_err-ran.ensures.shelf_fault
     (g.S.Source.left c.next_line.new.input) (search rules))
-    (λ state h. c.in_err-ran.ensures.shelf_asked state h (search rules))
+    (λ state h.
+    asks_where _ state c.line.result.now h (λ none. c.in_err-ran.ensures.shelf.no_fault none (search rules)))
 
 pub returns-in_err-ran-clause-write_fault : goal.returns-in_err-ran-clause-write_fault
-returns-in_err-ran-clause-write_fault g c = λ e.
-    into_line c.next_line.new.reader (g.S.Source.left c.next_line.new.input) c.loop-reader.invariant.run c.in-Some.last
-    (rw c.in-Some.is at c.in_ok-last.ensures.next) c.line.ensures
-    (rw c.loop-reader.invariant.files at c.in_err-ran.ensures.begun
-    (g.S.Source.left c.next_line.new.input) (search rules))
+returns-in_err-ran-clause-write_fault g c = λ e. (
+  into_line c.loop-reader.invariant.run c.next_line.new.reader (g.S.Source.left c.next_line.new.input) c.in-Some.last
+      (rw c.in-Some.is at c.in_ok-last.ensures.next) c.line.ensures
+      (rw c.loop-reader.invariant.files at c.in_err-ran.ensures.begun
+      (g.S.Source.left c.next_line.new.input) (search rules)),
+  search rules,
+)
 
 pub returns-then-ran-clause-all : goal.returns-then-ran-clause-all
 returns-then-ran-clause-all g c =
@@ -78,11 +79,11 @@ returns-then-ran-clause-all g c =
     let run = rw c.loop-reader.invariant.files at c.in_ok-ran.ensures.run left in
     elim c.then-ran.branch [
       | then-ran-via-then-ran w ↦
-          all_to_end c.next_line.new.reader left c.loop-reader.invariant.run c.in-Some.last next c.line.ensures
-          run c.in_ok-ran.ensures.ends w.if-ran.true
+          all_to_end c.loop-reader.invariant.run c.next_line.new.reader left c.in-Some.last next c.line.ensures run
+          c.in_ok-ran.ensures.ends w.if-ran.true
       | then-ran-via-else-ran+then-last w ↦
-          all_to_last c.next_line.new.reader left c.loop-reader.invariant.run c.in-Some.last
-          w.if-last.true next c.line.ensures run
+          all_to_last c.loop-reader.invariant.run c.next_line.new.reader left c.in-Some.last next c.line.ensures
+          w.if-last.true run
     ]
 
 pub loop-reader-preserved : goal.loop-reader-preserved
@@ -98,7 +99,7 @@ loop-reader-preserved g c =
     let ran = c.in_ok-ran.ensures in
     rw c.drop_line.ensures (record {
       run =
-          under_way_on c.next_line.new.reader left i.run line_held c.line.ensures (rw i.files at ran.run left)
+          under_way_on i.run c.next_line.new.reader left line_held c.line.ensures (rw i.files at ran.run left)
           ran.ends c.if-ran.false;
       part = λ whole. absurd (cc whole);
       count = omega (arith, i.count, fewer, (ran.run left).run.count);
@@ -106,6 +107,6 @@ loop-reader-preserved g c =
       left = omega (arith, i.left, line_held.gave.count);
       source_faults = omega (arith, i.source_faults, read.faults);
       sink_faults = omega (arith, i.sink_faults, wrote_faults (ran.run left).wrote);
-      calm = ran.calm (λ e. absurd (cc e)) ∙ i.calm;
-      files = ran.files ∙ i.files;
+      calm = ran.shelf.calm (λ e. absurd (cc e)) ∙ i.calm;
+      files = ran.shelf.files ∙ i.files;
     })

@@ -1,12 +1,13 @@
-use Rattle.std.proofs.Common.{◌∙◌, Bool, Ok, ap, refl, rules, sym, subst}
+use Rattle.std.proofs.Common.{◌∙◌, Ok, ap, refl, rules, sym, subst}
 use Rattle.mp_replies.specs.Line.{asked_of}
-use Rattle.mp_commands.specs.Answers.{is_accepted}
+use Rattle.mp_commands.specs.Commands.{is_accepted}
+use Rattle.mp_commands.specs.Fetching.{asked_by}
 use Rattle.mp_commands.specs.declared.replies.Stop.{Stop}
-use Rattle.mp_session.specs.Sessions.{AsksNoFile, SessionParts, HasCommitted, StandsFor, WereReadBy}
-use Rattle.mp_session.proofs.AnyShelf.{accepted_by_some, file_refused_by, unaccepted_by}
+use Rattle.mp_session.specs.Sessions.{AsksNoFile, SessionParts, StandsFor, WereReadBy}
+use Rattle.mp_session.proofs.AnyShelf.{over_any}
 use Rattle.mp_session.proofs.EndLemmas.{no_shelf_fault, on_err, passed_back, passed_on}
 use Rattle.mp_session.proofs.ReadLemmas.{answered_reads, stopped_reads}
-use Rattle.mp_session.proofs.StepLemmas.{asked_by, needs_no_file, prepared_by, prepared_in, replied, stands_still}
+use Rattle.mp_session.proofs.StepLemmas.{needs_no_file, prepared_by, prepared_in, replied, stands_still}
 use Rattle.mp_session.proofs.sessions.Session.run.Goals as goal
 use Rattle.mp_replies.specs.State.{first_version}
 
@@ -66,55 +67,28 @@ returns-clause-told g c = λ state files h told.
     let inside = subst (λ (s : SessionParts). StandsFor s state) (sym c.self.view_is) h in
     let step = prepared_in _ state files line prepared _ c.self.invariant inside c.in_ok-prepared.ensures.prepared.ok
     told in
-    let mid : SessionParts =
-    record {
-      settings = c.self.inside.settings;
-      lines = c.self.inside.lines;
-      begun = c.self.inside.begun;
-      stores = c.prepare.new.stores;
-    } in
-    let stands = stands_still _ mid state refl refl refl c.prepare.ensures.stores.stands inside in
-    let made =
-    subst (λ (b : Bool). HasCommitted mid c.commit.new.self prepared.change b)
-    (c.is_accepted-accepted.ensures ∙ ap is_accepted c.kind.ensures) c.commit.ensures.committed in
-    replied mid c.commit.new.self state files line prepared c.in_ok-reply.reply
-    (c.prepare.ensures.stores.stands.window_is ∙ c.self.invariant) (c.in_ok-reply.ensures.text state)
-    c.in_ok-reply.ensures.kind made stands step
+    replied _ c.commit.new.self c.prepare.new.stores state files line prepared c.in_ok-reply.reply _ c.self.invariant
+    c.prepare.ensures.stores.stands (c.in_ok-reply.ensures.text state) c.in_ok-reply.ensures.kind
+    (c.is_accepted-accepted.ensures ∙ ap is_accepted c.kind.ensures) c.commit.ensures.committed inside step
 
 pub returns-clause-some_files : goal.returns-clause-some_files
 returns-clause-some_files g c =
     let line = c.args.line.now in
     let prepared = c.in_ok-prepared.prepared in
     let some = c.in_ok-prepared.ensures.some_files in
-    let mid : SessionParts =
-    record {
-      settings = c.self.inside.settings;
-      lines = c.self.inside.lines;
-      begun = c.self.inside.begun;
-      stores = c.prepare.new.stores;
-    } in
-    let made =
-    subst (λ (b : Bool). HasCommitted mid c.commit.new.self prepared.change b)
-    (c.is_accepted-accepted.ensures ∙ ap is_accepted c.kind.ensures) c.commit.ensures.committed in
     record {
       files = some.files;
       is = λ state h.
           let inside = subst (λ (s : SessionParts). StandsFor s state) (sym c.self.view_is) h in
           let step = prepared_by _ state some.files line prepared c.self.invariant inside some.is in
-          let stands = stands_still _ mid state refl refl refl c.prepare.ensures.stores.stands inside in
-          replied mid c.commit.new.self state some.files line prepared c.in_ok-reply.reply
-          (c.prepare.ensures.stores.stands.window_is ∙ c.self.invariant) (c.in_ok-reply.ensures.text state)
-          c.in_ok-reply.ensures.kind made stands step;
+          replied _ c.commit.new.self c.prepare.new.stores state some.files line prepared c.in_ok-reply.reply _
+          c.self.invariant c.prepare.ensures.stores.stands (c.in_ok-reply.ensures.text state)
+          c.in_ok-reply.ensures.kind (c.is_accepted-accepted.ensures ∙ ap is_accepted c.kind.ensures)
+          c.commit.ensures.committed inside step;
     }
 
-pub returns-clause-unaccepted : goal.returns-clause-unaccepted
-returns-clause-unaccepted g c = λ state h. unaccepted_by state _ _ _ _ (returns-clause-some_files g c) h
-
-pub returns-clause-accepted : goal.returns-clause-accepted
-returns-clause-accepted g c = λ state h. accepted_by_some state _ _ _ _ (returns-clause-some_files g c) h
-
-pub returns-clause-file_refused : goal.returns-clause-file_refused
-returns-clause-file_refused g c = λ state h asks. file_refused_by state _ _ _ _ (returns-clause-some_files g c) h asks
+pub returns-clause-any_shelf : goal.returns-clause-any_shelf
+returns-clause-any_shelf g c = λ state h. over_any state _ _ _ _ (returns-clause-some_files g c) h
 
 pub returns-clause-reads : goal.returns-clause-reads
 returns-clause-reads g c =

@@ -12,8 +12,7 @@ add-requires-clause-open c =
     let all : AreSeen c.self.inside.m c.self.inside.stored.items c.args.self.now c.args.slot =
     record { seen = c.self.view_is; are = c.self.invariant; within = c.requires.slot } in
     subst (λ (h : Held). 0 < length (streams_in h))
-    (sym (slot_seen c.self.inside.m c.self.inside.stored.items c.args.self.now c.args.slot c.index_mut.result.now all
-    c.index_mut.ensures.value))
+    (sym (slot_seen all c.index_mut.ensures.value))
     c.requires.open
 
 pub add-requires-clause-room : goal.add-requires-clause-room
@@ -21,8 +20,7 @@ add-requires-clause-room c =
     let all : AreSeen c.self.inside.m c.self.inside.stored.items c.args.self.now c.args.slot =
     record { seen = c.self.view_is; are = c.self.invariant; within = c.requires.slot } in
     subst (λ (h : Held). HaveRoom (streams_in h) (lists_in c.args.added.now))
-    (sym (slot_seen c.self.inside.m c.self.inside.stored.items c.args.self.now c.args.slot c.index_mut.result.now all
-    c.index_mut.ensures.value))
+    (sym (slot_seen all c.index_mut.ensures.value))
     c.requires.room
 
 abbrev all : (c : goal.After-self-1)
@@ -33,17 +31,16 @@ abbrev grown : (c : goal.After-self-1)
     → WasExtended c.args.self.now.m (lists_in c.args.added.now) (slot_at c.args.self.now c.args.slot)
     (held_of c.add.new.self)
 grown c =
-    seen_extended c.self.inside.m c.self.inside.stored.items c.args.self.now c.args.slot c.index_mut.result.now
-    c.add.new.self (lists_in c.args.added.now) (all c) c.index_mut.ensures.value c.add.ensures c.requires.room
-    c.requires.same
+    seen_extended (all c) c.index_mut.ensures.value c.add.new.self (lists_in c.args.added.now) c.add.ensures
+    c.requires.room c.requires.same
 
 abbrev behind : (c : goal.After-self-1)
     → AreSet c.args.self.now (view c.self.inside.m (set c.self.inside.stored.items c.args.slot c.add.new.self))
     c.args.slot (held_of c.add.new.self)
     (λ stores. Open (extended (channels_at stores c.args.slot) (map series_of (lists_in c.args.added.now))))
 behind c =
-    seen_set c.self.inside.m c.self.inside.stored.items c.args.self.now c.args.slot c.add.new.self _ (all c)
-    (grown c).is (λ stores stand. (grown c).stands (store_at stores c.args.slot) (stand.each c.args.slot))
+    seen_set (all c) c.add.new.self _ (grown c).is
+    (λ stores stand. (grown c).stands (store_at stores c.args.slot) (stand.each c.args.slot))
 
 pub invariant_of-self : goal.invariant_of-self
 invariant_of-self c = (behind c).are

@@ -13,7 +13,7 @@ returns-in-Some c =
     let all : AreSeen c.self.inside.m stored c.args.self.now c.args.slot =
     record { seen = c.self.view_is; are = c.self.invariant; within = omega (arith, long, within) } in
     let are =
-    channels_seen c.self.inside.m stored c.args.self.now c.args.slot c.in-Some.store.now c.channels.result.now all
+    channels_seen c.channels.result.now all
     (found.1 ∙ ap (λ (vs : List Store). get_or vs c.args.slot c.in-Some.store.now) c.deref.ensures.value)
     c.channels.ensures in
     record {

@@ -11,8 +11,7 @@ copy_to-requires c =
     let all : AreSeen c.self.inside.m c.self.inside.stored.items c.args.self.now c.args.at.slot =
     record { seen = c.self.view_is; are = c.self.invariant; within = c.requires.slot } in
     subst (λ (h : Held). c.args.at.channel < length (streams_in h))
-    (sym (slot_seen c.self.inside.m c.self.inside.stored.items c.args.self.now c.args.at.slot c.index_mut.result.now
-    all c.index_mut.ensures.value))
+    (sym (slot_seen all c.index_mut.ensures.value))
     c.requires.channel
 
 abbrev all : (c : goal.After-self-1)
@@ -24,8 +23,8 @@ abbrev read : (c : goal.After-self-1)
     (view c.self.inside.m (set c.self.inside.stored.items c.args.at.slot c.copy_to.new.self))
     c.args.at.slot (held_of c.copy_to.new.self) (lent_of (slot_at c.args.self.now c.args.at.slot) c.args.at.channel)
 read c =
-    seen_read c.self.inside.m c.self.inside.stored.items c.args.self.now c.args.at.slot c.index_mut.result.now
-    c.copy_to.new.self (λ h. lent_of h c.args.at.channel) (all c) c.index_mut.ensures.value c.copy_to.ensures.read
+    seen_read (all c) c.index_mut.ensures.value c.copy_to.new.self (λ h. lent_of h c.args.at.channel)
+    c.copy_to.ensures.read
 
 pub invariant_of-self : goal.invariant_of-self
 invariant_of-self c = (read c).are
@@ -37,13 +36,11 @@ pub returns-clause-ok : goal.returns-clause-ok
 returns-clause-ok c =
     subst (λ (h : Held).
     OnOk c.copy_to.result (c.copy_to.new.bundle ≡ c.args.bundle.now ++ (stream_in h c.args.at.channel).items ∷ []))
-    (slot_seen c.self.inside.m c.self.inside.stored.items c.args.self.now c.args.at.slot c.index_mut.result.now (all c)
-    c.index_mut.ensures.value)
+    (slot_seen (all c) c.index_mut.ensures.value)
     c.copy_to.ensures.ok
 
 pub returns-clause-within : goal.returns-clause-within
 returns-clause-within c =
     subst (λ (h : Held). length (stream_in h c.args.at.channel).items ≤ max_samples)
-    (slot_seen c.self.inside.m c.self.inside.stored.items c.args.self.now c.args.at.slot c.index_mut.result.now (all c)
-    c.index_mut.ensures.value)
+    (slot_seen (all c) c.index_mut.ensures.value)
     c.copy_to.ensures.within

@@ -1,5 +1,5 @@
 use Rattle.std.proofs.Common.{◌∙◌, ℕ, ap, subst, sym, length}
-use Rattle.std.specs.Prelude.{◌==◌, []}
+use Rattle.std.specs.Prelude.{◌==◌}
 use Rattle.mp_stores.specs.StoreLaws.{count_stands, is_closed_stands}
 use Rattle.mp_stores.specs.Stores.{AreChannels}
 use Rattle.mp_stores.proofs.stores.Stores.count.Goals as goal

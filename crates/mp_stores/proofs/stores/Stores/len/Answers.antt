@@ -1,6 +1,6 @@
-use Rattle.std.proofs.Common.{◌≡◌, ◌∙◌, ap, sym}
+use Rattle.std.proofs.Common.{◌∙◌, ap, sym}
 use Rattle.mp_stores.specs.StoreLaws.{samples_stand}
-use Rattle.mp_stores.specs.Stores.{count_in, streams_at}
+use Rattle.mp_stores.specs.Stores.{count_in}
 use Rattle.mp_stores.proofs.StoreLemmas.{first_long, none_long}
 use Rattle.mp_stores.proofs.stores.Stores.len.Goals as goal
 

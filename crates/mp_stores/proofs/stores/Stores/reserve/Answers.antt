@@ -18,8 +18,7 @@ abbrev read : (c : goal.After-self-1)
     → IsReadSlot c.args.self.now (view c.self.inside.m (set c.self.inside.stored.items c.args.slot c.reserve.new.self))
     c.args.slot (held_of c.reserve.new.self) 0
 read c =
-    seen_read c.self.inside.m c.self.inside.stored.items c.args.self.now c.args.slot c.index_mut.result.now
-    c.reserve.new.self (λ h. 0) (all c) c.index_mut.ensures.value c.reserve.ensures.read
+    seen_read (all c) c.index_mut.ensures.value c.reserve.new.self (λ h. 0) c.reserve.ensures.read
 
 pub invariant_of-self : goal.invariant_of-self
 invariant_of-self c = (read c).are

@@ -1,4 +1,4 @@
-use Rattle.std.proofs.Common.{◌+◌, ◌<◌, ◌≤◌, arith, length, refl, set, subst, sym}
+use Rattle.std.proofs.Common.{◌+◌, ◌<◌, ◌≤◌, arith, length, set, subst, sym}
 use Rattle.std.proofs.lemmas.List.{length-map}
 use Rattle.mp_defs.specs.Series.{reading_of}
 use Rattle.mp_stores.specs.Seen.{held_of}
@@ -12,8 +12,7 @@ window-requires-clause-channel c =
     let all : AreSeen c.self.inside.m c.self.inside.stored.items c.args.self.now c.args.at.slot =
     record { seen = c.self.view_is; are = c.self.invariant; within = c.requires.channel.slot } in
     subst (λ (h : Held). c.args.at.channel < length (streams_in h))
-    (sym (slot_seen c.self.inside.m c.self.inside.stored.items c.args.self.now c.args.at.slot c.index_mut.result.now
-    all c.index_mut.ensures.value))
+    (sym (slot_seen all c.index_mut.ensures.value))
     c.requires.channel.channel
 
 pub window-requires-clause-window : goal.window-requires-clause-window
@@ -22,11 +21,10 @@ window-requires-clause-window c =
     record { seen = c.self.view_is; are = c.self.invariant; within = c.requires.channel.slot } in
     let old = c.args.self.now in
     let at = c.args.at in
-    let are = stores_seen c.self.inside.m c.self.inside.stored.items old at.slot all in
+    let are = stores_seen all in
     let m = window_in old.m (slot_at old at.slot) at.channel (are.each at.slot) c.requires.channel.channel in
     subst (λ (h : Held). c.args.start + (stream_in h at.channel).m ≤ length (stream_in h at.channel).items)
-    (sym (slot_seen c.self.inside.m c.self.inside.stored.items old at.slot c.index_mut.result.now all
-    c.index_mut.ensures.value))
+    (sym (slot_seen all c.index_mut.ensures.value))
     (omega (arith, c.requires.window, m, length-map (channel_at old at).items reading_of))
 
 abbrev all : (c : goal.After-self-1)
@@ -38,8 +36,8 @@ abbrev read : (c : goal.After-self-1)
     c.window.new.self))
     c.args.at.slot (held_of c.window.new.self) (lent_of (slot_at c.args.self.now c.args.at.slot) c.args.at.channel)
 read c =
-    seen_read c.self.inside.m c.self.inside.stored.items c.args.self.now c.args.at.slot c.index_mut.result.now
-    c.window.new.self (λ h. lent_of h c.args.at.channel) (all c) c.index_mut.ensures.value c.window.ensures.read
+    seen_read (all c) c.index_mut.ensures.value c.window.new.self (λ h. lent_of h c.args.at.channel)
+    c.window.ensures.read
 
 pub invariant_of-self : goal.invariant_of-self
 invariant_of-self c = (read c).are
@@ -52,8 +50,7 @@ returns-clause-window c =
     let old = c.args.self.now in
     let at = c.args.at in
     let here =
-    slot_seen c.self.inside.m c.self.inside.stored.items old at.slot c.index_mut.result.now (all c)
-    c.index_mut.ensures.value in
-    let are = stores_seen c.self.inside.m c.self.inside.stored.items old at.slot (all c) in
+    slot_seen (all c) c.index_mut.ensures.value in
+    let are = stores_seen (all c) in
     let m = window_in old.m (slot_at old at.slot) at.channel (are.each at.slot) c.requires.channel.channel in
     copied c.window.result c.args.start old.m (channel_at old at) m (rw here at c.window.ensures.window)

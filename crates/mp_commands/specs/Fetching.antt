@@ -1,0 +1,32 @@
+-- What a shelf gives for a load.
+use Rattle.std.specs.Prelude.{◌≡◌, ℕ, Bool, List, Option, Some}
+use Rattle.mp_replies.specs.declared.causes.Cause.{Cause}
+use Rattle.mp_replies.specs.Conditions.{first_cause}
+use Rattle.mp_replies.specs.LoadCommand.{file_conditions, file_in}
+use Rattle.mp_replies.specs.State.{Files}
+use Rattle.mp_outside.specs.declared.shelves.Shelf as shelves
+use Rattle.mp_commands.specs.Preparing.{IsAsked}
+
+-- by these files a load of this file is refused by this word, whatever its columns
+abbrev pub FileRefuses : Files → List ℕ → Cause → Type 0
+FileRefuses files name cause =
+    (scale : ℕ) (cols : List ℕ) (header : Bool)
+    → first_cause (file_conditions scale cols header (file_in files name)) ≡ Some cause
+
+-- it is by the files that a shelf tells, and by some, which no shelf needs to tell
+pub record IsRefusedFile (tells : Option Files) (name : List ℕ) (cause : Cause) : Type 0 where
+  pub told : (files : Files) → tells ≡ Some files → FileRefuses files name cause
+  pub files : Files
+  pub some : FileRefuses files name cause
+
+-- what is known of the shelf, by other words for what isn't wanted and what failed
+pub asked_by : {H : Type 0} {shelf : shelves.Ghosts H} {unwanted also failed stopped : Type 0} {old new : H}
+    → IsAsked shelf unwanted failed old new → (also → unwanted) → (stopped → failed) → (failed → stopped)
+    → IsAsked shelf also stopped old new
+asked_by asked wants to from = record {
+  files = asked.files;
+  fault = λ stop. asked.fault (to stop);
+  calm = λ none. asked.calm (λ failed. none (from failed));
+  unfetched = λ also. asked.unfetched (wants also);
+  no_fault = λ also stop. asked.no_fault (wants also) (to stop);
+}
