@@ -6,6 +6,8 @@
 #[cfg(test)]
 mod cores;
 #[cfg(test)]
+mod desks;
+#[cfg(test)]
 mod expected;
 #[cfg(test)]
 mod finds;
@@ -13,6 +15,8 @@ mod finds;
 mod joins;
 #[cfg(test)]
 mod marks;
+#[cfg(test)]
+mod meetings;
 #[cfg(test)]
 mod queries;
 #[cfg(test)]

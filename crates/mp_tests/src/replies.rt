@@ -3,10 +3,11 @@
 ghost use Rattle.std.specs.Prelude.{◌+◌, ◌-◌, ◌^◌, ◌<◌, ◌≤◌};
 
 use crate::run::{CALM, Run, shelf_of};
-use mp_outside::{MemShelf, OpenGate};
+use mp_outside::{MeetGate, MemShelf, OpenGate};
 use mp_session::ReplyKind::{Accepted, Ended, Quiet, Refused};
 use mp_session::{Reply, ReplyKind, Session, Settings, Stop};
 use std::process::Abort;
+use std::test::Fail;
 use std::thread::Threads;
 
 /// By how much a line raises the reads of slots at most, or `None` for slots that are closed behind it.
@@ -270,4 +271,34 @@ fn a_session_answers_line_by_line(rt: HostRuntime) {
     for talk in TALKS {
         check(&rt, &talk);
     }
+}
+
+/// Loads a table of two thousand records by two workers.
+fn load_by_two<R: Abort + AllocGlobal + Threads + Sync>(
+    rt: &R,
+    shelf: &mut MemShelf,
+    gate: &MeetGate,
+) {
+    let settings = Settings::new(3, 0, 256, 2).expect(rt, "within the limits");
+    let mut session = Session::new(rt, rt.alloc(), settings).expect(rt, "memory is short");
+    let line = "load 0 table.csv 0";
+    let answer = session.run(rt, rt.alloc(), line.as_bytes(), shelf, gate);
+    check_answer(rt, &answer, &(line, Ok(Accepted), "ok 1 2000\n", &[]));
+}
+
+#[test]
+fn two_workers_of_a_load_meet(rt: HostRuntime) -> Result<(), Fail> {
+    let mut file = Vec::new(rt.alloc());
+    for _ in 0..2_000 {
+        file.extend_from_slice(b"1\n")?;
+    }
+    let run = Run {
+        file: file.as_slice(),
+        ..CALM
+    };
+    let mut shelf = shelf_of(&rt, &run);
+    let gate = MeetGate::new();
+    load_by_two(&rt, &mut shelf, &gate);
+    assert!(rt; gate.met());
+    Ok(())
 }

@@ -1,2 +1,4 @@
-pub mod Sharing
-pub mod Merges
+pub mod Drawing
+pub mod Working
+pub mod Teaming
+pub mod Closing

@@ -1,2 +1,3 @@
-pub mod Shares
+pub mod Desks
 pub mod Teams
+pub mod DeskLaws

@@ -1,21 +1,45 @@
--- Teams of workers, each with a part of its own.
-use Rattle.std.specs.Prelude.{◌≡◌, ℕ, ◌+◌, ◌<◌, ◌≤◌, List, All, slice_get, Some}
+-- Teams of workers, each with a pass and a part of its own.
+use Rattle.std.specs.Prelude.{◌≡◌, ℕ, ◌≤◌, List, [], All, flat_map, slice_get, Some}
 use Rattle.mp_partial.specs.Values.{Value}
-use Rattle.mp_partial.specs.declared.limits.TheConstants.{MAX_PIECES, MAX_WORKERS}
-use Rattle.mp_workers.specs.declared.teams.Team.{Team}
+use Rattle.mp_workers.specs.Desks.{DeskId, PassState, pieces_among, times}
 
--- the team has a worker for each of so many parts, and is one of at most 32 workers
-pub record IsTeam (team : Team) (count : ℕ) : Type 0 where
-  pub some : 0 < count
-  pub within : team.first + count ≤ team.workers
-  pub few_workers : team.workers ≤ MAX_WORKERS
-  pub few_pieces : team.pieces ≤ MAX_PIECES
+-- a worker: its pass, the size of what it has found, and the value of that
+pub record WorkerState : Type 0 where
+  pub pass : PassState
+  pub size : ℕ
+  pub found : Value
 
--- the parts have this size and this value
-abbrev pub AllHave : {P : Type 0} → (P → ℕ) → (P → Value) → ℕ → Value → List P → Type 0
-AllHave size_of value size expected parts = All (λ part. (size_of part ≡ size) × (value part ≡ expected)) parts
+-- the worker has a pass of weight 1 to the desk, and a part of this size
+pub record IsOfTeam (desk : DeskId) (size : ℕ) (worker : WorkerState) : Type 0 where
+  pub of_desk : worker.pass.desk ≡ desk
+  pub weight : worker.pass.weight ≡ 1
+  pub size_is : worker.size ≡ size
 
--- the first part has this size and this value
-abbrev pub FirstHas : {P : Type 0} → (P → ℕ) → (P → Value) → ℕ → Value → List P → Type 0
-FirstHas {P} size_of value size expected parts =
-    (first : P) × (slice_get parts 0 ≡ Some first) × (size_of first ≡ size) × (value first ≡ expected)
+-- it has drawn nothing yet, and found nothing
+pub record IsReady (desk : DeskId) (size : ℕ) (unit : Value) (worker : WorkerState) : Type 0 where
+  pub of_team : IsOfTeam desk size worker
+  pub drawn : worker.pass.drawn ≡ []
+  pub found : worker.found ≡ unit
+
+-- a number that is no piece stands in the list
+abbrev pub HasPast : ℕ → List ℕ → Type 0
+HasPast pieces numbers = (last : ℕ) × (pieces ≤ last) × (1 ≤ times last numbers)
+
+-- it has drawn numbers until one was no piece
+pub record IsDone (desk : DeskId) (size : ℕ) (worker : WorkerState) : Type 0 where
+  pub of_team : IsOfTeam desk size worker
+  pub past_pieces : HasPast desk.pieces worker.pass.drawn
+
+-- the pieces that the workers drew
+abbrev pub pieces_of : ℕ → List WorkerState → List ℕ
+pieces_of pieces workers = flat_map (λ worker. pieces_among pieces worker.pass.drawn) workers
+
+-- all workers are done, and the first one has what all of them found
+abbrev pub HaveRun : DeskId → ℕ → (List ℕ → Value) → List WorkerState → Type 0
+HaveRun desk size together workers =
+    All (IsDone desk size) workers × (first : WorkerState) × (slice_get workers 0 ≡ Some first)
+    × (first.found ≡ together (pieces_of desk.pieces workers))
+
+-- the first worker of some has what the first ones of both found
+abbrev pub with_first_of : (Value → Value → Value) → WorkerState → WorkerState → WorkerState
+with_first_of merged first other = record first { found = merged first.found other.found }

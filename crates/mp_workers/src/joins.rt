@@ -13,8 +13,25 @@ use mp_tiles::{JoinTiles, MAX_TILE, OwnTiles};
 use std::alloc::Global;
 use std::thread::Threads;
 
+/// For how many pairs of windows a worker is started. Fewer pairs take less time than the start of a thread.
+const PAIRS_FOR_A_WORKER: u64 = 262_144;
+
+/// How many of the workers so many pairs of windows are worth, at least one.
+fn worth(pairs: u64, workers: u32) -> u32
+    requires { 1 ≤ workers }
+    ensures some { 1 ≤ result }
+    ensures within { result ≤ workers }
+{
+    (pairs / PAIRS_FOR_A_WORKER).clamp(1, u64::from(workers)) as u32
+}
+
+/// How many pairs of a sample of one series and a sample of another there are.
+fn pairs(first: &[Sample], second: &[Sample]) -> u64 {
+    (first.len() as u64).saturating_mul(second.len() as u64)
+}
+
 /// The matrix profile of the samples at window length `m`, computed in tiles of at most `tile` diagonals by so many
-/// workers. It is the same for every tile, number of workers and gate.
+/// workers. It is the same for every tile, number of workers and gate. A short series is left to fewer workers.
 pub fn self_join<R: Threads + Sync, G: Gate>(
     rt: &R,
     alloc: Global,
@@ -37,12 +54,13 @@ pub fn self_join<R: Threads + Sync, G: Gate>(
 {
     let tiles = OwnTiles::new(samples, m, tile);
     let room = Profile::with_capacity(alloc, tiles.size())?;
+    let workers = worth(pairs(samples, samples) / 2, workers);
     Ok(run_all(rt, alloc, &tiles, tiles.pieces(), workers, gate)?.profile(room))
 }
 
 /// The AB-join at window length `m`: for each window of `a` its nearest window in `b`, without an exclusion zone,
 /// computed in tiles of at most `tile` diagonals by so many workers. It is the same for every tile, number of workers
-/// and gate. `a` and `b` may be the same series.
+/// and gate. `a` and `b` may be the same series. Short series are left to fewer workers.
 pub fn ab_join<R: Threads + Sync, G: Gate>(
     rt: &R,
     alloc: Global,
@@ -64,5 +82,6 @@ pub fn ab_join<R: Threads + Sync, G: Gate>(
     ensures { IfOk result (λ slots. slots.items ≡ ab_join m (series_of a.now) (series_of b.now)) }
 {
     let join = JoinTiles::new(a, b, m, tile);
+    let workers = worth(pairs(a, b), workers);
     run_all(rt, alloc, &join, join.pieces(), workers, gate)
 }

@@ -1,9 +1,16 @@
-//! Workers that run the pieces of a kernel side by side, and the profiles and joins that they compute.
+//! Workers that draw the pieces of a kernel from one desk and run them side by side, and the profiles and joins that
+//! they compute.
 #![tactic(auto)]
 
+mod desks;
 mod joins;
-mod shares;
+mod laws;
+mod passes;
 mod teams;
+mod workers;
 
+pub use desks::Desk;
 pub use joins::{ab_join, self_join};
+pub use laws::desk_gives_each_piece;
+pub use passes::Pass;
 pub use teams::run_all;

@@ -1,115 +1,113 @@
 //! Workers that run the pieces of a kernel side by side.
 
-ghost use Rattle.std.specs.Prelude.{◌≡◌, ℕ, ◌+◌, ◌<◌, ◌≤◌, length, IfOk, vec_len};
+ghost use Rattle.std.specs.Prelude.{◌≡◌, ◌<◌, ◌≤◌, ◌++◌, All, length, IfOk};
 ghost use Rattle.std.specs.Thread.{IsSync, IsSend};
-ghost use Rattle.mp_partial.specs.Values.{Value, merged_below, merged_over};
-ghost use Rattle.mp_workers.specs.Shares.{shares};
-ghost use Rattle.mp_workers.specs.Teams.{AllHave, FirstHas, IsTeam};
+ghost use Rattle.mp_partial.specs.Values.{merged_below, merged_over};
+ghost use Rattle.mp_workers.specs.Teams.{HaveRun, IsReady};
 
-use crate::shares::run_share;
+use crate::desks::Desk;
+use crate::workers::{Worker, gather, hire, merge_first};
 use mp_nums::Memory;
 use mp_outside::Gate;
-use mp_partial::{Kernel, MAX_PIECES, MAX_WORKERS, Part, units};
+use mp_partial::{Kernel, MAX_PIECES, MAX_WORKERS, Part};
 use std::alloc::Global;
 use std::thread::{Threads, join_mut};
 
-/// Some of the workers that share the pieces below a number: those from `first` on, one for each partial.
-#[derive(Clone, Copy)]
-struct Team {
-    pieces: u64,
-    workers: u64,
-    first: u32,
-}
-
-/// Merges the first of some parts into the first of others.
-fn merge_first<P: Part>(low: &mut [P], high: &[P])
-    requires { (size : ℕ) × (a : Value) × (b : Value)
-        × FirstHas P.size_of P.value size a low.old × FirstHas P.size_of P.value size b high.now }
-    ensures { (size : ℕ) (a b : Value)
-        → FirstHas P.size_of P.value size a low.old → FirstHas P.size_of P.value size b high.now
-        → FirstHas P.size_of P.value size (P.merged a b) low.new }
-{
-    low[0].merge(&high[0]);
-}
-
-/// Runs the shares of a team's workers, and merges what they have found into the first partial.
+/// Runs the workers of a team side by side, until no piece is left. The first one then has what all of them found.
 #[cycle(teams)]
 fn run_team<R: Threads + Sync, P: Part, K: Kernel<Out = P>, G: Gate>(
     rt: &R,
+    desk: &Desk,
     kernel: &K,
     gate: &G,
-    team: Team,
-    partials: &mut [P],
+    team: &mut [Worker<P>],
 )
-    requires team { IsTeam team (length partials.old) }
-    requires of_kernel { team.pieces ≤ K.pieces_of kernel.now }
-    requires units { AllHave P.size_of P.value (K.size_of kernel.now) (P.unit_of (K.size_of kernel.now)) partials.old }
-    ensures { FirstHas P.size_of P.value (K.size_of kernel.now)
-        (merged_over P.merged (P.unit_of (K.size_of kernel.now)) (K.value_of kernel.now)
-        (shares team.pieces team.workers team.first (length partials.old))) partials.new }
+    requires some { 0 < length team.old }
+    requires pieces { desk.now.pieces ≤ K.pieces_of kernel.now }
+    requires ready { All (IsReady desk.now (K.size_of kernel.now) (P.unit_of (K.size_of kernel.now))) team.old }
+    ensures { HaveRun desk.now (K.size_of kernel.now)
+        (merged_over P.merged (P.unit_of (K.size_of kernel.now)) (K.value_of kernel.now)) team.new }
 {
-    if partials.len() == 1 {
-        let Team {
-            pieces,
-            workers,
-            first,
-        } = team;
-        run_share(kernel, gate, pieces, workers, first, &mut partials[0]);
+    if team.len() == 1 {
+        team[0].work(desk, kernel, gate);
         return;
     }
-    let (low, high) = partials.split_at_mut(partials.len() / 2);
-    let others = Team {
-        first: team.first + low.len() as u32,
-        ..team
-    };
-    run_both(rt, kernel, gate, team, low, others, high);
+    let (low, high) = team.split_at_mut(team.len() / 2);
+    run_both(rt, desk, kernel, gate, low, high);
 }
 
-/// Runs two teams side by side, and merges what the second has found into the first partial of the first.
+/// Runs two halves of a team side by side. The first worker of the first half then has what all of both found.
 #[cycle(teams)]
 fn run_both<R: Threads + Sync, P: Part, K: Kernel<Out = P>, G: Gate>(
     rt: &R,
+    desk: &Desk,
     kernel: &K,
     gate: &G,
-    team: Team,
-    low: &mut [P],
-    others: Team,
-    high: &mut [P],
+    low: &mut [Worker<P>],
+    high: &mut [Worker<P>],
 )
-    requires team { IsTeam team (length low.old) }
-    requires others { IsTeam others (length high.old) }
-    requires of_kernel { team.pieces ≤ K.pieces_of kernel.now }
-    requires same_pieces { others.pieces ≡ team.pieces }
-    requires same_workers { others.workers ≡ team.workers }
-    requires next { others.first ≡ team.first + length low.old }
-    requires low { AllHave P.size_of P.value (K.size_of kernel.now) (P.unit_of (K.size_of kernel.now)) low.old }
-    requires high { AllHave P.size_of P.value (K.size_of kernel.now) (P.unit_of (K.size_of kernel.now)) high.old }
-    ensures { FirstHas P.size_of P.value (K.size_of kernel.now)
-        (merged_over P.merged (P.unit_of (K.size_of kernel.now)) (K.value_of kernel.now)
-        (shares team.pieces team.workers team.first (length low.old + length high.old))) low.new }
+    requires some { 0 < length low.old }
+    requires others { 0 < length high.old }
+    requires pieces { desk.now.pieces ≤ K.pieces_of kernel.now }
+    requires ready { All (IsReady desk.now (K.size_of kernel.now) (P.unit_of (K.size_of kernel.now))) low.old }
+    requires others_ready { All (IsReady desk.now (K.size_of kernel.now) (P.unit_of (K.size_of kernel.now))) high.old }
+    ensures { HaveRun desk.now (K.size_of kernel.now)
+        (merged_over P.merged (P.unit_of (K.size_of kernel.now)) (K.value_of kernel.now)) (low.new ++ high.new) }
 {
-    let mut front = ||
-        requires { IsSync R.row × IsSync K.row × IsSync G.row × IsSend P.row × IsTeam team (length low.now)
-            × (team.pieces ≤ K.pieces_of kernel.now)
-            × AllHave P.size_of P.value (K.size_of kernel.now) (P.unit_of (K.size_of kernel.now)) low.now }
-        ensures { FirstHas P.size_of P.value (K.size_of kernel.entry.now)
-            (merged_over P.merged (P.unit_of (K.size_of kernel.entry.now)) (K.value_of kernel.entry.now)
-            (shares team.pieces team.workers team.first (length low.entry.now))) low.exit.now }
-    { run_team(rt, kernel, gate, team, low) };
-    let mut back = ||
-        requires { IsSync R.row × IsSync K.row × IsSync G.row × IsSend P.row × IsTeam others (length high.now)
-            × (others.pieces ≤ K.pieces_of kernel.now)
-            × AllHave P.size_of P.value (K.size_of kernel.now) (P.unit_of (K.size_of kernel.now)) high.now }
-        ensures { FirstHas P.size_of P.value (K.size_of kernel.entry.now)
-            (merged_over P.merged (P.unit_of (K.size_of kernel.entry.now)) (K.value_of kernel.entry.now)
-            (shares others.pieces others.workers others.first (length high.entry.now))) high.exit.now }
-    { run_team(rt, kernel, gate, others, high) };
-    join_mut(rt, &mut front, &mut back);
+    run_halves(rt, desk, kernel, gate, low, high);
     merge_first(low, high);
 }
 
-/// What the pieces below a number have together, run by so many workers side by side. Worker `k` runs piece `k`, and
-/// from there on every one that is as far from the last as there are workers. It passes the gate before each piece.
+/// Runs two halves of a team side by side. The first worker of each then has what all of its half found.
+#[cycle(teams)]
+fn run_halves<R: Threads + Sync, P: Part, K: Kernel<Out = P>, G: Gate>(
+    rt: &R,
+    desk: &Desk,
+    kernel: &K,
+    gate: &G,
+    low: &mut [Worker<P>],
+    high: &mut [Worker<P>],
+)
+    requires some { 0 < length low.old }
+    requires others { 0 < length high.old }
+    requires pieces { desk.now.pieces ≤ K.pieces_of kernel.now }
+    requires ready { All (IsReady desk.now (K.size_of kernel.now) (P.unit_of (K.size_of kernel.now))) low.old }
+    requires others_ready { All (IsReady desk.now (K.size_of kernel.now) (P.unit_of (K.size_of kernel.now))) high.old }
+    ensures low { HaveRun desk.now (K.size_of kernel.now)
+        (merged_over P.merged (P.unit_of (K.size_of kernel.now)) (K.value_of kernel.now)) low.new }
+    ensures high { HaveRun desk.now (K.size_of kernel.now)
+        (merged_over P.merged (P.unit_of (K.size_of kernel.now)) (K.value_of kernel.now)) high.new }
+{
+    let mut front = ||
+        requires { IsSync R.row × IsSync K.row × IsSync G.row × IsSend P.row × (0 < length low.now)
+            × (desk.now.pieces ≤ K.pieces_of kernel.now)
+            × All (IsReady desk.now (K.size_of kernel.now) (P.unit_of (K.size_of kernel.now))) low.now }
+        ensures { HaveRun desk.entry.now (K.size_of kernel.entry.now)
+            (merged_over P.merged (P.unit_of (K.size_of kernel.entry.now)) (K.value_of kernel.entry.now))
+            low.exit.now }
+    { run_team(rt, desk, kernel, gate, low) };
+    let mut back = ||
+        requires { IsSync R.row × IsSync K.row × IsSync G.row × IsSend P.row × (0 < length high.now)
+            × (desk.now.pieces ≤ K.pieces_of kernel.now)
+            × All (IsReady desk.now (K.size_of kernel.now) (P.unit_of (K.size_of kernel.now))) high.now }
+        ensures { HaveRun desk.entry.now (K.size_of kernel.entry.now)
+            (merged_over P.merged (P.unit_of (K.size_of kernel.entry.now)) (K.value_of kernel.entry.now))
+            high.exit.now }
+    { run_team(rt, desk, kernel, gate, high) };
+    join_mut(rt, &mut front, &mut back);
+}
+
+/// How many of the workers are started: no more than there are pieces, and at least one.
+fn with_work(workers: u32, pieces: u64) -> u32
+    requires { 1 ≤ workers }
+    ensures some { 1 ≤ result }
+    ensures within { result ≤ workers }
+{
+    u64::from(workers).min(pieces).max(1) as u32
+}
+
+/// What the pieces below a number have together, run by so many workers side by side. Each worker draws the next piece,
+/// passes the gate and runs it, until no piece is left. No more workers are started than there are pieces.
 ///
 /// All memory is taken before the first thread is started. Each worker but one has a thread of its own; a worker whose
 /// thread can't be started is run by the one that would have started it.
@@ -130,12 +128,17 @@ pub fn run_all<R: Threads + Sync, K: Kernel, G: Gate>(
     ensures size { IfOk result (λ out. K.Out.size_of out ≡ K.size_of kernel.now) }
     ensures is_value { IfOk result (λ out. K.Out.is_value (K.size_of kernel.now) (K.Out.value out)) }
 {
-    let mut partials = units::<K::Out>(alloc, workers, kernel.size())?;
-    let team = Team {
-        pieces,
-        workers: u64::from(workers),
-        first: 0,
-    };
-    run_team(rt, kernel, gate, team, partials.as_mut_slice());
-    Ok(partials.swap_remove(0))
+    let (desk, mut pass) = Desk::new(alloc, pieces)?;
+    let mut team = hire::<K::Out>(
+        alloc,
+        &desk,
+        &mut pass,
+        with_work(workers, pieces),
+        kernel.size(),
+    )?;
+    run_team(rt, &desk, kernel, gate, team.as_mut_slice());
+    let found = gather(&desk, &mut pass, team);
+    // the passes are one again, and show that each piece was drawn
+    let _next = desk.close(pass);
+    Ok(found)
 }

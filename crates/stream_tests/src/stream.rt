@@ -4,7 +4,7 @@ ghost use Rattle.mp_series.specs.declared.limits.TheConstants.{MIN_WINDOW, MAX_W
 use crate::series::drawn;
 use mp_nums::Sample::{Missing, Value};
 use mp_nums::{Sample, Slot};
-use mp_outside::OpenGate;
+use mp_outside::{MeetGate, OpenGate};
 use mp_plain::profile;
 use mp_series::Samples;
 use mp_stream::Stream;
@@ -205,4 +205,15 @@ const ENDS: [Sample; 10] = [
 #[test]
 fn the_ends_of_32_bits(rt: HostRuntime) -> Result<(), Fail> {
     expect_growth(&rt, &[], &ENDS, 3)
+}
+
+#[test]
+fn two_workers_of_a_stream_meet(rt: HostRuntime) -> Result<(), Fail> {
+    let zeros = vec![in rt.alloc(); Value(0); 2_000]?;
+    let samples = Samples::of(rt.alloc(), zeros.as_slice())?;
+    let gate = MeetGate::new();
+    let stream = Stream::from(&rt, rt.alloc(), samples, 8, 64, 2, &gate)?;
+    assert!(rt; gate.met());
+    assert_eq!(rt; stream.len(), 2_000);
+    Ok(())
 }

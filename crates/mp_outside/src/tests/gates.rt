@@ -1,4 +1,4 @@
-use crate::{Gate, MeetGate, OpenGate};
+use crate::{Gate, HoldGate, MeetGate, OpenGate};
 use std::thread::{Threads, join};
 
 fn pass_often<G: Gate>(gate: &G, worker: u32) {
@@ -34,4 +34,20 @@ fn workers_one_after_the_other_never_meet(rt: HostRuntime) {
     pass_often(&gate, 2);
     pass_often(&gate, 0);
     assert!(rt; !gate.met());
+}
+
+#[test]
+fn a_worker_is_held_up_while_another_goes_on(rt: HostRuntime) {
+    let gate = HoldGate::new(7);
+    assert!(rt; !gate.held());
+    pass_side_by_side(&rt, &gate);
+    assert!(rt; gate.held());
+}
+
+#[test]
+fn a_worker_alone_is_not_held_up_for_ever(rt: HostRuntime) {
+    let gate = HoldGate::new(7);
+    pass_often(&gate, 0);
+    pass_often(&gate, 1);
+    assert!(rt; !gate.held());
 }

@@ -1,0 +1,64 @@
+//! Two workers that meet at a gate, through each call that starts workers.
+
+use mp_consensus::consensus;
+use mp_nums::Sample;
+use mp_nums::Sample::Value;
+use mp_outside::MeetGate;
+use mp_series::{Bundle, MAX_SAMPLES};
+use mp_workers::{ab_join, self_join};
+use std::alloc::{AllocError, Global};
+use std::test::Fail;
+
+/// So many samples that two workers are started for them.
+fn long(alloc: Global) -> Result<Vec<Sample>, AllocError> {
+    let mut samples = Vec::new(alloc);
+    for i in 0..2_000 {
+        samples.push(Value(i % 97))?;
+    }
+    Ok(samples)
+}
+
+#[test]
+fn two_workers_of_a_profile_meet(rt: HostRuntime) -> Result<(), Fail> {
+    let samples = long(rt.alloc())?;
+    assert!(rt; samples.len() as u64 <= MAX_SAMPLES);
+    let gate = MeetGate::new();
+    let found = self_join(&rt, rt.alloc(), samples.as_slice(), 8, 64, 2, &gate)?;
+    assert!(rt; gate.met());
+    assert_eq!(rt; found.len(), 1_993);
+    Ok(())
+}
+
+#[test]
+fn two_workers_of_a_join_meet(rt: HostRuntime) -> Result<(), Fail> {
+    let samples = long(rt.alloc())?;
+    assert!(rt; samples.len() as u64 <= MAX_SAMPLES);
+    let gate = MeetGate::new();
+    let found = ab_join(
+        &rt,
+        rt.alloc(),
+        samples.as_slice(),
+        samples.as_slice(),
+        8,
+        64,
+        2,
+        &gate,
+    )?;
+    assert!(rt; gate.met());
+    assert_eq!(rt; found.as_slice().len(), 1_993);
+    Ok(())
+}
+
+#[test]
+fn two_workers_of_a_consensus_meet(rt: HostRuntime) -> Result<(), Fail> {
+    let samples = long(rt.alloc())?;
+    assert!(rt; samples.len() as u64 <= MAX_SAMPLES);
+    let mut list = Bundle::new(rt.alloc());
+    list.add(samples.as_slice())?;
+    list.add(samples.as_slice())?;
+    let gate = MeetGate::new();
+    let found = consensus(&rt, rt.alloc(), &list, 8, 2, &gate)?;
+    assert!(rt; gate.met());
+    assert!(rt; found.is_some());
+    Ok(())
+}
