@@ -27,9 +27,9 @@ use Rattle.mp_replies.specs.Conditions.{first_cause}
 use Rattle.mp_replies.specs.Line.{Asks}
 use Rattle.mp_replies.specs.State.{Files, State, channels_at, samples_in}
 use Rattle.mp_stores.specs.Stores.{lists_in}
-use Rattle.mp_commands.specs.declared.answers.Answer.TheVariants.{Accepted}
+use Rattle.mp_requests.specs.declared.answers.Answer.TheVariants.{Accepted}
+use Rattle.mp_requests.specs.declared.reports.Report.TheVariants as report
 use Rattle.mp_commands.specs.declared.prepared.Prepared.{Prepared}
-use Rattle.mp_commands.specs.declared.reports.Report.TheVariants as report
 use Rattle.mp_commands.specs.Preparing.{IsPrepared, changed_by}
 use Rattle.mp_commands.proofs.OpenLemmas.{channels_put, open_within}
 use Rattle.mp_commands.proofs.StepLemmas.{prepared_accepted}

@@ -1,10 +1,10 @@
 -- Channels that are put into a slot.
-use Rattle.std.proofs.Common.{◌≡◌, ℕ, ◌<◌, ◌≤◌, List, [], ◌∷◌, length, map, replicate, refl, ap, ◌∙◌, sym, arith, subst}
-use Rattle.std.specs.Prelude.{All, Some, slice_get, take, drop}
-use Rattle.std.proofs.lemmas.List.{length-map, take-map, drop-map}
+use Rattle.std.proofs.Common.{◌≡◌, ℕ, ◌<◌, ◌≤◌, List, [], ◌∷◌, length, replicate, refl, ap, ◌∙◌, sym, arith, subst}
+use Rattle.std.specs.Prelude.{All}
+use Rattle.std.proofs.lemmas.List.{length-map}
 use Rattle.std.proofs.lemmas.List.Elements.{All-nil, All-cons, All-head, All-tail}
 use Rattle.mp_nums.specs.declared.samples.Sample.{Sample}
-use Rattle.mp_defs.specs.Series.{Series, reading_of, series_of}
+use Rattle.mp_defs.specs.Series.{Series, series_of}
 use Rattle.mp_stores.specs.Stores.{HaveWindow, count_of, items_in, series_in}
 use Rattle.mp_stream.specs.Streams.{Streamed}
 use Rattle.mp_commands.specs.Preparing.{AreEmpty, CanPut, IsEmpty}
@@ -44,28 +44,3 @@ can_put_empty m slot channels within some few empty window = record {
     window = window;
   };
 }
-
--- ---- copies of channels
-
--- the first copy is that of the first channel
-pub first_copy : (list : List (List Sample)) (copy : List Sample) (s : Series) (others : List Series)
-    → map series_of list ≡ s ∷ others → slice_get list 0 ≡ Some copy → series_of copy ≡ s
-first_copy [] copy s others h got = absurd (cc h)
-first_copy (samples ∷ list) copy s others h got =
-    let same : copy ≡ samples = cc in
-    let here : series_of samples ≡ s = cc in
-    ap series_of same ∙ here
-
--- and the second that of the second
-pub second_copy : (list : List (List Sample)) (copy : List Sample) (s t : Series) (others : List Series)
-    → map series_of list ≡ s ∷ t ∷ others → slice_get list 1 ≡ Some copy → series_of copy ≡ t
-second_copy [] copy s t others h got = absurd (cc h)
-second_copy (samples ∷ list) copy s t others h got =
-    let rest : map series_of list ≡ t ∷ others = cc in first_copy list copy t others rest got
-
--- a part of the samples has that part of their series
-pub part_of_series : (start m : ℕ) (samples : List Sample)
-    → series_of (take m (drop start samples)) ≡ take m (drop start (series_of samples))
-part_of_series start m samples =
-    sym (take-map reading_of m (drop start samples))
-    ∙ ap (take m) (sym (drop-map reading_of start samples))

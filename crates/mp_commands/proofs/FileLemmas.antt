@@ -17,11 +17,12 @@ use Rattle.mp_replies.specs.Numbers.{columns}
 use Rattle.mp_replies.specs.State.{Files, Store}
 use Rattle.mp_replies.specs.Step.{fetches_by}
 use Rattle.mp_stores.specs.Stores.{StandFor, Stored}
-use Rattle.mp_commands.specs.declared.context.Context.{Context}
+use Rattle.mp_requests.specs.declared.context.Context.{Context}
+use Rattle.mp_requests.specs.Answering.{state_over}
 use Rattle.mp_commands.specs.declared.prepared.Prepared.{Prepared}
 use Rattle.mp_commands.specs.declared.requests.Load.{Load}
 use Rattle.mp_commands.specs.Commands.{asks_for}
-use Rattle.mp_commands.specs.Preparing.{IsPrepared, IsPreparedBySome, NeedsNoFile, state_over}
+use Rattle.mp_commands.specs.Preparing.{IsPrepared, IsPreparedBySome, NeedsNoFile}
 
 pub no_file : Files
 no_file = empty

@@ -1,12 +1,8 @@
 pub mod AppendLemmas
 pub mod ChannelLemmas
-pub mod ColumnLemmas
-pub mod CompareLemmas
 pub mod EndLemmas
 pub mod FileLemmas
 pub mod LoadLemmas
 pub mod OpenLemmas
 pub mod PreparingLemmas
-pub mod ReportLemmas
 pub mod StepLemmas
-pub mod WrittenLemmas

@@ -1,7 +1,7 @@
 -- What a load prepares.
 use Rattle.std.proofs.Common.{◌≡◌, ℕ, zero, suc, ◌+◌, ◌<◌, ◌≤◌, ◌==◌, Bool, true, false, List, [], ◌∷◌, ◌++◌, length}
 use Rattle.std.proofs.Common.{map, refl, ap, ◌∙◌, sym, arith, subst, nat_le, nat_lt, slice_index_or}
-use Rattle.std.specs.Prelude.{All, Option, Some, None, Result, Ok, Err, not, if◌then◌else◌, slice_get}
+use Rattle.std.specs.Prelude.{All, Some, None, Result, Ok, Err, not, if◌then◌else◌, slice_get}
 use Rattle.std.specs.List.{range_with_len}
 use Rattle.std.proofs.lemmas.Bool.Decides.{nat_tests}
 use Rattle.std.proofs.lemmas.List.{length-map}
@@ -23,14 +23,15 @@ use Rattle.mp_replies.specs.Conditions.{Condition, first_cause, when}
 use Rattle.mp_replies.specs.Limits.{max_channels, max_file}
 use Rattle.mp_replies.specs.Line.{Asks}
 use Rattle.mp_replies.specs.LoadCommand.{channels_of, file_conditions, file_in, load_conditions, series_in, table_in}
-use Rattle.mp_replies.specs.Numbers.{all_some, column, columns, onto_some}
+use Rattle.mp_replies.specs.Numbers.{all_some, column, columns}
 use Rattle.mp_replies.specs.State.{Files, State, Store, channels_at, samples_in}
 use Rattle.mp_stores.specs.Stores.{HaveWindow, count_of, items_in}
 use Rattle.mp_stream.specs.Streams.{Streamed}
-use Rattle.mp_commands.specs.declared.answers.Answer.TheVariants.{Accepted, Refused}
+use Rattle.mp_requests.specs.declared.answers.Answer.TheVariants.{Accepted, Refused}
+use Rattle.mp_requests.specs.declared.reports.Report.TheVariants as report
+use Rattle.mp_requests.specs.NumberLaws.{length-all_some}
 use Rattle.mp_commands.specs.declared.prepared.Change.TheVariants.{Keep}
 use Rattle.mp_commands.specs.declared.prepared.Prepared.{Prepared}
-use Rattle.mp_commands.specs.declared.reports.Report.TheVariants as report
 use Rattle.mp_commands.specs.Preparing.{CanPut, IsPrepared, changed_by}
 use Rattle.mp_commands.proofs.AppendLemmas.{even_columns, joined_by, same_lengths}
 use Rattle.mp_commands.proofs.OpenLemmas.{channels_put, open_within}
@@ -105,22 +106,6 @@ good_file scale cols header bytes series small is =
     rw (fits, is) refl
 
 -- ---- the shape of a table
-
-onto_long : {A : Type 0} (x : A) (others : Option (List A)) (ys : List A) (count : ℕ)
-    → onto_some (Some x) others ≡ Some ys
-    → ((more : List A) → others ≡ Some more → length more ≡ count) → length ys ≡ count + 1
-onto_long x None ys count h rest = absurd (cc h)
-onto_long x (Some more) ys count h rest =
-    let whole : x ∷ more ≡ ys = cc in
-    omega (arith, ap length whole, rest more refl)
-
-pub length-all_some : {A : Type 0} (xs : List (Option A)) (ys : List A) → all_some xs ≡ Some ys → length ys ≡ length xs
-length-all_some [] [] h = refl
-length-all_some [] (y ∷ ys) h = absurd (cc h)
-length-all_some (None ∷ xs) ys h = absurd (cc h)
-length-all_some (Some x ∷ xs) ys h =
-    let long = onto_long x (all_some xs) ys (length xs) h (λ more is. length-all_some xs more is) in
-    omega (arith, long)
 
 columns_by : (field cols : List ℕ) (few : Bool) → nat_le (length (values_in field)) max_channels ≡ few
     → (if few then all_some (map column (values_in field)) else None) ≡ Some cols

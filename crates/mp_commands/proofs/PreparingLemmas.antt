@@ -14,22 +14,23 @@ use Rattle.mp_replies.specs.State.{Files, State, first_version}
 use Rattle.mp_replies.specs.Step.{change_in, conditions, verdict_by, verdict_of}
 use Rattle.mp_stores.specs.Stores.{StandAsBefore, Stored}
 use Rattle.mp_stores.specs.StoreLaws.{channel_lasts, items_last}
-use Rattle.mp_commands.specs.declared.answers.Answer.{Answer}
-use Rattle.mp_commands.specs.declared.context.Context.{Context}
-use Rattle.mp_commands.specs.declared.answers.Answer.TheVariants.{Silent, Refused, Accepted, Ended}
+use Rattle.mp_requests.specs.declared.answers.Answer.{Answer}
+use Rattle.mp_requests.specs.declared.answers.Answer.TheVariants.{Silent, Refused, Accepted, Ended}
+use Rattle.mp_requests.specs.declared.context.Context.{Context}
+use Rattle.mp_requests.specs.declared.reports.Report as reports
+use Rattle.mp_requests.specs.declared.reports.Report.TheVariants as report
+use Rattle.mp_requests.specs.declared.requests.Comparison.{Comparison}
+use Rattle.mp_requests.specs.declared.requests.Comparison.TheVariants.{Join, Mpdist}
+use Rattle.mp_requests.specs.declared.requests.ReportRequest.{ReportRequest}
+use Rattle.mp_requests.specs.declared.requests.ReportRequest.TheVariants.{Compare}
+use Rattle.mp_requests.specs.Answering.{IsAnswer}
+use Rattle.mp_requests.specs.Requests.{AreNamed, AsksForReport, IsWithinLimits, NamesChannels, compared_by, is_ended}
+use Rattle.mp_requests.specs.Requests.{kind_by, reported_in}
 use Rattle.mp_commands.specs.declared.prepared.Change.{Change}
 use Rattle.mp_commands.specs.declared.prepared.Change.TheVariants.{Keep}
 use Rattle.mp_commands.specs.declared.prepared.Prepared.{Prepared}
-use Rattle.mp_commands.specs.declared.reports.Report as reports
-use Rattle.mp_commands.specs.declared.reports.Report.TheVariants as report
-use Rattle.mp_commands.specs.declared.requests.Comparison.{Comparison}
-use Rattle.mp_commands.specs.declared.requests.Comparison.TheVariants.{Join, Mpdist}
-use Rattle.mp_commands.specs.declared.requests.ReportRequest.{ReportRequest}
-use Rattle.mp_commands.specs.declared.requests.ReportRequest.TheVariants.{Compare}
-use Rattle.mp_commands.specs.Commands.{AreNamed, NamesChannels, is_ended, kind_by}
-use Rattle.mp_commands.specs.Preparing.{AddsAsAsked, CanMake, IsAnswer, IsPrepared, IsReady, IsTaken, IsWithinLimits}
-use Rattle.mp_commands.specs.Preparing.{IsPreparedBySome, changed_by, puts}
-use Rattle.mp_commands.specs.Commands.{compared_by, reported_in}
+use Rattle.mp_commands.specs.Preparing.{AddsAsAsked, CanMake, IsPrepared, IsPreparedBySome, IsReady, IsTaken}
+use Rattle.mp_commands.specs.Preparing.{changed_by, puts}
 use Rattle.mp_commands.proofs.EndLemmas.{ends_by}
 use Rattle.mp_commands.proofs.FileLemmas.{no_file}
 
@@ -59,17 +60,11 @@ some_taken context what held (Err error) h = tt
 
 -- ---- requests of a report
 
-abbrev Keeps : Asked → Type 0
-Keeps (Asks (asked.OpenAnew slot channels)) = ⊥
-Keeps (Asks (asked.Load slot file columns header)) = ⊥
-Keeps (Asks (asked.Append slot items)) = ⊥
-Keeps other = Unit {0}
-
 keep_by : (command : Command) (why : Option Cause) → change.Keep ≡ change_in (verdict_by command why change.Keep)
 keep_by command None = refl
 keep_by command (Some cause) = refl
 
-keep_in : (state : State) (files : Files) (what : Asked) → Keeps what
+keep_in : (state : State) (files : Files) (what : Asked) → AsksForReport what
     → change.Keep ≡ change_in (verdict_of state files what)
 keep_in state files Nothing h = refl
 keep_in state files (Faulty cause) h = refl
@@ -78,11 +73,11 @@ keep_in state files (Asks (asked.Load slot file columns header)) h = absurd h
 keep_in state files (Asks (asked.Append slot items)) h = absurd h
 keep_in state files (Asks other) h = keep_by other (first_cause (conditions state files other))
 
-compared_keeps : (by : Comparison) (a b : Ref) → Keeps (Asks (compared_by by a b))
+compared_keeps : (by : Comparison) (a b : Ref) → AsksForReport (Asks (compared_by by a b))
 compared_keeps Join a b = tt
 compared_keeps Mpdist a b = tt
 
-reports_keep : (request : ReportRequest) → Keeps (reported_in request)
+reports_keep : (request : ReportRequest) → AsksForReport (reported_in request)
 reports_keep (Compare pair) = compared_keeps pair.by pair.a pair.b
 reports_keep other = tt
 

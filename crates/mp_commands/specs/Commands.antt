@@ -1,47 +1,15 @@
--- What requests ask for, and what answers say.
-use Rattle.std.specs.Prelude.{◌≡◌, ℕ, ◌+◌, ◌≤◌, List, [], ◌∷◌, length, map, option_map, Bool, true, false, unwrap_or}
-use Rattle.std.specs.List.{range_with_len}
-use Rattle.mp_nums.specs.Listed.{Listed}
-use Rattle.mp_defs.specs.Series.{Series, series_of}
-use Rattle.mp_defs.specs.Profile.{ab_join}
-use Rattle.mp_results.specs.Consensus.{central}
-use Rattle.mp_results.specs.Curve.{parts_of}
-use Rattle.mp_results.specs.Motifs.{repeated_of}
-use Rattle.mp_replies.specs.Answer as replies
-use Rattle.mp_replies.specs.EntryCommand.{entry_report}
-use Rattle.mp_replies.specs.MpdistCommand.{mpdist_between}
-use Rattle.mp_replies.specs.ProfileCommand.{profile_report}
-use Rattle.mp_replies.specs.State.{State}
-use Rattle.mp_replies.specs.declared.refs.Ref.{Ref}
-use Rattle.mp_stores.specs.Stores.{IsChannel, StandFor, Stored, channel_series, streams_at}
-use Rattle.mp_commands.specs.declared.answers.Answer.{Answer}
-use Rattle.mp_commands.specs.declared.answers.Answer.TheVariants.{Silent, Refused, Accepted, Ended}
-use Rattle.mp_commands.specs.declared.answers.ReplyKind.{ReplyKind}
-use Rattle.mp_commands.specs.declared.answers.ReplyKind.TheVariants as kinds
-use Rattle.mp_commands.specs.declared.reports.Report as reports
-use Rattle.mp_commands.specs.declared.reports.Report.TheVariants as report
-use Rattle.mp_commands.specs.declared.requests.Comparison.{Comparison}
-use Rattle.mp_commands.specs.declared.requests.Comparison.TheVariants as comparison
+-- What requests ask for.
+use Rattle.std.specs.Prelude.{[], unwrap_or}
 use Rattle.mp_bytes.specs.Fields.{fields_in}
 use Rattle.mp_replies.specs.Command as commands
 use Rattle.mp_replies.specs.Line.{Asked, Nothing, Asks}
-use Rattle.mp_replies.specs.MotifsCommand.{motif_query}
-use Rattle.mp_replies.specs.Numbers.{columns, refs}
-use Rattle.mp_lines.specs.declared.ref_lists.Refs as named
+use Rattle.mp_replies.specs.Numbers.{columns}
+use Rattle.mp_requests.specs.Requests.{reported_in}
 use Rattle.mp_commands.specs.declared.requests.ChangeRequest.{ChangeRequest}
 use Rattle.mp_commands.specs.declared.requests.ChangeRequest.TheVariants.{Open, Load, Append}
-use Rattle.mp_commands.specs.declared.requests.Comparison.TheVariants.{Join, Mpdist}
 use Rattle.mp_commands.specs.declared.requests.Load as loads
-use Rattle.mp_commands.specs.declared.requests.Pattern as patterns
-use Rattle.mp_commands.specs.declared.requests.Repeats as repeats
-use Rattle.mp_commands.specs.declared.requests.ReportRequest.{ReportRequest}
-use Rattle.mp_commands.specs.declared.requests.ReportRequest.TheVariants.{Session, Window, Profile, Entry, Compare}
-use Rattle.mp_commands.specs.declared.requests.ReportRequest.TheVariants.{Multi, Match, Motifs, Discords, Chain, Chains}
-use Rattle.mp_commands.specs.declared.requests.ReportRequest.TheVariants.{Segments, Consensus, End}
 use Rattle.mp_commands.specs.declared.requests.Request.{Request}
 use Rattle.mp_commands.specs.declared.requests.Request.TheVariants.{Blank, Change, Report}
-
--- ---- requests
 
 abbrev pub asks_for : loads.Load → Asked
 asks_for load = Asks (commands.Load load.slot load.file.now (unwrap_or (columns load.columns.field.now) []) load.header)
@@ -51,168 +19,7 @@ changed_in (Open opening) = Asks (commands.OpenAnew opening.slot opening.channel
 changed_in (Load load) = asks_for load
 changed_in (Append more) = Asks (commands.Append more.slot (fields_in more.items.now))
 
-abbrev pub asks_match : patterns.Pattern → Asked
-asks_match pattern = Asks (commands.Match pattern.at pattern.query pattern.start pattern.radius pattern.max)
-
-abbrev pub asks_motifs : repeats.Repeats → Asked
-asks_motifs sought =
-    Asks (commands.Motifs sought.at
-    (motif_query sought.count sought.cutoff sought.radius sought.neighbours sought.matches))
-
-abbrev pub asks_consensus : named.Refs → Asked
-asks_consensus list = Asks (commands.Consensus (unwrap_or (refs (fields_in list.field.now)) []))
-
-abbrev pub compared_by : Comparison → Ref → Ref → commands.Command
-compared_by Join a b = commands.Join a b
-compared_by Mpdist a b = commands.Mpdist a b
-
-abbrev pub reported_in : ReportRequest → Asked
-reported_in (Session version) = Asks (commands.Session version)
-reported_in (Window at start) = Asks (commands.Window at start)
-reported_in (Profile at) = Asks (commands.Profile at)
-reported_in (Entry at start) = Asks (commands.Entry at start)
-reported_in (Compare pair) = Asks (compared_by pair.by pair.a pair.b)
-reported_in (Multi slot k) = Asks (commands.Multi slot k)
-reported_in (Match pattern) = asks_match pattern
-reported_in (Motifs sought) = asks_motifs sought
-reported_in (Discords sought) = Asks (commands.Discords sought.at sought.count)
-reported_in (Chain at start) = Asks (commands.Chain at start)
-reported_in (Chains at) = Asks (commands.Chains at)
-reported_in (Segments sought) = Asks (commands.Segments sought.at sought.count sought.factor)
-reported_in (Consensus list) = asks_consensus list
-reported_in End = Asks commands.End
-
 abbrev pub asked_in : Request → Asked
 asked_in Blank = Nothing
 asked_in (Change request) = changed_in request
 asked_in (Report request) = reported_in request
-
--- ---- reads
-
--- all channels of a slot
-abbrev pub refs_of : Stored → ℕ → List Ref
-refs_of held slot =
-    map (λ channel. record { slot = slot; channel = channel }) (range_with_len 0 (length (streams_at held slot)))
-
--- the channels whose samples a line has lent once each, for each time that it names them
-abbrev pub lends : Stored → Asked → List Ref
-lends held (Asks (commands.Window at start)) = at ∷ []
-lends held (Asks (commands.Join a b)) = a ∷ b ∷ []
-lends held (Asks (commands.Mpdist a b)) = a ∷ b ∷ []
-lends held (Asks (commands.Match at query start radius max)) = at ∷ query ∷ []
-lends held (Asks (commands.Motifs at query)) = at ∷ []
-lends held (Asks (commands.Multi slot k)) = refs_of held slot
-lends held (Asks (commands.Consensus list)) = list
-lends held other = []
-
--- a line that asks for nothing or is refused by itself, and one whose report stands in a profile or shows no samples
-abbrev pub is_unread : Asked → Bool
-is_unread (Asks (commands.OpenAnew slot channels)) = false
-is_unread (Asks (commands.Load slot file cols header)) = false
-is_unread (Asks (commands.Append slot items)) = false
-is_unread (Asks (commands.Window at start)) = false
-is_unread (Asks (commands.Join a b)) = false
-is_unread (Asks (commands.Multi slot k)) = false
-is_unread (Asks (commands.Match at query start radius max)) = false
-is_unread (Asks (commands.Motifs at query)) = false
-is_unread (Asks (commands.Mpdist a b)) = false
-is_unread (Asks (commands.Consensus list)) = false
-is_unread other = true
-
--- ---- reports
-
--- what a report says, where what it names stands in this state
-abbrev pub report_in : State → reports.Report → commands.Report
-report_in state report.Session = commands.SessionReport
-report_in state (report.Open samples) = commands.OpenReport samples
-report_in state (report.Load samples) = commands.LoadReport samples
-report_in state (report.Append samples) = commands.AppendReport samples
-report_in state (report.Window window) =
-    commands.WindowReport window.start (series_of window.samples.items) window.scale
-report_in state (report.Profile at) = profile_report state at
-report_in state (report.Entry at start) = entry_report state at start
-report_in state (report.Join slots) = commands.JoinReport slots.items
-report_in state (report.Mpdist dist) = commands.MpdistReport dist
-report_in state (report.Multi slots) = commands.MultiReport slots.items
-report_in state (report.Match list) = commands.MatchReport list.items
-report_in state (report.Motifs list) = commands.MotifsReport (map repeated_of list.items)
-report_in state (report.Discords list) = commands.DiscordsReport list.items
-report_in state (report.Chain chain) = commands.ChainReport chain.items
-report_in state (report.Chains chains) =
-    commands.ChainsReport (map (λ (chain : Listed ℕ). chain.items) chains.items)
-report_in state (report.Segments segments) =
-    commands.SegmentsReport segments.places.items (map parts_of segments.curve.items)
-report_in state (report.Consensus centre) = commands.ConsensusReport (option_map central centre)
-report_in state report.End = commands.EndReport
-
--- what two series are compared to at a window length
-abbrev pub compared_in : Comparison → ℕ → Series → Series → commands.Report
-compared_in comparison.Join m a b = commands.JoinReport (ab_join m a b)
-compared_in comparison.Mpdist m a b = commands.MpdistReport (mpdist_between m a b)
-
--- a channel has the window that starts there
-pub record IsWindow (held : Stored) (at : Ref) (start : ℕ) : Type 0 where
-  pub channel : IsChannel held at
-  pub within : start + held.m ≤ length (channel_series held at)
-
--- the slots have what a report names
-abbrev pub AreNamed : Stored → reports.Report → Type 0
-AreNamed held (report.Profile at) = IsChannel held at
-AreNamed held (report.Entry at start) = IsWindow held at start
-AreNamed held other = Unit {0}
-
--- ---- answers
-
--- what an answer says, where what it names stands in this state
-abbrev pub answered : State → Answer → replies.Answer
-answered state Silent = replies.Silent
-answered state (Refused cause) = replies.Refused cause
-answered state (Accepted report) = replies.Accepted (report_in state report)
-answered state (Ended report) = replies.Ended (report_in state report)
-
--- the slots have what its report names
-abbrev pub NamesChannels : Stored → Answer → Type 0
-NamesChannels held Silent = Unit {0}
-NamesChannels held (Refused cause) = Unit {0}
-NamesChannels held (Accepted report) = AreNamed held report
-NamesChannels held (Ended report) = AreNamed held report
-
--- the slots are those of a state
-pub record AreSlotsOf (state : State) (held : Stored) : Type 0 where
-  pub window_is : held.m ≡ state.window
-  pub stand : StandFor held state.stores
-
--- ---- kinds
-
--- what becomes of a line, by the program's answer
-abbrev pub kind_by : Answer → ReplyKind
-kind_by Silent = kinds.Quiet
-kind_by (Refused cause) = kinds.Refused
-kind_by (Accepted report) = kinds.Accepted
-kind_by (Ended report) = kinds.Ended
-
--- and by that of the definitions
-abbrev pub kind_of : replies.Answer → ReplyKind
-kind_of replies.Silent = kinds.Quiet
-kind_of (replies.Refused cause) = kinds.Refused
-kind_of (replies.Accepted report) = kinds.Accepted
-kind_of (replies.Ended report) = kinds.Ended
-
-abbrev pub is_refused : ReplyKind → Bool
-is_refused kinds.Quiet = false
-is_refused kinds.Accepted = false
-is_refused kinds.Refused = true
-is_refused kinds.Ended = false
-
-abbrev pub is_ended : ReplyKind → Bool
-is_ended kinds.Quiet = false
-is_ended kinds.Accepted = false
-is_ended kinds.Refused = false
-is_ended kinds.Ended = true
-
--- the line was carried out
-abbrev pub is_accepted : ReplyKind → Bool
-is_accepted kinds.Quiet = false
-is_accepted kinds.Accepted = true
-is_accepted kinds.Refused = false
-is_accepted kinds.Ended = true

@@ -20,10 +20,10 @@ pub record IsRefusedFile (tells : Option Files) (name : List ℕ) (cause : Cause
   pub some : FileRefuses files name cause
 
 -- what is known of the shelf, by other words for what isn't wanted and what failed
-pub asked_by : {H : Type 0} {shelf : shelves.Ghosts H} {unwanted also failed stopped : Type 0} {old new : H}
+pub reworded : {H : Type 0} {shelf : shelves.Ghosts H} {unwanted also failed stopped : Type 0} {old new : H}
     → IsAsked shelf unwanted failed old new → (also → unwanted) → (stopped → failed) → (failed → stopped)
     → IsAsked shelf also stopped old new
-asked_by asked wants to from = record {
+reworded asked wants to from = record {
   files = asked.files;
   fault = λ stop. asked.fault (to stop);
   calm = λ none. asked.calm (λ failed. none (from failed));

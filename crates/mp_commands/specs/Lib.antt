@@ -2,4 +2,3 @@ pub mod Commands
 pub mod Reads
 pub mod Preparing
 pub mod Fetching
-pub mod Reports

@@ -1,68 +1,28 @@
 -- What is prepared for a line before anything changes, and the change.
 use Rattle.std.specs.Prelude.{◌≡◌, ℕ, ◌<◌, ◌==◌, Bool, true, false, List, [], All, length, map}
-use Rattle.std.specs.Prelude.{Option, Some, None, Result, IfOk, OnErr}
+use Rattle.std.specs.Prelude.{Option, Some, Result, IfOk, OnErr}
 use Rattle.mp_nums.specs.declared.samples.Sample.{Sample}
 use Rattle.mp_defs.specs.Series.{series_of}
 use Rattle.mp_stream.specs.Streams.{Streamed}
 use Rattle.mp_text.specs.Table.{Fault, BadField, NoField, TooManyRows}
 use Rattle.mp_replies.specs.declared.causes.Cause.{Cause}
 use Rattle.mp_replies.specs.declared.causes.Cause.TheVariants as causes
-use Rattle.mp_replies.specs.Answer as replies
 use Rattle.mp_replies.specs.Change as change
 use Rattle.mp_replies.specs.Command as asked
-use Rattle.mp_replies.specs.Conditions.{Condition, first_cause}
-use Rattle.mp_replies.specs.Laws.{IsWithin}
 use Rattle.mp_replies.specs.Limits.{slot_count}
-use Rattle.mp_replies.specs.Line.{Asked, Nothing, Asks, Faulty, is_end}
-use Rattle.mp_replies.specs.State.{Files, State, Store, version_of}
-use Rattle.mp_replies.specs.Step.{after_by, answer_by, change_in, fetches_by, state_conditions, verdict_of}
+use Rattle.mp_replies.specs.Line.{Asked, Asks, is_end}
+use Rattle.mp_replies.specs.State.{Files, State, Store}
+use Rattle.mp_replies.specs.Step.{change_in, fetches_by, verdict_of}
 use Rattle.mp_outside.specs.Counts.{Rose}
 use Rattle.mp_outside.specs.declared.shelves.Shelf as shelves
 use Rattle.mp_stores.specs.Stores.{Stored, AreEven, CanOpen, HaveRoom, StandFor, lists_in, series_in, streams_at}
-use Rattle.mp_commands.specs.declared.answers.Answer.{Answer}
-use Rattle.mp_commands.specs.declared.context.Context.{Context}
+use Rattle.mp_requests.specs.declared.context.Context.{Context}
+use Rattle.mp_requests.specs.Answering.{IsAnswer, IsUnrefused, state_over}
+use Rattle.mp_requests.specs.Requests.{NamesChannels, is_accepted, is_ended, kind_by}
 use Rattle.mp_commands.specs.declared.prepared.Change.{Change}
 use Rattle.mp_commands.specs.declared.prepared.Change.TheVariants.{Keep, PutChannels, AddSamples}
 use Rattle.mp_commands.specs.declared.prepared.Prepared.{Prepared}
-use Rattle.mp_commands.specs.Commands.{NamesChannels, answered, kind_by, is_accepted, is_ended}
 use Rattle.mp_commands.specs.Reads.{renews}
-
--- the state of these stores, for which slots stand, and of what is known beside the slots
-abbrev pub state_over : Context → Stored → List Store → State
-state_over context held stores = record {
-  window = held.m;
-  scale = context.settings.scale;
-  lines = context.lines;
-  begun = context.begun;
-  stores = stores;
-}
-
--- the version of each of these states
-abbrev pub version_in : Context → ℕ
-version_in context = version_of (state_over context (record { m = 0; slots = [] }) [])
-
--- ---- refusals
-
--- whatever stores slots stand for, this is the word of the first of these conditions that holds, none where none does
-abbrev pub IsCause : Stored → (List Store → List Condition) → Option Cause → Type 0
-IsCause held conditions cause = (stores : List Store) → StandFor held stores → first_cause (conditions stores) ≡ cause
-
--- ---- the answer
-
--- what the definitions answer
-abbrev pub answer_in : State → Files → Asked → replies.Answer
-answer_in state files asked = answer_by (after_by state (verdict_of state files asked)) (verdict_of state files asked)
-
--- the program's answer is theirs, in the state before the line. The state behind it has the same channels where the
--- answer names one, since such a line changes none
-abbrev pub IsAnswer : State → Files → Asked → Answer → Type 0
-IsAnswer state files asked answer = answered state answer ≡ answer_in state files asked
-
--- a command that nothing refuses without a file
-abbrev pub IsUnrefused : State → Asked → Type 0
-IsUnrefused state Nothing = ⊥
-IsUnrefused state (Faulty cause) = ⊥
-IsUnrefused state (Asks command) = first_cause (state_conditions state command) ≡ None
 
 -- where a line asks for a file, the shelf tells these files
 abbrev pub ToldFor : Option Files → State → Asked → Files → Type 0
@@ -103,12 +63,6 @@ AddsAsAsked other (AddSamples slot added) = ⊥
 -- nothing is changed where the line isn't accepted
 abbrev pub KeepsUnlessAccepted : Prepared → Type 0
 KeepsUnlessAccepted prepared = is_accepted (kind_by prepared.answer) ≡ false → prepared.change ≡ Keep
-
--- the numbers of a command lie within their limits
-abbrev pub IsWithinLimits : Asked → Type 0
-IsWithinLimits Nothing = Unit {0}
-IsWithinLimits (Faulty cause) = Unit {0}
-IsWithinLimits (Asks command) = IsWithin command
 
 -- ---- a load
 

@@ -11,20 +11,18 @@ ghost use Rattle.mp_replies.specs.Command as asked;
 ghost use Rattle.mp_replies.specs.Limits.{max_scale};
 ghost use Rattle.mp_replies.specs.Line.{Asks};
 ghost use Rattle.mp_replies.specs.State.{Files, Store, channels_at, is_closed, store_at};
-ghost use Rattle.mp_commands.specs.Preparing.{IsCause, IsReady, IsTaken};
-ghost use Rattle.mp_commands.specs.Reads.{AreUnread};
+ghost use Rattle.mp_requests.specs.Answering.{IsCause};
+ghost use Rattle.mp_requests.specs.Reads.{AreUnread};
+ghost use Rattle.mp_commands.specs.Preparing.{IsReady, IsTaken};
 ghost use Rattle.mp_stores.specs.Stores.{StandAsBefore, StandFor, count_in, lists_in, streams_at};
 ghost use Rattle.mp_text.specs.Rows.{Row, columns_of};
 
-use crate::answers::Answer;
-use crate::context::Context;
 use crate::prepared::{Change, Prepared};
-use crate::replies::Stop;
-use crate::reports::Report;
 use crate::requests::Appending;
 use mp_bytes::{Fields, Values};
 use mp_nums::{Memory, Sample};
 use mp_replies::Cause;
+use mp_requests::{Answer, Context, Report, Stop};
 use mp_series::MAX_SAMPLES;
 use mp_stores::Stores;
 use mp_text::read_sample;
@@ -37,9 +35,10 @@ pub(crate) fn prepare_append(
     context: Context,
     more: Appending<'_>,
 ) -> Result<Prepared, Stop>
-    ensures prepared { (told : Option Files)
-        → IsTaken told context (Asks (asked.Append more.entry.slot (fields_in more.entry.items.now))) stores.old result }
-    ensures ready { IfOk result (IsReady (Asks (asked.Append more.entry.slot (fields_in more.entry.items.now))) stores.new) }
+    ensures prepared { (told : Option Files) → IsTaken told context
+        (Asks (asked.Append more.entry.slot (fields_in more.entry.items.now))) stores.old result }
+    ensures ready { IfOk result
+        (IsReady (Asks (asked.Append more.entry.slot (fields_in more.entry.items.now))) stores.new) }
     ensures calm { IsErrOf result Stop.ShelfFault → ⊥ }
     ensures stands { StandAsBefore stores.old stores.new }
     ensures unread { AreUnread stores.old stores.new }

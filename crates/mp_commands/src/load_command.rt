@@ -1,31 +1,29 @@
 //! `load S FILE COL,COL`, or with `header` behind: columns of a file in place of what stood in a slot.
 
 ghost use Rattle.std.specs.Prelude.{◌≡◌, ◌<◌, ◌≤◌, List, [], All, length};
-ghost use Rattle.std.specs.Prelude.{option_map, unwrap_or, vec_len, Some, None, IfErr, IfOk, IsErrOf};
+ghost use Rattle.std.specs.Prelude.{option_map, unwrap_or, vec_len, Some, None, IfErr, IfNone, IfOk, IsErrOf};
 ghost use Rattle.mp_defs.specs.Limits.{max_samples};
 ghost use Rattle.mp_replies.specs.Limits.{max_file, slot_count};
 ghost use Rattle.mp_replies.specs.LoadCommand.{file_in, load_conditions};
 ghost use Rattle.mp_replies.specs.Numbers.{columns as columns_of};
 ghost use Rattle.mp_replies.specs.State.{Files, Store};
-ghost use Rattle.mp_commands.specs.Preparing.{IsAsked, IsCause, IsPrepared, IsPreparedBySome, IsReady, IsTaken};
-ghost use Rattle.mp_commands.specs.Preparing.{NeedsNoFile, cause_by, state_over};
+ghost use Rattle.mp_requests.specs.Answering.{IsCause, state_over};
 ghost use Rattle.mp_commands.specs.Commands.{asks_for};
 ghost use Rattle.mp_commands.specs.Fetching.{IsRefusedFile};
+ghost use Rattle.mp_commands.specs.Preparing.{IsAsked, IsPrepared, IsPreparedBySome, IsReady, IsTaken, NeedsNoFile};
+ghost use Rattle.mp_commands.specs.Preparing.{cause_by};
 ghost use Rattle.mp_text.specs.Table.{told};
-ghost use Rattle.mp_stores.specs.Stores.{HaveWindow, StandFor, items_in};
+ghost use Rattle.mp_stores.specs.Stores.{HaveWindow, StandFor, items_in, streams_at};
 
-use crate::answers::Answer;
-use crate::conditions::load_cause;
-use crate::context::Context;
 use crate::prepared::{Change, Prepared};
-use crate::replies::Stop;
-use crate::reports::Report;
 use crate::requests::Load;
+use mp_lines::Columns;
 use mp_nums::Memory;
 use mp_outside::{Gate, Shelf, ShelfAnswer};
 use mp_replies::Cause;
+use mp_requests::{Answer, Context, Report, Stop};
 use mp_series::Bundle;
-use mp_stores::{Channel, Plan, Stores};
+use mp_stores::{Channel, Plan, SLOTS, Stores};
 use mp_text::{TableFault, read_table};
 use std::alloc::Global;
 use std::thread::Threads;
@@ -56,6 +54,23 @@ pub(crate) fn prepare_load<R: Threads + Sync, H: Shelf, G: Gate>(
     match fetched {
         Ok(bytes) => prepare_table(rt, stores, context, load, bytes.as_slice(), gate),
         Err(cause) => Ok(Prepared::refused(cause)),
+    }
+}
+
+/// Why a slot can't be loaded with these columns, if it can't.
+fn load_cause(stores: &Stores, slot: u64, names: Columns<'_>) -> Option<Cause>
+    ensures cause { IsCause stores.now
+        (λ stands. load_conditions stands slot (unwrap_or (columns_of names.entry.field.now) [])) result }
+    ensures slot { IfNone result (slot < SLOTS) }
+    ensures some { IfNone result (0 < length (streams_at stores.now slot)) }
+{
+    let count = stores.count(slot);
+    if count == 0 {
+        Some(Cause::Slot)
+    } else if names.count() == count {
+        None
+    } else {
+        Some(Cause::Channel)
     }
 }
 

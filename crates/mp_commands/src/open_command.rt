@@ -1,22 +1,21 @@
 //! `open S C`: empty channels in place of what stood in a slot.
 
-ghost use Rattle.std.specs.Prelude.{◌≡◌, ◌≤◌, Option, vec_len, IfOk, IsErrOf};
+ghost use Rattle.std.specs.Prelude.{◌≡◌, ◌<◌, ◌≤◌, Option, vec_len, IfNone, IfOk, IsErrOf};
 ghost use Rattle.mp_defs.specs.Limits.{max_window, min_window};
 ghost use Rattle.mp_replies.specs.Command as asked;
+ghost use Rattle.mp_replies.specs.Conditions.{first_cause};
 ghost use Rattle.mp_replies.specs.Line.{Asks};
+ghost use Rattle.mp_replies.specs.OpenCommand.{open_conditions};
 ghost use Rattle.mp_replies.specs.State.{Files};
 ghost use Rattle.mp_commands.specs.Preparing.{AreEmpty, IsReady, IsTaken};
 ghost use Rattle.mp_stores.specs.Stores.{HaveWindow};
 
-use crate::answers::Answer;
-use crate::conditions::open_cause;
-use crate::context::Context;
 use crate::prepared::{Change, Prepared};
-use crate::replies::Stop;
-use crate::reports::Report;
 use crate::requests::Opening;
 use mp_nums::Memory;
-use mp_stores::{Channel, Stores};
+use mp_replies::Cause;
+use mp_requests::{Answer, Context, Report, Stop};
+use mp_stores::{Channel, MAX_CHANNELS, SLOTS, Stores};
 use std::alloc::Global;
 use std::thread::Threads;
 
@@ -41,6 +40,22 @@ pub(crate) fn prepare_open<R: Threads + Sync>(
         answer: Answer::Accepted(Report::Open { samples: 0 }),
         change: Change::PutChannels { slot, channels },
     })
+}
+
+/// Why a slot can't be opened with so many channels, if it can't.
+fn open_cause(slot: u64, channels: u64) -> Option<Cause>
+    ensures cause { result ≡ first_cause (open_conditions slot channels) }
+    ensures slot { IfNone result (slot < SLOTS) }
+    ensures some { IfNone result (1 ≤ channels) }
+    ensures few { IfNone result (channels ≤ MAX_CHANNELS) }
+{
+    if SLOTS <= slot {
+        Some(Cause::Slot)
+    } else if (1..=MAX_CHANNELS).contains(&channels) {
+        None
+    } else {
+        Some(Cause::Channel)
+    }
 }
 
 /// So many channels without a sample.

@@ -2,9 +2,9 @@
 
 ghost use Rattle.std.specs.Prelude.{◌≡◌};
 
-use crate::answers::Answer;
 use mp_nums::Sample;
 use mp_replies::Cause;
+use mp_requests::Answer;
 use mp_stores::Channel;
 
 /// What an accepted line changes in the slots. All memory for it is there.

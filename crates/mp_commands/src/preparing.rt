@@ -3,24 +3,22 @@
 ghost use Rattle.std.specs.Prelude.{◌≡◌, IfOk, IsErrOf, false};
 ghost use Rattle.mp_lines.specs.Lines.{asked_by, cause_of as cause_of_fault};
 ghost use Rattle.mp_replies.specs.Line.{asked_of, ends};
-ghost use Rattle.mp_commands.specs.Commands.{is_accepted, is_ended, kind_by};
-ghost use Rattle.mp_commands.specs.Preparing.{version_in};
-ghost use Rattle.mp_commands.specs.Preparing.{IsAsked, IsPreparedBySome, IsReady, IsTaken, IsWithinLimits, NeedsNoFile};
-ghost use Rattle.mp_commands.specs.Reads.{AreUnread, IsKept};
+ghost use Rattle.mp_requests.specs.Answering.{version_in};
+ghost use Rattle.mp_requests.specs.Reads.{AreUnread, IsKept};
+ghost use Rattle.mp_requests.specs.Requests.{IsWithinLimits, is_accepted, is_ended, kind_by};
 ghost use Rattle.mp_commands.specs.Commands.{changed_in};
+ghost use Rattle.mp_commands.specs.Preparing.{IsAsked, IsPreparedBySome, IsReady, IsTaken, NeedsNoFile};
 ghost use Rattle.mp_stores.specs.Stores.{StandAsBefore};
 
-use crate::answers::Answer;
 use crate::append_command::prepare_append;
-use crate::context::Context;
 use crate::load_command::prepare_load;
 use crate::open_command::prepare_open;
 use crate::prepared::Prepared;
-use crate::replies::Stop;
 use crate::requests::{ChangeRequest, Request};
 use mp_lines::{Command, LineFault, parse_line};
 use mp_outside::{Gate, Shelf};
 use mp_replies::Cause;
+use mp_requests::{Answer, Context, Stop};
 use mp_stores::Stores;
 use std::thread::Threads;
 

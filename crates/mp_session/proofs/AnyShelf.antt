@@ -3,8 +3,8 @@ use Rattle.std.proofs.Common.{◌≡◌, ℕ, zero, suc, ◌+◌, ◌==◌, Bool
 use Rattle.std.proofs.Common.{◌∙◌, sym, subst, arith}
 use Rattle.std.proofs.lemmas.Bool.Decides.{nat_tests}
 use Rattle.std.specs.Prelude.{Option, Some, None, is_none, if◌then◌else◌}
-use Rattle.mp_commands.specs.Commands.{is_accepted, kind_of}
-use Rattle.mp_commands.specs.declared.answers.ReplyKind.TheVariants as kinds
+use Rattle.mp_requests.specs.Requests.{is_accepted, kind_of}
+use Rattle.mp_requests.specs.declared.answers.ReplyKind.TheVariants as kinds
 use Rattle.mp_replies.specs.declared.causes.Cause.{Cause}
 use Rattle.mp_replies.specs.declared.causes.Cause.TheVariants.{File, FileSize, Record, Rows}
 use Rattle.mp_replies.specs.Change.{Change, changed}
@@ -19,7 +19,7 @@ use Rattle.mp_replies.specs.State.{Files, State, Store, store_at, version_of}
 use Rattle.mp_replies.specs.Step.{IsAccepted, Verdict, after, after_by, answer, answer_by}
 use Rattle.mp_replies.specs.Step.{change_by, conditions, counted, fetches, fetches_by, is_last, report_by, verdict}
 use Rattle.mp_replies.specs.Step.{verdict_by, verdict_of}
-use Rattle.mp_commands.specs.declared.replies.Reply.{Reply}
+use Rattle.mp_requests.specs.declared.replies.Reply.{Reply}
 use Rattle.mp_session.specs.Sessions.{IsFileRefused, IsOfFile, IsReplyBySome, IsReplyOverAny, SessionParts}
 use Rattle.mp_session.specs.Sessions.{StandsFor, WasAccepted, changes}
 use Rattle.mp_session.proofs.StepLemmas.{accepted_by}

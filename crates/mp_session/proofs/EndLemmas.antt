@@ -1,8 +1,8 @@
 -- How a run turned out.
 use Rattle.std.proofs.Common.{◌≡◌, ◌∙◌, ap, sym}
 use Rattle.std.specs.Prelude.{IsErrAnd, IsErrOf, OnErr, Result, Ok, Err}
-use Rattle.mp_commands.specs.declared.replies.Stop.{Stop}
-use Rattle.mp_commands.specs.declared.replies.Stop.TheVariants.{Memory, ShelfFault}
+use Rattle.mp_requests.specs.declared.replies.Stop.{Stop}
+use Rattle.mp_requests.specs.declared.replies.Stop.TheVariants.{Memory, ShelfFault}
 
 pub on_err : {T E : Type 0} {P : Type 0} (r : Result T E) → P → OnErr r P
 on_err (Ok x) p = tt

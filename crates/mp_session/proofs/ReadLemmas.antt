@@ -13,14 +13,14 @@ use Rattle.mp_replies.specs.Line.{Asked, Asks}
 use Rattle.mp_stores.specs.StoreLaws.{last_at}
 use Rattle.mp_stores.specs.Stores.{HasRoomFor, HaveRoom, StandAsBefore, Stored, count_in, count_of, reads_at}
 use Rattle.mp_stores.specs.Stores.{reads_to_add, streams_at}
+use Rattle.mp_requests.specs.declared.replies.Reply.{Reply}
+use Rattle.mp_requests.specs.Requests.{is_accepted, is_unread, kind_by}
+use Rattle.mp_requests.specs.Reads.{AreUnread, IsKept, WereRead, most_lent}
 use Rattle.mp_commands.specs.declared.prepared.Change.{Change}
 use Rattle.mp_commands.specs.declared.prepared.Change.TheVariants.{Keep, PutChannels, AddSamples}
 use Rattle.mp_commands.specs.declared.prepared.Prepared.{Prepared}
-use Rattle.mp_commands.specs.declared.replies.Reply.{Reply}
-use Rattle.mp_commands.specs.Commands.{is_accepted, is_unread, kind_by}
 use Rattle.mp_commands.specs.Preparing.{AddsAsAsked, IsReady, adds, puts}
-use Rattle.mp_commands.specs.Reads.{AreUnread, IsKept, WereRead, append_reads, most_added, most_lent}
-use Rattle.mp_commands.specs.Reads.{most_reads, renews}
+use Rattle.mp_commands.specs.Reads.{append_reads, most_added, most_reads, renews}
 use Rattle.mp_session.specs.Sessions.{AddsEach, WereReadBy}
 
 -- ---- samples for each channel

@@ -14,13 +14,14 @@ use Rattle.mp_replies.specs.Output.{reply}
 use Rattle.mp_replies.specs.Report.{text_of}
 use Rattle.mp_stores.specs.StoreLaws.{stand_as_before}
 use Rattle.mp_stores.specs.Stores.{StandAsBefore, StandFor, Stored}
+use Rattle.mp_requests.specs.declared.answers.Answer.{Answer}
+use Rattle.mp_requests.specs.declared.answers.Answer.TheVariants.{Silent}
+use Rattle.mp_requests.specs.Requests.{AreSlotsOf, answered, kind_by, kind_of, is_accepted, is_refused}
+use Rattle.mp_requests.specs.declared.context.Context.{Context}
+use Rattle.mp_requests.specs.declared.replies.Reply.{Reply}
+use Rattle.mp_requests.specs.Answering.{state_over}
 use Rattle.mp_commands.specs.declared.prepared.Prepared.{Prepared}
-use Rattle.mp_commands.specs.declared.answers.Answer.{Answer}
-use Rattle.mp_commands.specs.declared.answers.Answer.TheVariants.{Silent}
-use Rattle.mp_commands.specs.Commands.{AreSlotsOf, answered, kind_by, kind_of, is_accepted, is_refused}
-use Rattle.mp_commands.specs.declared.context.Context.{Context}
-use Rattle.mp_commands.specs.declared.replies.Reply.{Reply}
-use Rattle.mp_commands.specs.Preparing.{IsPrepared, NeedsNoFile, ToldFor, state_over}
+use Rattle.mp_commands.specs.Preparing.{IsPrepared, NeedsNoFile, ToldFor}
 use Rattle.mp_session.specs.Sessions.{AsksNoFile, HasCommitted, IsReplyBy, SessionParts, StandsFor, version_at}
 
 -- ---- kinds

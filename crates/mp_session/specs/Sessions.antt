@@ -11,10 +11,11 @@ use Rattle.mp_replies.specs.Step.{after, answer, counted, fetches}
 use Rattle.mp_replies.specs.Text.{refused_text}
 use Rattle.mp_replies.specs.Words.{Setup}
 use Rattle.mp_stores.specs.Stores.{StandChanged, StandFor, Stored, lists_in, reads_at}
-use Rattle.mp_commands.specs.Commands.{is_accepted, is_unread, kind_of}
-use Rattle.mp_commands.specs.declared.answers.ReplyKind.TheVariants as kinds
-use Rattle.mp_commands.specs.Reads.{AreUnread, most_reads, renews}
-use Rattle.mp_commands.specs.declared.replies.Reply.{Reply}
+use Rattle.mp_requests.specs.Requests.{is_accepted, is_unread, kind_of}
+use Rattle.mp_requests.specs.declared.answers.ReplyKind.TheVariants as kinds
+use Rattle.mp_requests.specs.Reads.{AreUnread}
+use Rattle.mp_requests.specs.declared.replies.Reply.{Reply}
+use Rattle.mp_commands.specs.Reads.{most_reads, renews}
 use Rattle.mp_commands.specs.declared.prepared.Change.{Change}
 use Rattle.mp_commands.specs.declared.prepared.Change.TheVariants.{Keep, PutChannels, AddSamples}
 use Rattle.mp_commands.specs.Preparing.{changed_by}

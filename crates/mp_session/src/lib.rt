@@ -6,7 +6,7 @@ mod runs;
 mod sessions;
 pub mod top;
 
-pub use mp_commands::{Reply, ReplyKind, Stop};
 pub use mp_lines::{Fed, Feed};
+pub use mp_requests::{Reply, ReplyKind, Stop};
 pub use mp_words::{Job, Make, Settings, WordsAnswer, read_words};
 pub use sessions::Session;

@@ -12,9 +12,9 @@ ghost use Rattle.mp_session.specs.Sessions.{AsksNoFile};
 
 use crate::halts::Halt;
 use crate::sessions::Session;
-use mp_commands::Stop;
 use mp_feed::{LineReader, Next, write_report};
 use mp_outside::{Failed, Gate, Shelf, Sink, Source};
+use mp_requests::Stop;
 use std::alloc::Global;
 use std::thread::Threads;
 

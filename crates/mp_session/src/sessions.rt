@@ -3,9 +3,10 @@
 ghost use Rattle.std.specs.Prelude.{◌≡◌, ◌↔◌, ℕ, ◌+◌, ◌-◌, ◌^◌, ◌<◌, ◌≤◌, min, IfOk, OnErr, IsErrOf};
 ghost use Rattle.std.specs.Prelude.{IsNone, IfSome, false};
 
-use mp_commands::{Change, Context, Prepared, Reply, Stop, prepare};
+use mp_commands::{Change, Prepared, prepare};
 use mp_nums::Memory;
 use mp_outside::{Gate, Shelf};
+use mp_requests::{Context, Reply, Stop};
 use mp_stores::Stores;
 use mp_words::Settings;
 use std::alloc::Global;
@@ -35,7 +36,7 @@ impl Model for Session {
 impl Session {
     ghost use Rattle.mp_replies.specs.Line.{asked_of, ends};
     ghost use Rattle.mp_replies.specs.State.{Files, State, opening, store_at, version_of, Closed};
-    ghost use Rattle.mp_commands.specs.Commands.{is_ended};
+    ghost use Rattle.mp_requests.specs.Requests.{is_ended};
     ghost use Rattle.mp_commands.specs.Preparing.{CanMake, IsAsked, ToldFor, adds, puts};
     ghost use Rattle.mp_commands.specs.Reads.{append_reads};
     ghost use Rattle.mp_stores.specs.Stores.{reads_at};

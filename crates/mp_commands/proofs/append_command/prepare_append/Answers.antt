@@ -4,7 +4,7 @@ use Rattle.mp_bytes.specs.Fields.{fields_in}
 use Rattle.mp_replies.specs.State.{channels_at, samples_in}
 use Rattle.mp_stores.specs.Stores.{lists_in, streams_at}
 use Rattle.mp_stores.specs.StoreLaws.{last_at, stand_as_before}
-use Rattle.mp_commands.specs.Preparing.{state_over}
+use Rattle.mp_requests.specs.Answering.{state_over}
 use Rattle.mp_commands.proofs.AppendLemmas.{added_even, added_long, appended}
 use Rattle.mp_commands.proofs.append_command.prepare_append.Goals as goal
 

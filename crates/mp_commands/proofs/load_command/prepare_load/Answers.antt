@@ -1,9 +1,9 @@
 use Rattle.std.proofs.Common.{◌∙◌, [], ap, sym}
 use Rattle.std.specs.Prelude.{Some, is_none, unwrap_or}
 use Rattle.mp_replies.specs.Numbers.{columns}
-use Rattle.mp_commands.specs.Preparing.{state_over}
+use Rattle.mp_requests.specs.Answering.{state_over}
 use Rattle.mp_commands.specs.Commands.{asks_for}
-use Rattle.mp_commands.specs.Fetching.{asked_by}
+use Rattle.mp_commands.specs.Fetching.{reworded}
 use Rattle.mp_commands.proofs.FileLemmas.{no_file, on_err, prepared_by, wants_file}
 use Rattle.mp_commands.proofs.LoadLemmas.{file_refused, load_refused}
 use Rattle.mp_commands.proofs.load_command.prepare_load.Goals as goal
@@ -32,7 +32,8 @@ pub returns-in-Ok-clause-prepared : goal.returns-in-Ok-clause-prepared
 returns-in-Ok-clause-prepared g c = record {
   ok = λ stores files stand told.
       c.prepare_table.ensures.ok stores files stand
-      (rw c.in-Ok.is at c.in_ok-fetched.ensures.found files (told (ap is_none (c.in_default.ensures.cause stores stand)))
+      (rw c.in-Ok.is at c.in_ok-fetched.ensures.found files
+      (told (ap is_none (c.in_default.ensures.cause stores stand)))
       ∙ ap Some (sym c.as_slice.ensures.value));
   stop = λ stores stand. on_err c.prepare_table.result (c.in_default.ensures.cause stores stand);
 }
@@ -73,10 +74,12 @@ returns-in-Err-clause-some_files g c =
 
 pub returns-in-Ok-clause-shelf : goal.returns-in-Ok-clause-shelf
 returns-in-Ok-clause-shelf g c =
-    asked_by c.in_ok-fetched.ensures.shelf (wants_file c.args.context c.args.load c.args.stores.now c.in_default.ensures.cause)
+    reworded c.in_ok-fetched.ensures.shelf
+    (wants_file c.args.context c.args.load c.args.stores.now c.in_default.ensures.cause)
     (λ fault. absurd (c.prepare_table.ensures.calm fault)) (λ fault. absurd (cc fault))
 
 pub returns-in-Err-clause-shelf : goal.returns-in-Err-clause-shelf
 returns-in-Err-clause-shelf g c =
-    asked_by c.in_ok-fetched.ensures.shelf (wants_file c.args.context c.args.load c.args.stores.now c.in_default.ensures.cause) (λ fault. absurd (cc fault))
-    (λ fault. absurd (cc fault))
+    reworded c.in_ok-fetched.ensures.shelf
+    (wants_file c.args.context c.args.load c.args.stores.now c.in_default.ensures.cause)
+    (λ fault. absurd (cc fault)) (λ fault. absurd (cc fault))

@@ -5,7 +5,7 @@ use Rattle.mp_replies.specs.Change as change
 use Rattle.mp_replies.specs.Numbers.{columns}
 use Rattle.mp_text.specs.Table.{data_records}
 use Rattle.std.proofs.lemmas.Simd.{map-map}
-use Rattle.mp_commands.specs.Preparing.{state_over}
+use Rattle.mp_requests.specs.Answering.{state_over}
 use Rattle.mp_commands.proofs.LoadLemmas.{can_put_table, even_table, few_columns, loaded, some_columns, table_is}
 use Rattle.mp_commands.proofs.LoadLemmas.{table_long}
 use Rattle.mp_commands.proofs.load_command.prepare_table.Goals as goal

@@ -1,6 +1,6 @@
 use Rattle.std.proofs.Common.{[], ℕ, arith, refl, ap, ◌∙◌, sym, replicate}
 use Rattle.mp_replies.specs.Change.{PutChannels}
-use Rattle.mp_commands.specs.Preparing.{state_over}
+use Rattle.mp_requests.specs.Answering.{state_over}
 use Rattle.mp_commands.proofs.ChannelLemmas.{can_put_empty, empty_series}
 use Rattle.mp_commands.proofs.OpenLemmas.{opened}
 use Rattle.mp_commands.proofs.open_command.prepare_open.Goals as goal

@@ -1,10 +1,10 @@
 use Rattle.std.proofs.Common.{Ok, ◌∙◌, ap, subst}
 use Rattle.mp_lines.specs.Lines.{asked_by}
 use Rattle.mp_replies.specs.Line.{Asked}
-use Rattle.mp_commands.specs.Commands.{is_ended, kind_by}
-use Rattle.mp_commands.specs.Preparing.{IsPreparedBySome, IsReady, state_over}
-use Rattle.mp_commands.specs.Commands.{reported_in}
-use Rattle.mp_commands.specs.declared.answers.Answer.{Answer}
+use Rattle.mp_requests.specs.Requests.{is_ended, kind_by, reported_in}
+use Rattle.mp_requests.specs.Answering.{state_over}
+use Rattle.mp_requests.specs.declared.answers.Answer.{Answer}
+use Rattle.mp_commands.specs.Preparing.{IsPreparedBySome, IsReady}
 use Rattle.mp_commands.proofs.FileLemmas.{no_file}
 use Rattle.mp_commands.proofs.PreparingLemmas.{can_keep, keep_adds, keep_puts, names_last, prepared_quiet}
 use Rattle.mp_commands.proofs.PreparingLemmas.{prepared_report, taken_for}

@@ -1,7 +1,7 @@
 use Rattle.std.proofs.Common.{◌∙◌, ℕ, List, [], ◌∷◌, ap, Err, refl}
 use Rattle.mp_feed.specs.WritingLaws.{wrote_one}
-use Rattle.mp_commands.specs.Commands.{is_refused}
-use Rattle.mp_commands.specs.Fetching.{asked_by}
+use Rattle.mp_requests.specs.Requests.{is_refused}
+use Rattle.mp_commands.specs.Fetching.{reworded}
 use Rattle.mp_session.proofs.RunLemmas.{have_run_one, told_line, were_run_stopped}
 use Rattle.mp_session.proofs.StepLemmas.{refused_kind}
 use Rattle.mp_session.proofs.runs.run_line.Goals as goal
@@ -18,20 +18,20 @@ returns-in-Err-ShelfFault-clause-shelf_fault g c = λ left _.
 
 pub returns-in-Err-ShelfFault-clause-shelf : goal.returns-in-Err-ShelfFault-clause-shelf
 returns-in-Err-ShelfFault-clause-shelf g c =
-    asked_by c.in-Err-ShelfFault.ensures.shelf (λ none. none) (λ _. ap Err c.in-Err-ShelfFault.field-0-is) (λ _. refl)
+    reworded c.in-Err-ShelfFault.ensures.shelf (λ none. none) (λ _. ap Err c.in-Err-ShelfFault.field-0-is) (λ _. refl)
 
 pub returns-in-Err-Memory-clause-shelf : goal.returns-in-Err-Memory-clause-shelf
 returns-in-Err-Memory-clause-shelf g c =
-    asked_by c.in-Err-Memory.ensures.shelf (λ none. none) (λ fault. absurd (cc fault))
+    reworded c.in-Err-Memory.ensures.shelf (λ none. none) (λ fault. absurd (cc fault))
     (λ fault. absurd (cc (c.in-Err-Memory.field-0-is, fault)))
 
 pub returns-in-Err-clause-shelf : goal.returns-in-Err-clause-shelf
 returns-in-Err-clause-shelf g c =
-    asked_by c.in-Ok.ensures.shelf (λ none. none) (λ fault. absurd (cc fault)) (λ fault. absurd (cc fault))
+    reworded c.in-Ok.ensures.shelf (λ none. none) (λ fault. absurd (cc fault)) (λ fault. absurd (cc fault))
 
 pub returns-clause-shelf : goal.returns-clause-shelf
 returns-clause-shelf g c =
-    asked_by c.in-Ok.ensures.shelf (λ none. none) (λ fault. absurd (cc fault)) (λ fault. absurd (cc fault))
+    reworded c.in-Ok.ensures.shelf (λ none. none) (λ fault. absurd (cc fault)) (λ fault. absurd (cc fault))
 
 pub returns-clause-run : goal.returns-clause-run
 returns-clause-run g c = λ left.

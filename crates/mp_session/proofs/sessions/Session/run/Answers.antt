@@ -1,8 +1,8 @@
 use Rattle.std.proofs.Common.{◌∙◌, Ok, ap, refl, rules, sym, subst}
 use Rattle.mp_replies.specs.Line.{asked_of}
-use Rattle.mp_commands.specs.Commands.{is_accepted}
-use Rattle.mp_commands.specs.Fetching.{asked_by}
-use Rattle.mp_commands.specs.declared.replies.Stop.{Stop}
+use Rattle.mp_requests.specs.Requests.{is_accepted}
+use Rattle.mp_requests.specs.declared.replies.Stop.{Stop}
+use Rattle.mp_commands.specs.Fetching.{reworded}
 use Rattle.mp_session.specs.Sessions.{AsksNoFile, SessionParts, StandsFor, WereReadBy}
 use Rattle.mp_session.proofs.AnyShelf.{over_any}
 use Rattle.mp_session.proofs.EndLemmas.{no_shelf_fault, on_err, passed_back, passed_on}
@@ -29,7 +29,7 @@ returns-in_err-prepared-clause-reads g c =
 pub returns-in_err-prepared-clause-shelf : goal.returns-in_err-prepared-clause-shelf
 returns-in_err-prepared-clause-shelf g c =
     let line = c.args.line.now in
-    asked_by c.in_err-prepared.ensures.shelf
+    reworded c.in_err-prepared.ensures.shelf
     (λ none. needs_no_file _ _ line (λ stores. refl) c.self.invariant
     (subst (λ (s : SessionParts). AsksNoFile line s) (sym c.self.view_is) none))
     (passed_on c.from_residual.result _ _ c.from_residual.ensures.1)
@@ -51,7 +51,7 @@ returns-in_err-reply-clause-reads g c =
 pub returns-in_err-reply-clause-shelf : goal.returns-in_err-reply-clause-shelf
 returns-in_err-reply-clause-shelf g c =
     let line = c.args.line.now in
-    asked_by c.in_ok-prepared.ensures.shelf
+    reworded c.in_ok-prepared.ensures.shelf
     (λ none. needs_no_file _ _ line (λ stores. refl) c.self.invariant
     (subst (λ (s : SessionParts). AsksNoFile line s) (sym c.self.view_is) none))
     (λ fault. absurd
@@ -104,7 +104,7 @@ returns-clause-reads g c =
 pub returns-clause-shelf : goal.returns-clause-shelf
 returns-clause-shelf g c =
     let line = c.args.line.now in
-    asked_by c.in_ok-prepared.ensures.shelf
+    reworded c.in_ok-prepared.ensures.shelf
     (λ none. needs_no_file _ _ line (λ stores. refl) c.self.invariant
     (subst (λ (s : SessionParts). AsksNoFile line s) (sym c.self.view_is) none))
     (λ fault. absurd (cc fault)) (λ fault. absurd (cc fault))

@@ -1,0 +1,4 @@
+pub mod ColumnLemmas
+pub mod CompareLemmas
+pub mod ReportLemmas
+pub mod WrittenLemmas

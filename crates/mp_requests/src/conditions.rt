@@ -1,0 +1,124 @@
+//! Why a report is refused.
+
+ghost use Rattle.std.specs.Prelude.{◌≡◌, ◌+◌, ◌≤◌, ◌<◌, List, ◌∷◌, [], All, length, IfNone};
+ghost use Rattle.std.specs.Bool.{OnFalse};
+ghost use Rattle.mp_replies.specs.Conditions.{no_channel, no_channels, no_slot, no_slots, no_window};
+ghost use Rattle.mp_replies.specs.Conditions.{some_absent, some_closed};
+ghost use Rattle.mp_replies.specs.MatchCommand.{match_conditions};
+ghost use Rattle.mp_replies.specs.MultiCommand.{multi_conditions};
+ghost use Rattle.mp_replies.specs.State.{Store};
+ghost use Rattle.mp_requests.specs.Answering.{IsCause};
+ghost use Rattle.mp_stores.specs.Stores.{AreChannels, IsChannel, StandFor, channel_series, streams_at};
+
+use mp_replies::{Cause, Ref};
+use mp_series::windows;
+use mp_stores::{SLOTS, Stores};
+
+/// Why a ref names no channel, if it doesn't.
+pub(crate) fn ref_cause(stores: &Stores, at: Ref) -> Option<Cause>
+    ensures cause { IsCause stores.now (λ stands. no_slot stands at.slot ∷ no_channel stands at ∷ []) result }
+    ensures channel { IfNone result (IsChannel stores.now at) }
+{
+    let count = stores.count(at.slot);
+    if count == 0 {
+        Some(Cause::Slot)
+    } else if count <= at.channel {
+        Some(Cause::Channel)
+    } else {
+        None
+    }
+}
+
+/// Why some refs name no channels, if they don't: one of them no open slot, or else one of them no channel of its slot.
+pub(crate) fn refs_cause(stores: &Stores, refs: &[Ref]) -> Option<Cause>
+    ensures cause { IsCause stores.now
+        (λ stands. no_slots stands refs.now ∷ no_channels stands refs.now ∷ []) result }
+    ensures channels { IfNone result (All (IsChannel stores.now) refs.now) }
+{
+    if is_some_closed(stores, refs) {
+        return Some(Cause::Slot);
+    }
+    if is_some_absent(stores, refs) {
+        return Some(Cause::Channel);
+    }
+    None
+}
+
+/// Whether the slot of one of them isn't open.
+fn is_some_closed(stores: &Stores, refs: &[Ref]) -> bool
+    ensures { (stands : List Store) → StandFor stores.now stands → result ≡ some_closed stands refs.now }
+{
+    for at in refs {
+        if stores.count(at.slot) == 0 {
+            return true;
+        }
+    }
+    false
+}
+
+/// Whether one of them names a channel that its slot hasn't.
+fn is_some_absent(stores: &Stores, refs: &[Ref]) -> bool
+    ensures absent { (stands : List Store) → StandFor stores.now stands → result ≡ some_absent stands refs.now }
+    ensures channels { OnFalse result (All (IsChannel stores.now) refs.now) }
+{
+    for at in refs {
+        if stores.count(at.slot) <= at.channel {
+            return true;
+        }
+    }
+    false
+}
+
+/// Why a ref and a start name no window, if they don't.
+pub(crate) fn window_cause(stores: &Stores, at: Ref, start: u64) -> Option<Cause>
+    ensures cause { IsCause stores.now (λ stands.
+        no_slot stands at.slot ∷ no_channel stands at ∷ no_window stores.now.m stands at start ∷ []) result }
+    ensures channel { IfNone result (IsChannel stores.now at) }
+    ensures window { IfNone result (start + stores.now.m ≤ length (channel_series stores.now at)) }
+{
+    if let Some(cause) = ref_cause(stores, at) {
+        return Some(cause);
+    }
+    if windows(stores.channel_len(at), stores.window_len()) <= start {
+        Some(Cause::Index)
+    } else {
+        None
+    }
+}
+
+/// Why a match is refused, if it is: its refs, the start of the pattern's window, or a sample that this window lacks.
+pub(crate) fn match_cause(stores: &Stores, at: Ref, query: Ref, start: u64) -> Option<Cause>
+    ensures cause { IsCause stores.now (λ stands. match_conditions stores.now.m stands at query start) result }
+    ensures channels { IfNone result (All (IsChannel stores.now) (at ∷ query ∷ [])) }
+    ensures window { IfNone result (start + stores.now.m ≤ length (channel_series stores.now query)) }
+{
+    if let Some(cause) = refs_cause(stores, &[at, query]) {
+        return Some(cause);
+    }
+    if windows(stores.channel_len(query), stores.window_len()) <= start {
+        Some(Cause::Index)
+    } else if stores.is_free(query, start) {
+        None
+    } else {
+        Some(Cause::Missing)
+    }
+}
+
+/// Why so many of a slot's channels aren't compared together, if they aren't.
+pub(crate) fn multi_cause(stores: &Stores, slot: u64, k: u64) -> Option<Cause>
+    ensures cause { IsCause stores.now (λ stands. multi_conditions stands slot k) result }
+    ensures slot { IfNone result (slot < SLOTS) }
+    ensures open { IfNone result (0 < length (streams_at stores.now slot)) }
+    ensures some { IfNone result (1 ≤ k) }
+    ensures present { IfNone result (k ≤ length (streams_at stores.now slot)) }
+    ensures alike { IfNone result (AreChannels (streams_at stores.now slot)) }
+{
+    let count = stores.count(slot);
+    if count == 0 {
+        Some(Cause::Slot)
+    } else if (1..=count).contains(&k) {
+        None
+    } else {
+        Some(Cause::Channel)
+    }
+}

@@ -1,0 +1,106 @@
+//! What an accepted command reports, as data, and how it is written.
+
+ghost use Rattle.std.specs.Prelude.{◌<◌, ◌≤◌, All, length};
+ghost use Rattle.mp_replies.specs.Limits.{max_scale};
+
+use mp_chains::longest;
+use mp_nums::{Centre, Discord, Memory, Motif, NearList, Places, Ratio, Sample, Slots, Sq, Text};
+use mp_replies::Ref;
+use mp_report::answers::ok_text;
+use mp_report::chains::{chain_text, chains_text};
+use mp_report::channels::{consensus_text, mpdist_text};
+use mp_report::matches::{discords_text, match_text, motifs_text};
+use mp_report::profiles::{entry_text, profile_text, window_text};
+use mp_report::segments::segments_text;
+use mp_report::slots::{SlotsName, slots_text};
+use mp_stores::Stores;
+use std::alloc::Global;
+
+/// The report of a command, from which any form of it can be written. What the slots keep, as a profile, is named and
+/// not copied.
+#[derive(Debug, Drop)]
+pub enum Report {
+    Session,
+    /// How many samples each channel of the slot has.
+    Open { samples: u64 },
+    Load { samples: u64 },
+    Append { samples: u64 },
+    Window(Window),
+    /// The profile of this channel, which its slot keeps.
+    Profile(Ref),
+    /// The entry in it of the window that starts there.
+    Entry { at: Ref, start: u64 },
+    /// For each window its nearest one in the other series.
+    Join(Slots),
+    Mpdist(Option<Sq>),
+    /// For each window its nearest one by several channels together.
+    Multi(Slots),
+    Match(NearList),
+    Motifs(Vec<Motif>),
+    Discords(Vec<Discord>),
+    Chain(Places),
+    Chains(Vec<Places>),
+    Segments(Segments),
+    Consensus(Option<Centre>),
+    End,
+}
+
+/// The samples of the window at a start, and how many of their digits stand behind the point.
+#[derive(Debug, Drop)]
+pub struct Window {
+    pub start: u64,
+    pub samples: Vec<Sample>,
+    pub scale: u8,
+    ghost digits: { scale ≤ max_scale },
+}
+
+/// Where a channel changes its regime, and the curve that these places lie on, a fraction for each place.
+#[derive(Debug, Drop)]
+pub struct Segments {
+    pub places: Places,
+    pub curve: Vec<Ratio>,
+    ghost on_curve: { All (λ place. place < length curve.items) places.items },
+}
+
+impl Report {
+    ghost use Rattle.std.specs.Prelude.{◌≡◌, IfOk};
+    ghost use Rattle.mp_replies.specs.Commands.{report_text};
+    ghost use Rattle.mp_replies.specs.State.{State};
+    ghost use Rattle.mp_requests.specs.Requests.{AreNamed, AreSlotsOf, report_in};
+
+    /// The text for the line of this number, by its writer. What it names is looked up in the slots.
+    pub(crate) fn text(&self, alloc: Global, line: u64, stores: &Stores) -> Result<Text, Memory>
+        requires { AreNamed stores.now self.now }
+        ensures { (state : State) → AreSlotsOf state stores.now
+            → IfOk result (λ text. text.items ≡ report_text line (report_in state self.now)) }
+    {
+        match self {
+            Report::Session | Report::End => ok_text(alloc, line, None),
+            Report::Open { samples } | Report::Load { samples } | Report::Append { samples } => {
+                ok_text(alloc, line, Some(*samples))
+            }
+            Report::Window(window) => {
+                let samples = window.samples.as_slice();
+                window_text(alloc, line, window.start, samples, window.scale)
+            }
+            Report::Profile(at) => profile_text(alloc, line, stores.profile(*at)),
+            Report::Entry { at, start } => entry_text(alloc, line, stores.profile(*at), *start),
+            Report::Join(slots) => slots_text(alloc, line, SlotsName::Join, slots.as_slice()),
+            Report::Mpdist(dist) => mpdist_text(alloc, line, *dist),
+            Report::Multi(slots) => slots_text(alloc, line, SlotsName::Multi, slots.as_slice()),
+            Report::Match(list) => match_text(alloc, line, list.as_slice()),
+            Report::Motifs(list) => motifs_text(alloc, line, list.as_slice()),
+            Report::Discords(list) => discords_text(alloc, line, list.as_slice()),
+            Report::Chain(chain) => chain_text(alloc, line, chain.as_slice()),
+            Report::Chains(chains) => {
+                let chains = chains.as_slice();
+                chains_text(alloc, line, chains, longest(chains))
+            }
+            Report::Segments(segments) => {
+                let (places, curve) = (segments.places.as_slice(), segments.curve.as_slice());
+                segments_text(alloc, line, places, curve)
+            }
+            Report::Consensus(centre) => consensus_text(alloc, line, centre.as_ref()),
+        }
+    }
+}
