@@ -35,7 +35,7 @@ made 20000 'x = i % 1000 == 500 ? -2147483648 : int(3000 * sin(i / 20) + 400 * r
 made 65536 'x = int(3000 * sin(i / 20) + 1000 * sin(i / 333) + 400 * random())' > "$work/made"
 made 65536 'x += int(9 * random()) - 4' > "$work/walk"
 made 65536 'x = int(2000 * random())' > "$work/noise"
-made 65536 'y += random() - 0.5; x = int(y * 10000000)' > "$work/walk32"
+made 65536 'y += random() - 0.5; x = int(y * 5000000)' > "$work/walk32"
 made 65536 'x = int((random() - 0.5) * 4000000000)' > "$work/noise32"
 
 # the time of one run, which is the word before the last line's end

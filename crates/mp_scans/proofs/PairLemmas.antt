@@ -1,5 +1,5 @@
 -- Pairs of windows, and whether they have a distance.
-use Rattle.std.proofs.Common.{◌≡◌, ℕ, ◌+◌, ◌<◌, ◌≤◌, List, length, true, refl, sym, ap, ◌∙◌, arith}
+use Rattle.std.proofs.Common.{◌≡◌, ℕ, ◌+◌, ◌^◌, ◌<◌, ◌≤◌, ℤ, List, length, true, refl, sym, ap, ◌∙◌, arith}
 use Rattle.std.specs.Prelude.{Option, Some, None, IsTrue, IsSome}
 use Rattle.std.proofs.lemmas.List.{length-map}
 use Rattle.std.specs.Prelude.{◌||◌}
@@ -11,6 +11,11 @@ use Rattle.mp_defs.specs.Window.{is_free}
 use Rattle.mp_defs.specs.Distance.{distance}
 use Rattle.mp_defs.specs.Profile.{windows_of}
 use Rattle.mp_defs.specs.DistanceLaws.{of_free_windows}
+use Rattle.mp_sums.specs.declared.distances.Grid.{Grid}
+use Rattle.mp_sums.specs.Grids.{distance_in}
+use Rattle.mp_sums.specs.Residues.{residue, rounded_residue}
+use Rattle.mp_sums.specs.ResidueLaws.{residues_tell}
+use Rattle.mp_scans.specs.Distances.{AreDistances}
 
 -- a window lies in its series
 pub window_within : (m : ℕ) (samples : List Sample) (i : ℕ) → 1 ≤ m → i < windows_of m (series_of samples)
@@ -63,3 +68,17 @@ columns_on r c d e b i j le le' = grind (arith, nat_tests)
 pub all_columns : (r c d b e i j : ℕ) → c ≤ b → b < e → d ≡ e
     → (only r b i j || in_row r c d i j) ≡ in_row r c e i j
 all_columns r c d b e i j le lt f = grind (arith, nat_tests)
+
+-- ---- residues that are distances
+
+pub residue_tells : (grid : Grid) (shift row column d sum : ℕ) (r : ℤ) → AreDistances grid shift
+    → row + grid.m ≤ length grid.rows.now → column + grid.m ≤ length grid.columns.now
+    → r ≡ rounded_residue grid.m shift (series_of grid.rows.now) row (series_of grid.columns.now) column
+    → ((q : ℕ) → q < 2 ^ 31 → r ≡ residue q → sum ≡ q)
+    → distance_in grid row column ≡ Some d → sum ≡ d
+residue_tells grid shift row column d sum r exact row_within column_within is told there =
+    let a = series_of grid.rows.now in
+    let b = series_of grid.columns.now in
+    told d (exact.few_bits.each row column d row_within column_within there)
+    (is ∙ ap (λ s. rounded_residue grid.m s a row b column) exact.unrounded
+    ∙ residues_tell.unrounded grid.m a row b column d there)

@@ -1,5 +1,5 @@
 -- Blocks of rows and columns, thirty-two diagonals at once.
-use Rattle.std.specs.Prelude.{◌≡◌, ℕ, ◌+◌, ◌-◌, ◌*◌, ◌<◌, ◌≤◌, List, length, ℤ, ◌<ℤ◌, Bool}
+use Rattle.std.specs.Prelude.{◌≡◌, ℕ, ◌+◌, ◌-◌, ◌*◌, ◌<◌, ◌≤◌, ◌⊎◌, List, length, ℤ, ◌<ℤ◌, Bool}
 use Rattle.mp_defs.specs.Series.{Series, series_of}
 use Rattle.mp_defs.specs.Profile.{windows_of}
 use Rattle.mp_sums.specs.declared.distances.Grid.{Grid}
@@ -29,12 +29,19 @@ pub record AreResiduesAt (block : Block) (k c : ℕ) (residues : List ℤ) : Typ
   pub count : length residues ≡ LANES
   pub each : (t : ℕ) → t < LANES → item residues t ≡ residue_in block k (c + t)
 
--- in the rows from one on and before another, each residue on the thirty-two diagonals that start so far behind is above
--- its row's limit and its column's
+-- in the rows from one on and before another, each residue on the thirty-two diagonals that start so far behind is
+-- above its row's limit and its column's
 pub record AreAbove (block : Block) (offset : ℕ) (rows columns : List ℤ) (from end : ℕ) : Type 0 where
   pub row : (p t : ℕ) → from ≤ p → p < end → t < LANES → item rows p <ℤ residue_in block p (p + offset + t)
   pub column : (p t : ℕ) → from ≤ p → p < end → t < LANES
       → item columns (p + offset + t) <ℤ residue_in block p (p + offset + t)
+
+-- the residues at a strip's places are those behind its last row, where it has one, and others stay
+pub record AreMovedOn (strip : Strip) (old new : List ℤ) : Type 0 where
+  pub stored : 1 ≤ strip.end → (t : ℕ) → t < LANES
+      → item new (strip.offset + t) ≡ residue_in strip.block strip.end (strip.end + strip.offset + t)
+  pub others : (k : ℕ) → (k < strip.offset) ⊎ (strip.offset + LANES ≤ k) → item new k ≡ item old k
+  pub places : length new ≡ length old
 
 -- the pairs of a strip's rows from one on and before another
 abbrev pub in_strip : Strip → ℕ → ℕ → ℕ → ℕ → Bool

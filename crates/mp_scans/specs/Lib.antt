@@ -1,6 +1,7 @@
 pub mod Lanes
 pub mod Free
 pub mod Exacts
+pub mod Distances
 pub mod Blocks
 pub mod Offering
 pub mod Slots

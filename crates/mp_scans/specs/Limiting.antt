@@ -6,6 +6,8 @@ use Rattle.mp_defs.specs.Profile.{windows_of}
 use Rattle.mp_sums.specs.Grids.{distance_in}
 use Rattle.mp_sums.specs.Residues.{item}
 use Rattle.mp_scans.specs.declared.blocks.Block.{Block}
+use Rattle.mp_scans.specs.declared.blocks.Pair.{Pair}
+use Rattle.mp_scans.specs.declared.blocks.Strip.{Strip}
 use Rattle.mp_scans.specs.Blocks.{residue_in}
 
 -- a row is a window of its series, and so is a column
@@ -14,6 +16,14 @@ IsRow block p = block.row + p < windows_of block.grid.m (series_of block.grid.ro
 
 abbrev pub IsColumn : Block → ℕ → Type 0
 IsColumn block c = block.column + c < windows_of block.grid.m (series_of block.grid.columns.now)
+
+-- a row of a strip, a column that it has on one of the strip's diagonals, and their residue
+pub record IsPairOf (strip : Strip) (pair : Pair) : Type 0 where
+  pub row : pair.row < strip.end
+  pub first : pair.row + strip.offset ≤ pair.column
+  pub last : pair.column < pair.row + strip.offset + 32
+  pub is_column : IsColumn strip.block pair.column
+  pub residue : pair.residue ≡ residue_in strip.block pair.row pair.column
 
 -- whatever column from one on has a residue above the limit gives the row nothing
 abbrev pub IsRowLimit : Block → (ℕ → ℕ → ℕ → Type 0) → ℕ → ℕ → ℤ → Type 0
@@ -27,8 +37,8 @@ IsColumnLimit block keeps first c limit =
     IsColumn block c → (p d : ℕ) → first ≤ p → distance_in block.grid (block.row + p) (block.column + c) ≡ Some d
     → limit <ℤ residue_in block p c → keeps (block.column + c) (block.row + p) d
 
--- the first row that is still offered to a column from row p on, on thirty-two diagonals that start so far behind and on
--- those before them
+-- the first row that is still offered to a column from row p on, on thirty-two diagonals that start so far behind and
+-- on those before them
 abbrev pub first_row : ℕ → ℕ → ℕ → ℕ
 first_row offset p c = max (c - (offset + 31)) (min p (c + 1 - offset))
 
@@ -46,7 +56,7 @@ pub record AreLimits (block : Block) (keeps_row keeps_column : ℕ → ℕ → �
   pub columns_fit : (c : ℕ) → c < length columns → FitsSigned w32 (item columns c)
 
 -- no pair of the rows from one on and before another, on the thirty-two diagonals that start so far behind, is nearer
--- than what its row and its column have: it gives neither something
+-- than what its row and its column have: it gives neither of them something
 pub record AreQuiet (block : Block) (keeps_row keeps_column : ℕ → ℕ → ℕ → Type 0) (offset from end : ℕ) : Type 0 where
   pub row : (p t d : ℕ) → from ≤ p → p < end → t < 32 → IsRow block p
       → distance_in block.grid (block.row + p) (block.column + (p + offset + t)) ≡ Some d

@@ -1,6 +1,6 @@
 //! Some rows and some columns of two series, by the changes of which residues run.
 
-ghost use Rattle.std.specs.Prelude.{◌≡◌, ◌+◌, ◌*◌, ◌^◌, ◌<◌, ◌≤◌, length};
+ghost use Rattle.std.specs.Prelude.{◌≡◌, ◌+◌, ◌*◌, ◌^◌, ◌<◌, ◌≤◌, length, true};
 ghost use Rattle.std.specs.Int.{div_ceil};
 ghost use Rattle.mp_defs.specs.Series.{series_of};
 ghost use Rattle.mp_defs.specs.Profile.{windows_of};
@@ -8,6 +8,7 @@ ghost use Rattle.mp_sums.specs.Grids.{row_numbers, column_numbers};
 ghost use Rattle.mp_sums.specs.Rounding.{rounded};
 ghost use Rattle.mp_sums.specs.Residues.{AreChanges};
 ghost use Rattle.mp_scans.specs.Free.{AreFree};
+ghost use Rattle.mp_scans.specs.Distances.{AreDistances};
 ghost use Rattle.mp_scans.specs.declared.sizes.TheConstants.{ROWS, COLUMNS, GROUP};
 
 use mp_sums::{Grid, Rounding};
@@ -26,6 +27,8 @@ pub(crate) struct Changes<'a> {
 pub(crate) struct Block<'a> {
     pub(crate) grid: Grid<'a>,
     pub(crate) rounding: Rounding,
+    /// Whether residues tell distances.
+    pub(crate) is_exact: bool,
     pub(crate) row: usize,
     pub(crate) column: usize,
     pub(crate) width: usize,
@@ -46,6 +49,7 @@ pub(crate) struct Block<'a> {
     ghost are_rows: { row + length rows.differences.now ≤ windows_of grid.m (series_of grid.rows.now) },
     ghost wide: { length rows.differences.now + div_ceil width 32 * 32 ≤ length columns.differences.now + 1 },
     ghost same_length: { rounding.m ≡ grid.m },
+    ghost exact: { is_exact ≡ true → AreDistances grid rounding.shift },
     ghost row_changes: { AreChanges grid.m (rounded rounding.shift (row_numbers grid)) row rows.differences.now
         rows.sums.now },
     ghost column_changes: { AreChanges grid.m (rounded rounding.shift (column_numbers grid)) column

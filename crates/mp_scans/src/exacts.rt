@@ -1,6 +1,6 @@
 //! Exact sums, brought along their diagonals.
 
-ghost use Rattle.std.specs.Prelude.{◌≡◌, ℕ, ◌+◌, ◌-◌, ◌<◌, ◌≤◌, None, Some, length, slice_index_or, true};
+ghost use Rattle.std.specs.Prelude.{◌≡◌, ℕ, ◌+◌, ◌-◌, ◌<◌, ◌≤◌, Some, length, true};
 ghost use Rattle.mp_sums.specs.Grids.{IsSumIn, distance_in};
 ghost use Rattle.mp_scans.specs.Exacts.{IsExact, AreExacts};
 ghost use Rattle.mp_scans.specs.declared.sizes.TheConstants.{GROUP};
@@ -12,16 +12,6 @@ use mp_sums::Grid;
 pub(crate) struct Exact {
     pub(crate) row: usize,
     pub(crate) sum: u128,
-}
-
-/// Forgets what is known of diagonals.
-pub(crate) fn clear_exacts(exacts: &mut [Option<Exact>])
-    ensures none { (t : ℕ) → slice_index_or exacts.new t None ≡ None }
-    ensures places { length exacts.new ≡ length exacts.old }
-{
-    for t in 0..exacts.len() {
-        exacts[t] = None;
-    }
 }
 
 /// Whether a row comes so soon behind one whose sum is known that this is brought along sooner than made anew.

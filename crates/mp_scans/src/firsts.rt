@@ -20,10 +20,12 @@ fn fill_short(
     rounding: &Rounding,
     samples: &[Sample],
     start: usize,
+    numbers: &mut [i32],
     differences: &mut [i32],
     sums: &mut [i32],
 )
     requires short { rounding.now.m ≤ SHORT }
+    requires room { COLUMNS + SHORT ≤ length numbers.old }
     requires start { start < 2 ^ 31 }
     requires few { length differences.old ≤ COLUMNS }
     requires sums { length sums.old ≡ length differences.old }
@@ -32,7 +34,6 @@ fn fill_short(
     ensures places { length differences.new ≡ length differences.old }
 {
     let (count, m) = (differences.len(), rounding.m as usize);
-    let mut numbers = [0; COLUMNS + SHORT];
     let filled = &mut numbers[..count + m];
     rounding.fill(samples, start, filled);
     let numbers = &filled[..];
@@ -67,9 +68,11 @@ pub(crate) fn fill_windows(
     rounding: &Rounding,
     samples: &[Sample],
     start: usize,
+    numbers: &mut [i32],
     differences: &mut [i32],
     sums: &mut [i32],
 )
+    requires room { COLUMNS + SHORT ≤ length numbers.old }
     requires start { start < 2 ^ 31 }
     requires few { length differences.old ≤ COLUMNS }
     requires sums { length sums.old ≡ length differences.old }
@@ -78,7 +81,7 @@ pub(crate) fn fill_windows(
     ensures places { length differences.new ≡ length differences.old }
 {
     if rounding.m as usize <= SHORT {
-        fill_short(rounding, samples, start, differences, sums);
+        fill_short(rounding, samples, start, numbers, differences, sums);
     } else {
         fill_long(rounding, samples, start, differences, sums);
     }

@@ -11,13 +11,13 @@ ghost use Rattle.mp_scans.specs.Offering.{in_block};
 ghost use Rattle.mp_scans.specs.declared.sizes.TheConstants.{GROUP, ROWS};
 
 use crate::blocks::{Block, Changes, Strip};
-use crate::exacts::{Exact, clear_exacts};
+use crate::exacts::Exact;
 use crate::firsts::{fill_windows, start_residues};
 use crate::limits::{fill_column_limits, fill_row_limits};
 use crate::marks::mark_free;
 use crate::offers::Offers;
 use crate::plans::{Plan, count_columns};
-use crate::sizes::{COLUMNS, GROUP, ROWS};
+use crate::sizes::{COLUMNS, GROUP, MARKS, ROOM, ROWS};
 use crate::strips::scan_strip;
 use crate::vectors::LANES;
 use mp_sums::NEVER;
@@ -31,6 +31,19 @@ pub(crate) struct Group<'a> {
     pub(crate) width: usize,
     ghost some: { 1 ≤ width },
     ghost few: { width ≤ GROUP },
+}
+
+/// Successive rows of a group, from `row` on.
+#[derive(Clone, Copy)]
+struct Rows<'a> {
+    group: Group<'a>,
+    row: usize,
+    /// How many there are.
+    count: usize,
+    ghost some: { 1 ≤ count },
+    ghost few: { count ≤ ROWS },
+    ghost are_rows: { row + count ≤ windows_of group.plan.grid.m (series_of group.plan.grid.rows.now) },
+    ghost column: { row + group.first < 2 ^ 31 },
 }
 
 /// Takes the pairs of a block, strip by strip. The last strip has a column's first rows, and so comes first: a later row
@@ -110,44 +123,45 @@ fn scan_block<O: Offers>(
     scan_strips::<O>(block, row_limits, column_limits, residues, exacts, into);
 }
 
-/// Takes the pairs of as many rows from `row` on as `count` says, on the diagonals of a group.
+/// Takes the pairs of some rows on the diagonals of their group.
 fn scan_rows<O: Offers>(
-    group: &Group,
-    row: usize,
-    count: usize,
+    rows: &Rows,
+    room: &mut [i32; ROOM],
+    marks: &mut [bool; MARKS],
     residues: &mut [i32],
     exacts: &mut [Option<Exact>],
     into: &mut O::Into,
 )
-    requires some { 1 ≤ count }
-    requires few { count ≤ ROWS }
-    requires are_rows { row + count ≤ windows_of group.now.plan.grid.m (series_of group.now.plan.grid.rows.now) }
-    requires column { row + group.now.first < 2 ^ 31 }
-    requires strips { length residues.old ≡ div_ceil group.now.width 32 * 32 }
-    requires apart { O.least ≤ group.now.first }
-    requires residues { AreStripResidues group.now.plan.grid group.now.plan.rounding.shift row (row + group.now.first)
-        residues.old }
-    requires exacts { AreExacts group.now.plan.grid group.now.first exacts.old }
-    requires fits { O.fits group.now.plan.grid.m (series_of group.now.plan.grid.rows.now)
-        (series_of group.now.plan.grid.columns.now) into.old }
-    ensures exacts { AreExacts group.now.plan.grid group.now.first exacts.new }
-    ensures scanned { O.is_scanned group.now.plan.grid.m (series_of group.now.plan.grid.rows.now)
-        (series_of group.now.plan.grid.columns.now)
-        (in_block group.now.first (group.now.first + group.now.width) row (row + count)) into.old into.new }
-    ensures residues { AreStripResidues group.now.plan.grid group.now.plan.rounding.shift (row + count)
-        (row + group.now.first + count) residues.new }
+    requires strips { length residues.old ≡ div_ceil rows.now.group.width 32 * 32 }
+    requires apart { O.least ≤ rows.now.group.first }
+    requires residues { AreStripResidues rows.now.group.plan.grid rows.now.group.plan.rounding.shift rows.now.row
+        (rows.now.row + rows.now.group.first) residues.old }
+    requires exacts { AreExacts rows.now.group.plan.grid rows.now.group.first exacts.old }
+    requires fits { O.fits rows.now.group.plan.grid.m (series_of rows.now.group.plan.grid.rows.now)
+        (series_of rows.now.group.plan.grid.columns.now) into.old }
+    ensures exacts { AreExacts rows.now.group.plan.grid rows.now.group.first exacts.new }
+    ensures scanned { O.is_scanned rows.now.group.plan.grid.m (series_of rows.now.group.plan.grid.rows.now)
+        (series_of rows.now.group.plan.grid.columns.now)
+        (in_block rows.now.group.first (rows.now.group.first + rows.now.group.width) rows.now.row
+        (rows.now.row + rows.now.count)) into.old into.new }
+    ensures residues { AreStripResidues rows.now.group.plan.grid rows.now.group.plan.rounding.shift
+        (rows.now.row + rows.now.count) (rows.now.row + rows.now.group.first + rows.now.count) residues.new }
     ensures places { length residues.new ≡ length residues.old }
 {
+    let Rows { group, row, count } = *rows;
     let (grid, rounding) = (group.plan.grid, group.plan.rounding);
     let column = row + group.first;
     let columns = count + group.width.div_ceil(LANES) * LANES - 1;
-    let (mut row_differences, mut row_sums) = ([0; ROWS], [0; ROWS]);
-    let (mut column_differences, mut column_sums) = ([0; COLUMNS], [0; COLUMNS]);
-    let (mut free_rows, mut free_columns) = ([false; ROWS], [false; COLUMNS]);
+    let (row_differences, room) = room[..].split_at_mut(ROWS);
+    let (row_sums, room) = room.split_at_mut(ROWS);
+    let (column_differences, room) = room.split_at_mut(COLUMNS);
+    let (column_sums, numbers) = room.split_at_mut(COLUMNS);
+    let (free_rows, free_columns) = marks[..].split_at_mut(ROWS);
     fill_windows(
         &rounding,
         grid.rows,
         row,
+        numbers,
         &mut row_differences[..count],
         &mut row_sums[..count],
     );
@@ -155,6 +169,7 @@ fn scan_rows<O: Offers>(
         &rounding,
         grid.columns,
         column,
+        numbers,
         &mut column_differences[..columns],
         &mut column_sums[..columns],
     );
@@ -163,6 +178,7 @@ fn scan_rows<O: Offers>(
     let block = Block {
         grid,
         rounding,
+        is_exact: group.plan.is_exact,
         row,
         column,
         width: group.width,
@@ -196,21 +212,26 @@ fn scan_group_by<O: Offers>(
         (series_of group.now.plan.grid.columns.now) }
     requires strips { length residues.old ≡ div_ceil group.now.width 32 * 32 }
     requires apart { O.least ≤ group.now.first }
-    requires diagonals { length exacts.old ≡ GROUP }
+    requires exacts { AreExacts group.now.plan.grid group.now.first exacts.old }
     requires fits { O.fits group.now.plan.grid.m (series_of group.now.plan.grid.rows.now)
         (series_of group.now.plan.grid.columns.now) into.old }
     ensures scanned { O.is_scanned group.now.plan.grid.m (series_of group.now.plan.grid.rows.now)
         (series_of group.now.plan.grid.columns.now)
         (in_block group.now.first (group.now.first + group.now.width) top bottom) into.old into.new }
 {
-    clear_exacts(exacts);
     start_residues(&group.plan, top, top + group.first, residues);
     let columns = count_columns(&group.plan.grid);
     let end = bottom.min(columns - group.first);
+    let (mut room, mut marks) = ([0; ROOM], [false; MARKS]);
     let mut row = top;
     while row < end {
         let count = (end - row).min(ROWS);
-        scan_rows::<O>(group, row, count, residues, exacts, into);
+        let rows = Rows {
+            group: *group,
+            row,
+            count,
+        };
+        scan_rows::<O>(&rows, &mut room, &mut marks, residues, exacts, into);
         row += count;
     }
 }

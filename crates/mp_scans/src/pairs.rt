@@ -5,12 +5,10 @@ ghost use Rattle.std.specs.Int.{bit_at};
 ghost use Rattle.mp_defs.specs.Series.{series_of};
 ghost use Rattle.mp_defs.specs.Window.{is_free};
 ghost use Rattle.mp_scans.specs.Exacts.{AreExactsIn};
-ghost use Rattle.mp_scans.specs.Blocks.{residue_in, AreResiduesAt, FitIn, AreScannedIn};
-ghost use Rattle.mp_scans.specs.Lanes.{AreLanes};
-ghost use Rattle.mp_scans.specs.Limiting.{IsColumn, IsRowLimit, IsColumnLimit, AreLimits, AreKept, first_row};
+ghost use Rattle.mp_scans.specs.Blocks.{AreResiduesAt, FitIn, AreScannedIn};
+ghost use Rattle.mp_scans.specs.Limiting.{IsColumn, IsPairOf, IsRowLimit, IsColumnLimit, AreLimits, AreKept, first_row};
 ghost use Rattle.mp_scans.specs.Offering.{only, in_row};
 ghost use Rattle.mp_sums.specs.Grids.{distance_in};
-ghost use Rattle.mp_sums.specs.Residues.{item};
 ghost use Rattle.mp_defs.specs.Profile.{windows_of};
 
 use crate::blocks::{Block, Pair, Row, Strip};
@@ -19,7 +17,7 @@ use crate::limits::{column_limit, may_give, row_limit};
 use crate::offers::Offers;
 use crate::vectors::{LANES, lanes_above, least_lane, next_clear};
 use mp_nums::Sq;
-use mp_sums::passes;
+use mp_sums::{passes, sum_of};
 use std::simd::prelude::*;
 
 /// Whether no sample of a row and of a column is missing.
@@ -60,33 +58,45 @@ fn offer_at<O: Offers>(block: &Block, p: usize, c: usize, dist: u128, into: &mut
     }
 }
 
+/// The distance of a row and a column: that of their residue, where this tells it.
+#[inline]
+fn distance_at(strip: &Strip, pair: Pair, exacts: &mut [Option<Exact>]) -> u128
+    requires pair { IsPairOf strip.now pair }
+    requires exacts { AreExactsIn strip.now.block exacts.old }
+    ensures exacts { AreExactsIn strip.now.block exacts.new }
+    ensures distance { (d : ℕ) → distance_in strip.now.block.grid (strip.now.block.row + pair.row)
+        (strip.now.block.column + pair.column) ≡ Some d → result ≡ d }
+{
+    let block = &strip.block;
+    if block.is_exact {
+        sum_of(pair.residue)
+    } else {
+        let (row, column) = (block.row + pair.row, block.column + pair.column);
+        distance_by(&block.grid, block.column - block.row, exacts, row, column)
+    }
+}
+
 /// Offers a row and a column to each other, where no sample of either is missing and their distance may give one of them
 /// something, and tells whether it is so.
 pub(crate) fn offer_pair<O: Offers>(
     strip: &Strip,
-    p: usize,
-    c: usize,
+    pair: Pair,
     exacts: &mut [Option<Exact>],
     into: &mut O::Into,
 ) -> bool
-    requires row { p < strip.now.end }
-    requires first { p + strip.now.offset ≤ c }
-    requires last { c < p + strip.now.offset + 32 }
+    requires pair { IsPairOf strip.now pair }
     requires apart { strip.now.block.row + O.least ≤ strip.now.block.column + strip.now.offset }
-    requires is_column { IsColumn strip.now.block c }
     requires exacts { AreExactsIn strip.now.block exacts.old }
     requires fits { FitIn O.fits strip.now.block into.old }
     ensures scanned { AreScannedIn O.is_scanned strip.now.block
-        (only (strip.now.block.row + p) (strip.now.block.column + c)) into.old into.new }
+        (only (strip.now.block.row + pair.row) (strip.now.block.column + pair.column)) into.old into.new }
     ensures exacts { AreExactsIn strip.now.block exacts.new }
     ensures same { result ≡ false → into.new ≡ into.old }
 {
-    let block = &strip.block;
-    if are_free(block, p, c) {
-        let (row, column) = (block.row + p, block.column + c);
-        let first = block.column - block.row;
-        let dist = distance_by(&block.grid, first, exacts, row, column);
-        offer_at::<O>(block, p, c, dist, into)
+    let (p, c) = (pair.row, pair.column);
+    if are_free(&strip.block, p, c) {
+        let dist = distance_at(strip, pair, exacts);
+        offer_at::<O>(&strip.block, p, c, dist, into)
     } else {
         false
     }
@@ -133,11 +143,8 @@ fn offer_within<O: Offers>(
     exacts: &mut [Option<Exact>],
     into: &mut O::Into,
 )
-    requires row { pair.row < strip.now.end }
-    requires first { pair.row + strip.now.offset ≤ pair.column }
-    requires last { pair.column < pair.row + strip.now.offset + 32 }
+    requires pair { IsPairOf strip.now pair }
     requires apart { strip.now.block.row + O.least ≤ strip.now.block.column + strip.now.offset }
-    requires is_column { IsColumn strip.now.block pair.column }
     requires exacts { AreExactsIn strip.now.block exacts.old }
     requires fits { FitIn O.fits strip.now.block into.old }
     requires limits { AreLimits strip.now.block (O.keeps_row into.old) (O.keeps_column into.old)
@@ -149,7 +156,7 @@ fn offer_within<O: Offers>(
         (first_row strip.now.offset pair.row) row_limits.new column_limits.new }
 {
     let (p, c) = (pair.row, pair.column);
-    if offer_pair::<O>(strip, p, c, exacts, into) {
+    if offer_pair::<O>(strip, pair, exacts, into) {
         row_limits[p] = next_row_limit::<O>(strip, pair, row_limits[p], into);
         column_limits[c] = next_column_limit::<O>(strip, pair, column_limits[c], into);
     }
@@ -165,12 +172,8 @@ fn take_pair<O: Offers>(
     exacts: &mut [Option<Exact>],
     into: &mut O::Into,
 )
-    requires row { pair.row < strip.now.end }
-    requires first { pair.row + strip.now.offset ≤ pair.column }
-    requires last { pair.column < pair.row + strip.now.offset + 32 }
+    requires pair { IsPairOf strip.now pair }
     requires apart { strip.now.block.row + O.least ≤ strip.now.block.column + strip.now.offset }
-    requires is_column { IsColumn strip.now.block pair.column }
-    requires residue { pair.residue ≡ residue_in strip.now.block pair.row pair.column }
     requires exacts { AreExactsIn strip.now.block exacts.old }
     requires fits { FitIn O.fits strip.now.block into.old }
     requires limits { AreLimits strip.now.block (O.keeps_row into.old) (O.keeps_column into.old)
@@ -195,10 +198,13 @@ fn take_pair<O: Offers>(
 fn pair_at(strip: &Strip, row: &Row, t: usize) -> Pair
     requires row { row.now.place < strip.now.end }
     requires lane { t < row.now.width }
-    requires residues { AreLanes row.now.residues.now }
+    requires are_columns { strip.now.block.column + (row.now.place + strip.now.offset) + row.now.width
+        ≤ windows_of strip.now.block.grid.m (series_of strip.now.block.grid.columns.now) }
+    requires residues { AreResiduesAt strip.now.block row.now.place (row.now.place + strip.now.offset)
+        row.now.residues.now }
     ensures row { result.row ≡ row.now.place }
     ensures column { result.column ≡ row.now.place + strip.now.offset + t }
-    ensures residue { result.residue ≡ item row.now.residues.now t }
+    ensures pair { IsPairOf strip.now result }
 {
     Pair {
         row: row.place,

@@ -1,9 +1,10 @@
 //! What is scanned.
 
-ghost use Rattle.std.specs.Prelude.{◌≡◌, ◌≤◌, length};
+ghost use Rattle.std.specs.Prelude.{◌≡◌, ◌≤◌, length, true};
 ghost use Rattle.mp_series.specs.declared.limits.TheConstants.{MAX_SAMPLES};
 ghost use Rattle.mp_defs.specs.Series.{series_of};
 ghost use Rattle.mp_defs.specs.Profile.{windows_of};
+ghost use Rattle.mp_scans.specs.Distances.{AreDistances, MayBeDistances};
 
 use crate::shifts::shift_for;
 use mp_sums::{Grid, Rounding};
@@ -13,10 +14,24 @@ use mp_sums::{Grid, Rounding};
 pub struct Plan<'a> {
     pub grid: Grid<'a>,
     pub rounding: Rounding,
+    /// Whether a residue tells the distance of its row and its column. Else that is computed from their samples.
+    pub is_exact: bool,
     pub ghost some_samples: { 1 ≤ grid.m },
     pub ghost same_length: { rounding.m ≡ grid.m },
     pub ghost few_rows: { length grid.rows.now ≤ MAX_SAMPLES },
     pub ghost few_columns: { length grid.columns.now ≤ MAX_SAMPLES },
+    pub ghost exact: { is_exact ≡ true → AreDistances grid rounding.shift },
+}
+
+/// How many bits a distance has at most that a residue tells.
+const RESIDUE_BITS: u32 = 31;
+
+/// Whether residues tell distances, at this shift.
+fn are_distances(grid: &Grid, shift: u32) -> bool
+    ensures tell { result ≡ true → AreDistances grid.now shift }
+    ensures wherever { MayBeDistances grid.now shift → result ≡ true }
+{
+    shift == 0 && grid.distances_fit(RESIDUE_BITS)
 }
 
 impl<'a> Plan<'a> {
@@ -25,13 +40,32 @@ impl<'a> Plan<'a> {
         requires some_samples { 1 ≤ grid.m }
         requires few_rows { length grid.rows.now ≤ MAX_SAMPLES }
         requires few_columns { length grid.columns.now ≤ MAX_SAMPLES }
-        ensures { result.grid ≡ grid.entry }
+        ensures grid { result.grid ≡ grid.entry }
+        ensures exact { MayBeDistances grid.entry result.rounding.shift → result.is_exact ≡ true }
     {
         let rounding = Rounding {
             m: grid.m as u32,
             shift: shift_for(&grid),
         };
-        Plan { grid, rounding }
+        Plan::by(grid, rounding)
+    }
+
+    /// The plan for two series, by this rounding.
+    pub fn by(grid: Grid<'a>, rounding: Rounding) -> Plan<'a>
+        requires some_samples { 1 ≤ grid.m }
+        requires same_length { rounding.m ≡ grid.m }
+        requires few_rows { length grid.rows.now ≤ MAX_SAMPLES }
+        requires few_columns { length grid.columns.now ≤ MAX_SAMPLES }
+        ensures grid { result.grid ≡ grid.entry }
+        ensures rounding { result.rounding ≡ rounding }
+        ensures exact { MayBeDistances grid.entry rounding.shift → result.is_exact ≡ true }
+    {
+        let is_exact = are_distances(&grid, rounding.shift);
+        Plan {
+            grid,
+            rounding,
+            is_exact,
+        }
     }
 }
 

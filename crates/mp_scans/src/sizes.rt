@@ -14,3 +14,9 @@ pub(crate) const TAKEN: usize = 256;
 
 /// The most samples of windows whose numbers are taken once for what comes in and for what goes.
 pub(crate) const SHORT: usize = 1_024;
+
+/// The room for what is told of a block's rows and columns: the differences and sums of both, and rounded samples.
+pub(crate) const ROOM: usize = 2 * ROWS + 2 * COLUMNS + COLUMNS + SHORT;
+
+/// The room for its marks.
+pub(crate) const MARKS: usize = ROWS + COLUMNS;

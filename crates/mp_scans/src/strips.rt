@@ -1,10 +1,10 @@
 //! Strips of thirty-two diagonals.
 
-ghost use Rattle.std.specs.Prelude.{◌≡◌, ℕ, ◌+◌, ◌-◌, ◌<◌, ◌≤◌, ◌⊎◌, min, length, true, false};
+ghost use Rattle.std.specs.Prelude.{◌≡◌, ℕ, ◌+◌, ◌-◌, ◌<◌, ◌≤◌, min, length, true, false};
 ghost use Rattle.mp_defs.specs.Series.{series_of};
 ghost use Rattle.mp_defs.specs.Profile.{windows_of};
 ghost use Rattle.mp_sums.specs.Residues.{item};
-ghost use Rattle.mp_scans.specs.Blocks.{residue_in, AreResiduesAt, in_strip, FitIn, AreScannedIn};
+ghost use Rattle.mp_scans.specs.Blocks.{residue_in, AreResiduesAt, AreMovedOn, in_strip, FitIn, AreScannedIn};
 ghost use Rattle.mp_scans.specs.Exacts.{AreExactsIn};
 ghost use Rattle.mp_scans.specs.Limiting.{AreLimits, first_row};
 
@@ -29,44 +29,6 @@ fn lanes_at(strip: &Strip, p: usize) -> usize
         strip.block.column + (p + strip.offset),
     );
     strip.width.min(left)
-}
-
-/// Takes row `p`, where it comes before the end, and goes on to the next.
-fn take_next<O: Offers>(
-    strip: &Strip,
-    p: usize,
-    row_limits: &mut [i32],
-    column_limits: &mut [i32],
-    residues: &mut i32x32,
-    exacts: &mut [Option<Exact>],
-    into: &mut O::Into,
-) -> usize
-    requires row { p ≤ strip.now.end }
-    requires apart { strip.now.block.row + O.least ≤ strip.now.block.column + strip.now.offset }
-    requires residues { AreResiduesAt strip.now.block p (p + strip.now.offset) residues.old }
-    requires exacts { AreExactsIn strip.now.block exacts.old }
-    requires fits { FitIn O.fits strip.now.block into.old }
-    requires limits { AreLimits strip.now.block (O.keeps_row into.old) (O.keeps_column into.old)
-        (first_row strip.now.offset p) row_limits.old column_limits.old }
-    ensures next { result ≡ min (p + 1) strip.now.end }
-    ensures residues { AreResiduesAt strip.now.block result (result + strip.now.offset) residues.new }
-    ensures exacts { AreExactsIn strip.now.block exacts.new }
-    ensures scanned { AreScannedIn O.is_scanned strip.now.block (in_strip strip.now p result) into.old into.new }
-    ensures limits { AreLimits strip.now.block (O.keeps_row into.new) (O.keeps_column into.new)
-        (first_row strip.now.offset result) row_limits.new column_limits.new }
-{
-    if p < strip.end {
-        let row = Row {
-            place: p,
-            width: lanes_at(strip, p),
-            residues,
-        };
-        take_row::<O>(strip, &row, row_limits, column_limits, exacts, into);
-        advance(&strip.block, p, p + strip.offset, residues);
-        p + 1
-    } else {
-        p
-    }
 }
 
 /// Takes all rows of a strip.
@@ -94,15 +56,16 @@ fn scan_lanes<O: Offers>(
     let mut done = 0;
     while done < strip.end {
         done = pass_over::<O>(strip, done, row_limits, column_limits, residues, into);
-        done = take_next::<O>(
-            strip,
-            done,
-            row_limits,
-            column_limits,
-            residues,
-            exacts,
-            into,
-        );
+        if done < strip.end {
+            let row = Row {
+                place: done,
+                width: lanes_at(strip, done),
+                residues,
+            };
+            take_row::<O>(strip, &row, row_limits, column_limits, exacts, into);
+            advance(&strip.block, done, done + strip.offset, residues);
+            done += 1;
+        }
     }
 }
 
@@ -137,11 +100,7 @@ fn scan_places<O: Offers>(
         into.new }
     ensures limits { AreLimits strip.now.block (O.keeps_row into.new) (O.keeps_column into.new)
         (first_row strip.now.offset strip.now.end) row_limits.new column_limits.new }
-    ensures stored { (t : ℕ) → t < 32 → item residues.new (strip.now.offset + t)
-        ≡ residue_in strip.now.block strip.now.end (strip.now.end + strip.now.offset + t) }
-    ensures others { (k : ℕ) → (k < strip.now.offset) ⊎ (strip.now.offset + 32 ≤ k)
-        → item residues.new k ≡ item residues.old k }
-    ensures places { length residues.new ≡ length residues.old }
+    ensures moved { AreMovedOn strip.now residues.old residues.new }
 {
     let mut lanes = i32x32::splat(0);
     load(&mut lanes, residues, strip.offset);
@@ -171,11 +130,7 @@ pub(crate) fn scan_strip<O: Offers>(
         into.new }
     ensures limits { AreLimits strip.now.block (O.keeps_row into.new) (O.keeps_column into.new)
         (first_row strip.now.offset strip.now.end) row_limits.new column_limits.new }
-    ensures stored { 1 ≤ strip.now.end → (t : ℕ) → t < 32 → item residues.new (strip.now.offset + t)
-        ≡ residue_in strip.now.block strip.now.end (strip.now.end + strip.now.offset + t) }
-    ensures others { (k : ℕ) → (k < strip.now.offset) ⊎ (strip.now.offset + 32 ≤ k)
-        → item residues.new k ≡ item residues.old k }
-    ensures places { length residues.new ≡ length residues.old }
+    ensures moved { AreMovedOn strip.now residues.old residues.new }
 {
     if is_open(strip) {
         scan_places::<O>(strip, row_limits, column_limits, residues, exacts, into);

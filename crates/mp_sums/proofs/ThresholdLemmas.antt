@@ -72,3 +72,7 @@ pub rounded_threshold : (m shift limit units t : ℕ) → 1 ≤ shift → units 
     → t ≡ widened_least m units → t ≡ threshold m shift limit
 rounded_threshold m shift limit units t some e h =
     h ∙ ap (widened_least m) e ∙ sym (some_shift shift limit (widened_least m (limit / 2 ^ (2 * shift))) some)
+
+-- without a shift a limit is its own threshold
+pub not_widened : (m shift limit : ℕ) → shift ≡ 0 → threshold m shift limit ≡ limit
+not_widened m shift limit e = ap (λ s. threshold m s limit) e

@@ -1,5 +1,5 @@
 -- Two series whose windows of one length are compared, and the sums of their pairs.
-use Rattle.std.specs.Prelude.{ℕ, ℤ, Option}
+use Rattle.std.specs.Prelude.{◌≡◌, ℕ, ◌+◌, ◌^◌, ◌<◌, ◌≤◌, length, ℤ, Option, Some}
 use Rattle.mp_defs.specs.Series.{series_of}
 use Rattle.mp_defs.specs.Distance.{squared_difference, distance}
 use Rattle.mp_sums.specs.declared.distances.Grid.{Grid}
@@ -35,3 +35,8 @@ IsSumIn grid row column sum = IsFirstSumIn grid grid.m row column sum
 abbrev pub distance_in : Grid → ℕ → ℕ → Option ℕ
 distance_in grid row column =
     distance grid.m (series_of grid.rows.now) row (series_of grid.columns.now) column
+
+-- the distances of windows of these series have no more than so many bits
+pub record DistancesFit (bits : ℕ) (grid : Grid) : Type 0 where
+  pub each : (row column d : ℕ) → row + grid.m ≤ length grid.rows.now → column + grid.m ≤ length grid.columns.now
+      → distance_in grid row column ≡ Some d → d < 2 ^ bits

@@ -69,3 +69,6 @@ pub record ResiduesTell : Type 0 where
   pub beyond : (m shift : ℕ) (limit : Limit) (a : Series) (i : ℕ) (b : Series) (j d : ℕ)
       → distance m a i b j ≡ Some d → residue_limit m shift limit <ℤ rounded_residue m shift a i b j
       → IsBeyond limit d
+  -- where samples aren't rounded, it is the distance's own
+  pub unrounded : (m : ℕ) (a : Series) (i : ℕ) (b : Series) (j d : ℕ) → distance m a i b j ≡ Some d
+      → rounded_residue m 0 a i b j ≡ residue d

@@ -16,8 +16,8 @@ use Rattle.mp_sums.specs.Rounding.{rounded, threshold}
 use Rattle.mp_sums.specs.Residues.{residue, rounded_residue, residue_up_to, limit_within, limit_below, residue_limit}
 use Rattle.mp_sums.specs.Laws.{ResiduesMoveOn, ResiduesTell}
 use Rattle.mp_sums.specs.Products.{square_difference, square_is, add_wraps, sub_wraps, mul_wraps, twice}
-use Rattle.mp_sums.specs.SumLaws.{moved_on, distances_are_sums}
-use Rattle.mp_sums.specs.RoundingLaws.{rounded_sums_are_near}
+use Rattle.mp_sums.specs.SumLaws.{moved_on, sum_same, distances_are_sums}
+use Rattle.mp_sums.specs.RoundingLaws.{not_rounded, rounded_sums_are_near}
 
 -- ---- steps
 
@@ -62,7 +62,7 @@ fits_between : (z : ℤ) → z <ℤ pos (2 ^ 31) → (pos 0 -ℤ pos (2 ^ 31)) �
 fits_between z up down = omega (arith, ints, up, down)
 
 -- a sum of 32 bits
-small_residue : (q : ℕ) → q < 2 ^ 32 - 1 → residue q ≡ pos q -ℤ pos 2147483647
+pub small_residue : (q : ℕ) → q < 2 ^ 32 - 1 → residue q ≡ pos q -ℤ pos 2147483647
 small_residue q lt =
     int_wrap_fits w32 (pos q -ℤ pos 2147483647)
     (fits_between (pos q -ℤ pos 2147483647) (omega (arith, ints, lt)) (omega (arith, ints)))
@@ -125,9 +125,17 @@ not_within (Below end) d never = elim (cases_lt d end.0) [
 above_and_within : (r limit : ℤ) → limit <ℤ r → r ≤ℤ limit → ⊥
 above_and_within r limit lt le = omega (arith, ints, lt, le)
 
+unrounded : (m : ℕ) (a : Series) (i : ℕ) (b : Series) (j d : ℕ) → distance m a i b j ≡ Some d
+    → rounded_residue m 0 a i b j ≡ residue d
+unrounded m a i b j d e =
+    ap residue (sum_same m (rounded 0 (numbers_of a)) (numbers_of a) i (rounded 0 (numbers_of b)) (numbers_of b) j
+    (λ k _. not_rounded (numbers_of a (i + k))) (λ k _. not_rounded (numbers_of b (j + k)))
+    ∙ sym (distances_are_sums m a i b j d e))
+
 pub residues_tell : ResiduesTell
 residues_tell = record {
   passes = passes;
+  unrounded = unrounded;
   beyond = λ m shift limit a i b j d e above.
       not_within limit d (λ h. above_and_within (rounded_residue m shift a i b j) (residue_limit m shift limit) above
       (passes m shift limit a i b j d e h));

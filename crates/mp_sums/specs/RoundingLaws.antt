@@ -231,7 +231,7 @@ within_widened m shift w limit x i y j some le =
 whole : (n : ℕ) → n / 1 ≡ n
 whole n = omega (arith, div-add-mod' n 1, mod_below n 1 (omega arith))
 
-not_rounded : (z : ℤ) → int_shr z 0 ≡ z
+pub not_rounded : (z : ℤ) → int_shr z 0 ≡ z
 not_rounded (pos n) = ap pos (whole n)
 not_rounded (negsuc n) = ap negsuc (whole n)
 

@@ -3,7 +3,8 @@
 ghost use Rattle.std.specs.Prelude.{◌≤◌};
 ghost use Rattle.mp_series.specs.declared.limits.TheConstants.{MAX_WINDOW};
 
-use crate::numbers::{number_of, square};
+use crate::numbers::{number_of, sample_at, square};
+use crate::ranges::Range;
 use mp_nums::Sample;
 
 /// Two series, which may be the same, and the length of their windows that are compared. Windows of one are the rows,
@@ -18,9 +19,12 @@ pub struct Grid<'a> {
 }
 
 impl<'a> Grid<'a> {
-    ghost use Rattle.std.specs.Prelude.{◌≡◌, ℕ, ◌+◌, ◌<◌, ◌↔◌, length, IsTrue, IfSome, IfNone, Some};
+    ghost use Rattle.std.specs.Prelude.{◌≡◌, ℕ, ◌+◌, ◌<◌, ◌↔◌, length, true, IsTrue, IfSome, IfNone, Some};
     ghost use Rattle.mp_sums.specs.Sums.{at_most, greatest_square};
     ghost use Rattle.mp_sums.specs.Grids.{square_in, first_sum_in, IsFirstSumIn, sum_in, IsSumIn, distance_in};
+    ghost use Rattle.mp_sums.specs.Grids.{DistancesFit};
+    ghost use Rattle.mp_sums.specs.Ranges.{AreSamplesWithin, SumsFit};
+    ghost use Rattle.mp_sums.specs.declared.ranges.Range.{Range};
 
     /// The squared difference of a sample of the rows and one of the columns.
     #[inline]
@@ -117,5 +121,19 @@ impl<'a> Grid<'a> {
             sum = self.next_distance(row + k, column + k, sum);
         }
         sum
+    }
+
+    /// Whether the range of the samples tells that no distance has more than so many bits.
+    pub fn distances_fit(&self, bits: u32) -> bool
+        requires bits { bits < 128 }
+        ensures fit { result ≡ true → DistancesFit bits self.now }
+        ensures range { (range : Range) → 0 < length self.now.rows.now → AreSamplesWithin range self.now.rows.now
+            → AreSamplesWithin range self.now.columns.now → SumsFit self.now.m bits range → result ≡ true }
+    {
+        let first = number_of(sample_at(self.rows, 0));
+        let range = Range::at(first)
+            .with_samples(self.rows)
+            .with_samples(self.columns);
+        range.sums_fit(self.m as u32, bits)
     }
 }

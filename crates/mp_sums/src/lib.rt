@@ -23,6 +23,7 @@ pub use numbers::{NUMBER_BITS, Number, Square, number_of, sample_at, square};
 pub use ranges::Range;
 pub use residues::{
     ALWAYS, Change, NEVER, ZERO, change_of, fill_changes, first_residue, next_residue, passes,
+    sum_of,
 };
 pub use roundings::Rounding;
 pub use rows::{add_numbers, clear_residues};

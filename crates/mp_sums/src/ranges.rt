@@ -1,6 +1,7 @@
 //! From which number up to which some numbers reach, and whether the sums of their squared differences fit.
 
-use crate::numbers::{Number, square};
+use crate::numbers::{Number, number_of, square};
+use mp_nums::Sample;
 
 /// From which number up to which some numbers reach.
 #[derive(Clone, Copy, Debug)]
@@ -12,7 +13,7 @@ pub struct Range {
 impl Range {
     ghost use Rattle.std.specs.Prelude.{◌≡◌, ◌<◌, ◌↔◌, length, IsTrue};
     ghost use Rattle.mp_sums.specs.declared.ranges.Range.{Range};
-    ghost use Rattle.mp_sums.specs.Ranges.{AreWithin, IsInRange, Reaches, SumsFit};
+    ghost use Rattle.mp_sums.specs.Ranges.{AreWithin, AreSamplesWithin, IsInRange, Reaches, SumsFit};
 
     /// The range of a number alone.
     pub fn at(number: Number) -> Range
@@ -47,6 +48,20 @@ impl Range {
         let mut range = self;
         for number in numbers {
             range = range.around(*number);
+        }
+        range
+    }
+
+    /// The least range that has the numbers of these samples too. A missing one counts as 0.
+    pub fn with_samples(self, samples: &[Sample]) -> Range
+        ensures samples { AreSamplesWithin result samples.now }
+        ensures wider { Reaches result self }
+        ensures least { (range : Range) → Reaches range self → AreSamplesWithin range samples.now
+            → Reaches range result }
+    {
+        let mut range = self;
+        for sample in samples {
+            range = range.around(number_of(*sample));
         }
         range
     }

@@ -1,7 +1,7 @@
 //! Residues: sums modulo 2^32 of the squared differences of rounded samples, as signed numbers whose order is that of
 //! the sums as long as these have 32 bits. Nothing is asked of the sums, which may wrap.
 
-ghost use Rattle.std.specs.Prelude.{◌≡◌, ℕ, ◌+◌, ◌⊎◌, length, ℤ, ◌+ℤ◌, ◌-ℤ◌, ◌≤ℤ◌, ◌<ℤ◌, true, false};
+ghost use Rattle.std.specs.Prelude.{◌≡◌, ℕ, ◌+◌, ◌^◌, ◌<◌, ◌⊎◌, length, ℤ, ◌+ℤ◌, ◌-ℤ◌, ◌≤ℤ◌, ◌<ℤ◌, true, false};
 ghost use Rattle.std.specs.Int.{w32, int_wrap};
 ghost use Rattle.mp_sums.specs.Sums.{square_sum};
 ghost use Rattle.mp_sums.specs.Residues.{residue as residue_of, moved, AreNumbers, AreChanges};
@@ -85,6 +85,14 @@ pub fn next_residue(residue: i32, row: Change, column: Change) -> i32
             .wrapping_sub(column.difference)
             .wrapping_mul(row.sum.wrapping_sub(column.sum)),
     )
+}
+
+/// The sum that has this residue, where it has no more than thirty-one bits.
+#[inline]
+pub fn sum_of(residue: i32) -> u128
+    ensures { (sum : ℕ) → sum < 2 ^ 31 → residue ≡ residue_of sum → result ≡ sum }
+{
+    u128::from(residue.abs_diff(ZERO))
 }
 
 /// Whether a residue is within the limit of its row or that of its column.

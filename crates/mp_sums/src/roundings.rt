@@ -1,6 +1,7 @@
 //! Samples rounded down to multiples of a power of two.
 
-ghost use Rattle.std.specs.Prelude.{◌<◌};
+ghost use Rattle.std.specs.Prelude.{◌≡◌, ◌<◌};
+ghost use Rattle.mp_sums.specs.Residues.{residue_up_to as residue_limit_up_to};
 ghost use Rattle.mp_sums.specs.declared.numbers.TheConstants.{NUMBER_BITS};
 
 use crate::limits::Limit;
@@ -14,6 +15,14 @@ pub struct Rounding {
     pub m: u32,
     pub shift: u32,
     pub ghost small: { shift < NUMBER_BITS },
+}
+
+/// The greatest residue of the sums up to one.
+#[inline]
+fn residue_up_to(sum: u128) -> i32
+    ensures { result ≡ residue_limit_up_to sum }
+{
+    (sum.min(4_294_967_294) as i64 - 2_147_483_647) as i32
 }
 
 impl Rounding {
@@ -85,9 +94,21 @@ impl Rounding {
         m.leading_zeros().saturating_sub(units.leading_zeros()) / 2
     }
 
-    /// The greatest residue at distances up to one. Where that has too many squares of the unit, it is the greatest number.
+    /// The greatest residue at distances up to one.
     #[inline]
     fn limit_within(&self, dist: u128) -> i32
+        ensures { result ≡ limit_within self.now.m self.now.shift dist }
+    {
+        if self.shift == 0 {
+            residue_up_to(dist)
+        } else {
+            self.rounded_limit(dist)
+        }
+    }
+
+    /// The same where samples are rounded. Where the distance has too many squares of the unit, it is the greatest number.
+    #[inline]
+    fn rounded_limit(&self, dist: u128) -> i32
         ensures { result ≡ limit_within self.now.m self.now.shift dist }
     {
         let units = dist >> (2 * self.shift);

@@ -42,7 +42,7 @@ same_distance zero a a' i i' b j h = refl
 same_distance (suc m) a a' i i' b j h =
     rw (same_distance m a a' i i' b j (λ k lt. h k (omega (arith, lt))), h m (omega arith)) refl
 
-part_distance : (m : ℕ) (a : List Sample) (i e k : ℕ) (b : Series) (j : ℕ) → k + m ≤ e - i
+pub part_distance : (m : ℕ) (a : List Sample) (i e k : ℕ) (b : Series) (j : ℕ) → k + m ≤ e - i
     → distance m (series_of (between i e a)) k b j ≡ distance m (series_of a) (i + k) b j
 part_distance m a i e k b j within =
     same_distance m (series_of (between i e a)) (series_of a) k (i + k) b j

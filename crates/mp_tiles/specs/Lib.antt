@@ -1,3 +1,4 @@
+pub mod Compact
 pub mod Plans
 pub mod Among
 pub mod Sides

@@ -71,12 +71,12 @@ impl Offers for OnBothSides {
 
     #[inline]
     fn row_limit(into: &Sides, row: u64, first: u64) -> Limit {
-        limit_at(into.right(), row, first)
+        into.right_limit(row, first)
     }
 
     #[inline]
     fn column_limit(into: &Sides, column: u64, first: u64) -> Limit {
-        limit_at(into.left(), column, first)
+        into.left_limit(column, first)
     }
 }
 

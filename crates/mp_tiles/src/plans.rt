@@ -19,6 +19,7 @@ pub(crate) fn transposed<'a>(plan: &Plan<'a>) -> Plan<'a>
             m: plan.grid.m,
         },
         rounding: plan.rounding,
+        is_exact: plan.is_exact,
     }
 }
 
@@ -37,5 +38,6 @@ pub(crate) fn rows_between<'a>(plan: &Plan<'a>, top: usize, bottom: usize) -> Pl
             m: plan.grid.m,
         },
         rounding: plan.rounding,
+        is_exact: plan.is_exact,
     }
 }

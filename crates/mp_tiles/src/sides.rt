@@ -1,20 +1,24 @@
 //! The nearest windows on both sides.
 
-ghost use Rattle.std.specs.Prelude.{◌≡◌, ◌<◌, ◌≤◌, [], ◌∷◌, length};
+ghost use Rattle.std.specs.Prelude.{◌≡◌, ℕ, ◌<◌, ◌≤◌, [], ◌∷◌, length, slice_index_or, None};
+ghost use Rattle.mp_sums.specs.Limits.{IsBeyond};
+ghost use Rattle.mp_scans.specs.Slots.{Covers};
 ghost use Rattle.mp_partial.specs.Values.{HasColumns, empty_columns, merged_column, merged_columns, offered};
 ghost use Rattle.mp_partial.specs.MergeLaws.{columns_merge};
 
-use mp_nums::{Memory, Slot, Slots, Sq};
-use mp_partial::{Part, Profile, offer_at};
+use crate::compact::{Compact, clear, limit_in, merge, no_windows, offer_at, slot_at};
+use mp_nums::{Memory, Sq};
+use mp_partial::{Part, Profile};
+use mp_sums::Limit;
 use std::alloc::Global;
 use std::marker::Model;
 
 /// For each window, by its start, the nearest of the windows that start earlier, and the nearest of those that start
-/// later.
+/// later. A window takes 48 bytes.
 #[derive(Debug, Drop)]
 pub struct Sides {
-    left: Slots,
-    right: Slots,
+    left: Vec<Compact>,
+    right: Vec<Compact>,
 }
 
 impl Model for Sides {
@@ -34,23 +38,27 @@ impl Sides {
         ensures left { result ≡ length self.now.left }
         ensures right { result ≡ length self.now.right }
     {
-        self.left.as_slice().len() as u64
+        self.left.len() as u64
     }
 
-    /// The nearest of the windows that start earlier.
+    /// Which distances of the windows that start at `first` or later may still give a window a nearer one that starts
+    /// later.
     #[inline]
-    pub fn left(&self) -> &[Slot]
-        ensures { result.now ≡ self.now.left }
+    pub(crate) fn right_limit(&self, window: u64, first: u64) -> Limit
+        ensures { (index dist : ℕ) → first ≤ index → IsBeyond result dist
+            → Covers (slice_index_or self.now.right window None) index dist }
     {
-        self.left.as_slice()
+        limit_in(self.right.as_slice(), window, first)
     }
 
-    /// The nearest of the windows that start later.
+    /// Which distances of the windows that start at `first` or later may still give a window a nearer one that starts
+    /// earlier.
     #[inline]
-    pub fn right(&self) -> &[Slot]
-        ensures { result.now ≡ self.now.right }
+    pub(crate) fn left_limit(&self, window: u64, first: u64) -> Limit
+        ensures { (index dist : ℕ) → first ≤ index → IsBeyond result dist
+            → Covers (slice_index_or self.now.left window None) index dist }
     {
-        self.right.as_slice()
+        limit_in(self.left.as_slice(), window, first)
     }
 
     /// Windows `i` and `j`, which starts later, have this distance.
@@ -61,8 +69,8 @@ impl Sides {
         ensures left { self.new.left ≡ offered self.old.left j (record { dist = dist; index = i }) }
         ensures right { self.new.right ≡ offered self.old.right i (record { dist = dist; index = j }) }
     {
-        offer_at(&mut self.left, j, i, dist);
-        offer_at(&mut self.right, i, j, dist);
+        offer_at(self.left.as_mut_slice(), j, i, dist);
+        offer_at(self.right.as_mut_slice(), i, j, dist);
     }
 
     /// The profile of what was found, in the room of a profile of no windows. It takes no memory.
@@ -78,7 +86,7 @@ impl Sides {
         let (left, right) = (self.left.as_slice(), self.right.as_slice());
         let mut profile = room;
         for k in 0..left.len() {
-            profile.push(left[k], right[k]);
+            profile.push(slot_at(left, k), slot_at(right, k));
         }
         profile
     }
@@ -99,8 +107,8 @@ impl Part for Sides {
 
     fn unit(alloc: Global, size: u64) -> Result<Self, Memory> {
         Ok(Sides {
-            left: Slots::unit(alloc, size)?,
-            right: Slots::unit(alloc, size)?,
+            left: no_windows(alloc, size)?,
+            right: no_windows(alloc, size)?,
         })
     }
 
@@ -109,12 +117,12 @@ impl Part for Sides {
     }
 
     fn clear(&mut self) {
-        self.left.clear();
-        self.right.clear();
+        clear(self.left.as_mut_slice());
+        clear(self.right.as_mut_slice());
     }
 
     fn merge(&mut self, other: &Self) {
-        self.left.merge(&other.left);
-        self.right.merge(&other.right);
+        merge(self.left.as_mut_slice(), other.left.as_slice());
+        merge(self.right.as_mut_slice(), other.right.as_slice());
     }
 }

@@ -3,7 +3,6 @@ use Rattle.mp_defs.specs.Series.{series_of}
 use Rattle.mp_defs.specs.Profile.{windows_of}
 use Rattle.mp_scans.specs.Offering.{in_block}
 use Rattle.mp_scans.specs.Blocks.{AreStripResidues}
-use Rattle.mp_scans.proofs.ExactLemmas.{nothing_known}
 use Rattle.mp_scans.proofs.StripLemmas.{scanned_next, no_rows, rows_next, rows_cut}
 use Rattle.mp_scans.proofs.groups.scan_group_by.Goals as goal
 
@@ -18,8 +17,7 @@ loop-row-init g c =
       scanned = g.met.O.Offers.laws.none grid.m (series_of grid.rows.now) (series_of grid.columns.now)
           (in_block group.first (group.first + group.width) c.args.top c.args.top) _ c.requires.fits
           (λ i j. no_rows group.first (group.first + group.width) c.args.top c.args.top i j (omega arith));
-      exacts = nothing_known grid group.first _ (c.clear_exacts.ensures.places ∙ c.requires.diagonals)
-          c.clear_exacts.ensures.none;
+      exacts = c.requires.exacts;
       residues = c.start_residues.ensures.residues;
       places = c.start_residues.ensures.places;
     }

@@ -77,7 +77,7 @@ loop-strips-preserved g c =
     let strip = in_block (f + o) (f + o + w) (b.row + 0) (b.row + end) in
     let whole = in_block (f + o) (f + o + w) b.row (b.row + n) in
     record {
-      places = next.places ∙ before.places;
+      places = next.moved.places ∙ before.places;
       exacts = next.exacts;
       fits = laws.still_fits m rows columns strip _ _ before.fits next.scanned;
       few = omega (arith, before.few);
@@ -105,15 +105,15 @@ loop-strips-preserved g c =
               c.count_columns-columns.ensures,
             ) in
             ap (λ q. item c.scan_strip.new.residues (q + t)) here
-            ∙ next.stored (omega (arith, full, b.some_rows)) t small
+            ∙ next.moved.stored (omega (arith, full, b.some_rows)) t small
             ∙ ap (λ q. residue (square_sum m x (b.row + q) y (b.column + (q + o + t)))) full
             ∙ ap (λ q. residue (square_sum m x (b.row + n) y q)) (omega (arith, here))
-        | inr more ↦ next.others (s * 32 + t) (inr (omega (arith, more)))
-            ∙ before.done s t (omega (arith, more)) small (omega (arith, within, next.places)) behind
+        | inr more ↦ next.moved.others (s * 32 + t) (inr (omega (arith, more)))
+            ∙ before.done s t (omega (arith, more)) small (omega (arith, within, next.moved.places)) behind
       ];
       left = λ s t lt small within behind.
-          next.others (s * 32 + t) (inl (omega (arith, lt, small)))
-          ∙ before.left s t (omega (arith, lt)) small (omega (arith, within, next.places)) behind;
+          next.moved.others (s * 32 + t) (inl (omega (arith, lt, small)))
+          ∙ before.left s t (omega (arith, lt)) small (omega (arith, within, next.moved.places)) behind;
     }
 
 pub scan_strip-requires-clause-limits : goal.scan_strip-requires-clause-limits

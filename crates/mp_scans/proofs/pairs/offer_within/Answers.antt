@@ -17,8 +17,8 @@ returns-then-offer_pair-clause-limits g c =
     limits_anew b (o.keeps_row old) (o.keeps_column old) (o.keeps_row new) (o.keeps_column new)
     (first_row c.args.strip.now.offset c.args.pair.row)
     c.args.row_limits.now c.args.column_limits.now c.args.pair.row c.args.pair.column _ _
-    (omega (arith, c.requires.row, c.args.strip.now.rows, c.requires.limits.row_places))
-    (omega (arith, c.requires.row, c.requires.last, c.args.strip.now.columns, c.requires.limits.column_places))
+    (omega (arith, c.requires.pair.row, c.args.strip.now.rows, c.requires.limits.row_places))
+    (omega (arith, c.requires.pair.row, c.requires.pair.last, c.args.strip.now.columns, c.requires.limits.column_places))
     c.requires.limits
     (λ first k limit h.
     row_limit_stays o.least o.fits o.is_scanned o.keeps_row o.keeps_column g.met.O.Offers.limits b pair old new first k
@@ -29,7 +29,7 @@ returns-then-offer_pair-clause-limits g c =
     (subst (IsRowLimit b (o.keeps_row new) c.args.pair.row c.args.pair.row)
     (sym (to_z-of_z w32 c.next_row_limit.result row)) c.next_row_limit.ensures)
     (column_limit_on b (o.keeps_column new) c.args.strip.now.offset c.args.pair.row c.args.pair.column _
-    c.requires.first c.requires.last
+    c.requires.pair.first c.requires.pair.last
     (subst (IsColumnLimit b (o.keeps_column new) c.args.pair.row c.args.pair.column)
     (sym (to_z-of_z w32 c.next_column_limit.result column)) c.next_column_limit.ensures))
     (subst (FitsSigned w32) (sym (to_z-of_z w32 c.next_column_limit.result column)) column)

@@ -15,22 +15,22 @@ returns-else-passes g c =
           quiet_only o.least o.fits o.is_scanned o.keeps_row o.keeps_column g.met.O.Offers.limits c.args.strip.now.block
           c.args.pair.row c.args.pair.column (item c.args.row_limits.now c.args.pair.row) (item
           c.args.column_limits.now c.args.pair.column)
-          c.args.pair.residue c.args.into.now (omega (arith, c.requires.first)) (omega (
+          c.args.pair.residue c.args.into.now (omega (arith, c.requires.pair.first)) (omega (
             arith,
             c.requires.apart,
-            c.requires.first,
+            c.requires.pair.first,
           )) c.requires.fits
-          (limits.of_rows c.args.pair.row (omega (arith, c.requires.row, c.args.strip.now.rows, limits.row_places)))
+          (limits.of_rows c.args.pair.row (omega (arith, c.requires.pair.row, c.args.strip.now.rows, limits.row_places)))
           (column_limit_at c.args.strip.now.block (o.keeps_column c.args.into.now) c.args.strip.now.offset
           c.args.pair.row
-          c.args.pair.column _ c.requires.first c.requires.last
+          c.args.pair.column _ c.requires.pair.first c.requires.pair.last
           (limits.of_columns c.args.pair.column (omega (
             arith,
-            c.requires.row,
-            c.requires.last,
+            c.requires.pair.row,
+            c.requires.pair.last,
             c.args.strip.now.columns,
             limits.column_places,
-          )))) c.requires.residue
+          )))) c.requires.pair.residue
           (omega (arith, ints, row, c.passes.ensures.row c.if-passes.false))
           (omega (arith, ints, column, c.passes.ensures.column c.if-passes.false));
       exacts = c.requires.exacts;

@@ -3,16 +3,9 @@ use Rattle.std.specs.Prelude.{◌||◌}
 use Rattle.mp_defs.specs.Series.{series_of}
 use Rattle.mp_scans.specs.Offering.{only, in_row}
 use Rattle.mp_scans.proofs.LimitLemmas.{limits_at, kept_stays, quiet_columns}
-use Rattle.mp_scans.proofs.RunLemmas.{residue_lanes}
 use Rattle.mp_scans.proofs.StripLemmas.{scanned_next}
 use Rattle.mp_scans.proofs.PairLemmas.{first_columns, next_column, taken_column, columns_on, all_columns}
 use Rattle.mp_scans.proofs.pairs.take_row.Goals as goal
-
-pub pair_at-first-requires-clause-residues : goal.pair_at-first-requires-clause-residues
-pair_at-first-requires-clause-residues g c = residue_lanes _ _ _ _ c.requires.residues
-
-pub pair_at-pair-requires-clause-residues : goal.pair_at-pair-requires-clause-residues
-pair_at-pair-requires-clause-residues g c = residue_lanes _ _ _ _ c.requires.residues
 
 pub loop-t-init : goal.loop-t-init
 loop-t-init g c =

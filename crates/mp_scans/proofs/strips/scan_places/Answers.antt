@@ -22,15 +22,17 @@ store-requires-clause-residues g c =
     residue_lanes strip.block strip.end at _
     (passed_residues strip.block strip.end strip.end at at _ refl refl c.scan_lanes.ensures.residues)
 
-pub returns-clause-stored : goal.returns-clause-stored
-returns-clause-stored g c = λ t lt.
+pub returns-clause-moved : goal.returns-clause-moved
+returns-clause-moved g c =
     let strip = c.args.strip.now in
     let at = strip.end + strip.offset in
-    c.store.ensures.stored t lt
-    ∙ (passed_residues strip.block strip.end strip.end at at _ refl refl c.scan_lanes.ensures.residues).each t lt
-
-pub returns-clause-others : goal.returns-clause-others
-returns-clause-others g c = λ k which. elim which [
-  | inl less ↦ c.store.ensures.before k less
-  | inr more ↦ c.store.ensures.behind k more
-]
+    record {
+      stored = λ _ t lt.
+          c.store.ensures.stored t lt
+          ∙ (passed_residues strip.block strip.end strip.end at at _ refl refl c.scan_lanes.ensures.residues).each t lt;
+      others = λ k which. elim which [
+        | inl less ↦ c.store.ensures.before k less
+        | inr more ↦ c.store.ensures.behind k more
+      ];
+      places = c.store.ensures.places;
+    }

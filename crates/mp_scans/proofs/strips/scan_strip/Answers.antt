@@ -1,4 +1,4 @@
-use Rattle.std.proofs.Common.{◌+◌, ◌-◌, arith}
+use Rattle.std.proofs.Common.{◌+◌, ◌-◌, arith, refl}
 use Rattle.mp_defs.specs.Series.{series_of}
 use Rattle.mp_scans.specs.Blocks.{in_strip}
 use Rattle.mp_scans.proofs.StripLemmas.{no_rows}
@@ -14,6 +14,9 @@ returns-else-is_open-clause-scanned g c =
     (λ i j. no_rows d (d + strip.width) (b.row + 0) (b.row + strip.end) i j
     (omega (arith, c.is_open.ensures.none c.if-is_open.false)))
 
-pub returns-else-is_open-clause-stored : goal.returns-else-is_open-clause-stored
-returns-else-is_open-clause-stored g c = λ some t lt.
-    absurd (omega (arith, some, c.is_open.ensures.none c.if-is_open.false))
+pub returns-else-is_open-clause-moved : goal.returns-else-is_open-clause-moved
+returns-else-is_open-clause-moved g c = record {
+  stored = λ some t lt. absurd (omega (arith, some, c.is_open.ensures.none c.if-is_open.false));
+  others = λ _ _. refl;
+  places = refl;
+}

@@ -25,7 +25,7 @@ scanned : (c : goal.After-scan_tile)
     c.scan_tile.new.into
 scanned c =
     subst (λ (g : Grid). IsScanned (has_pair 0 c.args.tile.now) g.m (series_of g.rows.now) c.args.into.now
-    c.scan_tile.new.into) c.of-plan.ensures c.scan_tile.ensures.scanned
+    c.scan_tile.new.into) c.of-plan.ensures.grid c.scan_tile.ensures.scanned
 
 stay : (c : goal.After-scan_tile)
     → HasPlaces (windows_of c.args.m (series_of c.args.samples.now)) c.scan_tile.new.into

@@ -12,7 +12,7 @@ scanned : (c : goal.After-scan_tile)
     c.args.into.now c.scan_tile.new.into
 scanned c =
     subst (λ (g : Grid). IsPatched (has_pair 0 c.args.tile.now) g.m (series_of g.rows.now) (series_of g.columns.now)
-    c.args.into.now c.scan_tile.new.into) c.of-plan.ensures c.scan_tile.ensures.scanned
+    c.args.into.now c.scan_tile.new.into) c.of-plan.ensures.grid c.scan_tile.ensures.scanned
 
 pub returns-clause-first_row : goal.returns-clause-first_row
 returns-clause-first_row c = (scanned c).first_row

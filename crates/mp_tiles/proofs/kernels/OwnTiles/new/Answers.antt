@@ -20,7 +20,7 @@ returns-clause-together c =
     let tiles = c.cut_own.result in
     let same = series_are_of_samples.windows_are m c.args.samples.now in
     subst (λ (g : Grid). own_together (record { samples = g.rows.now; m = g.m; tiles = tiles })
-    ≡ sides_value (matrix_profile m a)) (sym c.of-plan.ensures)
+    ≡ sides_value (matrix_profile m a)) (sym c.of-plan.ensures.grid)
     (ap (λ w. merged_below merged_columns (empty_columns 2 w)
     (λ k. sides_value (profile_among (has_pair 0 (get_or tiles k no_tile)) m a)) (length tiles)) (sym same)
     ∙ sides_together m a tiles (matrix_profile m a)

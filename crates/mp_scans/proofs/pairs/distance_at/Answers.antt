@@ -1,0 +1,29 @@
+use Rattle.std.proofs.Common.{◌+◌, ◌∙◌, arith, rules, w32, FitsSigned}
+use Rattle.std.proofs.lemmas.Int.{to_z-of_z}
+use Rattle.mp_scans.proofs.PairLemmas.{window_within, residue_tells}
+use Rattle.mp_scans.proofs.pairs.distance_at.Goals as goal
+
+pub distance_by-requires-clause-row : goal.distance_by-requires-clause-row
+distance_by-requires-clause-row c =
+    window_within c.args.strip.now.block.grid.m c.args.strip.now.block.grid.rows.now (c.args.strip.now.block.row +
+    c.args.pair.row)
+    c.args.strip.now.block.some_samples
+    (omega (arith, c.requires.pair.row, c.args.strip.now.rows, c.args.strip.now.block.are_rows))
+
+pub distance_by-requires-clause-column : goal.distance_by-requires-clause-column
+distance_by-requires-clause-column c =
+    window_within c.args.strip.now.block.grid.m c.args.strip.now.block.grid.columns.now (c.args.strip.now.block.column
+    + c.args.pair.column)
+    c.args.strip.now.block.some_samples c.requires.pair.is_column
+
+pub returns-then-block-clause-distance : goal.returns-then-block-clause-distance
+returns-then-block-clause-distance c = λ d there.
+    let b = c.args.strip.now.block in
+    let fits : FitsSigned w32 c.args.pair.residue = search rules in
+    residue_tells b.grid b.rounding.shift (b.row + c.args.pair.row) (b.column + c.args.pair.column) d c.sum_of.result
+    c.args.pair.residue (b.exact c.if-block.true)
+    (window_within b.grid.m b.grid.rows.now (b.row + c.args.pair.row) b.some_samples
+    (omega (arith, c.requires.pair.row, c.args.strip.now.rows, b.are_rows)))
+    (window_within b.grid.m b.grid.columns.now (b.column + c.args.pair.column) b.some_samples c.requires.pair.is_column)
+    c.requires.pair.residue
+    (λ q lt e. c.sum_of.ensures q lt (to_z-of_z w32 c.args.pair.residue fits ∙ e)) there
