@@ -5,7 +5,6 @@ ghost use Rattle.mp_defs.specs.Limits.{max_samples};
 ghost use Rattle.mp_defs.specs.Profile.{ab_join};
 ghost use Rattle.mp_defs.specs.Series.{Series, series_of};
 ghost use Rattle.mp_replies.specs.Line.{Asks};
-ghost use Rattle.mp_replies.specs.MpdistCommand.{mpdist_between};
 ghost use Rattle.mp_replies.specs.State.{State};
 ghost use Rattle.mp_requests.specs.Requests.{AreNamed, compared_by, compared_in, report_in};
 ghost use Rattle.mp_requests.specs.Reports.{IsReported, OnlyReads};
@@ -17,7 +16,7 @@ use crate::context::Context;
 use crate::reports::Report;
 use crate::requests::{Comparison, Pair};
 use mp_mpdist::mpdist;
-use mp_nums::{Memory, Sample, Slots, Sq};
+use mp_nums::{Memory, Sample, Slots};
 use mp_outside::Gate;
 use mp_series::Bundle;
 use mp_stores::{Plan, Stores};
@@ -46,7 +45,7 @@ pub(crate) fn report_comparison<R: Threads + Sync, G: Gate>(
     Ok(Answer::Accepted(report))
 }
 
-/// What is told of two series.
+/// What is told of two series. MPdist is that of their joins in both directions.
 fn compared<R: Threads + Sync, G: Gate>(
     rt: &R,
     alloc: Global,
@@ -62,9 +61,15 @@ fn compared<R: Threads + Sync, G: Gate>(
     ensures names { (held : Stored) → IfOk result (AreNamed held) }
 {
     let (first, second) = (list.series(0), list.series(1));
+    let there = join(rt, alloc, first, second, plan, gate)?;
     match by {
-        Comparison::Join => Ok(Report::Join(join(rt, alloc, first, second, plan, gate)?)),
-        Comparison::Mpdist => Ok(Report::Mpdist(distance(rt, alloc, first, second, plan, gate)?)),
+        Comparison::Join => Ok(Report::Join(there)),
+        Comparison::Mpdist => {
+            let back = join(rt, alloc, second, first, plan, gate)?;
+            let (na, nb) = (first.len() as u64, second.len() as u64);
+            let dist = mpdist(alloc, there.as_slice(), back.as_slice(), na, nb)?;
+            Ok(Report::Mpdist(dist))
+        }
     }
 }
 
@@ -91,23 +96,4 @@ fn join<R: Threads + Sync, G: Gate>(
         plan.workers,
         gate,
     )
-}
-
-/// MPdist of two series, by the joins in both directions.
-fn distance<R: Threads + Sync, G: Gate>(
-    rt: &R,
-    alloc: Global,
-    first: &[Sample],
-    second: &[Sample],
-    plan: Plan,
-    gate: &G,
-) -> Result<Option<Sq>, Memory>
-    requires first { length first.now ≤ max_samples }
-    requires second { length second.now ≤ max_samples }
-    ensures { IfOk result (λ dist. dist ≡ mpdist_between plan.m (series_of first.now) (series_of second.now)) }
-{
-    let there = join(rt, alloc, first, second, plan, gate)?;
-    let back = join(rt, alloc, second, first, plan, gate)?;
-    let (na, nb) = (first.len() as u64, second.len() as u64);
-    mpdist(alloc, there.as_slice(), back.as_slice(), na, nb)
 }
