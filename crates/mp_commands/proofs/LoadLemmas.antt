@@ -20,6 +20,7 @@ use Rattle.mp_replies.specs.Command.{LoadReport}
 use Rattle.mp_replies.specs.Change as change
 use Rattle.mp_replies.specs.Command as asked
 use Rattle.mp_replies.specs.Conditions.{Condition, first_cause, when}
+use Rattle.mp_replies.specs.LimitLaws.{all_long}
 use Rattle.mp_replies.specs.Limits.{max_channels, max_file}
 use Rattle.mp_replies.specs.Line.{Asks}
 use Rattle.mp_replies.specs.LoadCommand.{channels_of, file_conditions, file_in, load_conditions, series_in, table_in}
@@ -29,7 +30,6 @@ use Rattle.mp_stores.specs.Stores.{HaveWindow, count_of, items_in}
 use Rattle.mp_stream.specs.Streams.{Streamed}
 use Rattle.mp_requests.specs.declared.answers.Answer.TheVariants.{Accepted, Refused}
 use Rattle.mp_requests.specs.declared.reports.Report.TheVariants as report
-use Rattle.mp_requests.specs.NumberLaws.{length-all_some}
 use Rattle.mp_commands.specs.declared.prepared.Change.TheVariants.{Keep}
 use Rattle.mp_commands.specs.declared.prepared.Prepared.{Prepared}
 use Rattle.mp_commands.specs.Preparing.{CanPut, IsPrepared, changed_by}
@@ -111,7 +111,7 @@ columns_by : (field cols : List ℕ) (few : Bool) → nat_le (length (values_in 
     → (if few then all_some (map column (values_in field)) else None) ≡ Some cols
     → (length cols ≡ length (values_in field)) × (length (values_in field) ≤ 8)
 columns_by field cols true is h = (
-  length-all_some (map column (values_in field)) cols h ∙ length-map (values_in field) column,
+  all_long (map column (values_in field)) cols h ∙ length-map (values_in field) column,
   grind (arith, nat_tests),
 )
 columns_by field cols false is h = absurd (cc h)

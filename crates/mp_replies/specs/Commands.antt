@@ -1,5 +1,5 @@
 -- The tables of commands: a row in each for every command.
-use Rattle.std.specs.Prelude.{ℕ, List, [], ◌∷◌, codes, Option, Some, None, Result, Ok, Err}
+use Rattle.std.specs.Prelude.{ℕ, List, [], ◌∷◌, codes, Some, None, Result, Ok, Err}
 use Rattle.mp_replies.specs.declared.causes.Cause.{Cause}
 use Rattle.mp_replies.specs.Change.{Change, Keep}
 use Rattle.mp_replies.specs.Command.{Command, Session, OpenAnew, Load, Append, Window, Profile, Entry, Join, Multi}

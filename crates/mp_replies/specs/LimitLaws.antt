@@ -154,7 +154,7 @@ onto_long x (Some more) ys many h rest =
     let whole : x ∷ more ≡ ys = cc in
     omega (arith, ap length whole, rest more refl)
 
-all_long : {A : Type 0} (xs : List (Option A)) (ys : List A) → all_some xs ≡ Some ys → length ys ≡ length xs
+pub all_long : {A : Type 0} (xs : List (Option A)) (ys : List A) → all_some xs ≡ Some ys → length ys ≡ length xs
 all_long [] [] h = refl
 all_long [] (y ∷ ys) h = absurd (cc h)
 all_long (None ∷ xs) ys h = absurd (cc h)

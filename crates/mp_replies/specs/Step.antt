@@ -1,5 +1,5 @@
 -- One line: why it is refused, what it changes and what it is answered.
-use Rattle.std.specs.Prelude.{ℕ, ◌+◌, Bool, true, false, List, [], ◌++◌, is_none, if◌then◌else◌, Option, Some, None}
+use Rattle.std.specs.Prelude.{ℕ, ◌+◌, Bool, true, false, List, ◌++◌, is_none, if◌then◌else◌, Option, Some, None}
 use Rattle.mp_replies.specs.declared.causes.Cause.{Cause}
 use Rattle.mp_replies.specs.State.{Files, State, version_of}
 use Rattle.mp_replies.specs.Change.{Change, Keep, changed}

@@ -15,6 +15,7 @@ use Rattle.mp_replies.specs.declared.refs.Ref.{Ref}
 use Rattle.mp_replies.specs.Command.{Command}
 use Rattle.mp_replies.specs.Conditions.{first_cause}
 use Rattle.mp_replies.specs.ConsensusCommand.{consensus_fits}
+use Rattle.mp_replies.specs.LimitLaws.{all_long}
 use Rattle.mp_replies.specs.Limits.{min_refs, slot_count}
 use Rattle.mp_replies.specs.Line.{Asks, is_end}
 use Rattle.mp_replies.specs.Numbers.{ref, refs}
@@ -29,7 +30,6 @@ use Rattle.mp_requests.specs.declared.context.Context.{Context}
 use Rattle.mp_requests.specs.declared.reports.Report as reports
 use Rattle.mp_requests.specs.AnswerLaws.{answer_accepted}
 use Rattle.mp_requests.specs.Answering.{state_over}
-use Rattle.mp_requests.specs.NumberLaws.{length-all_some}
 use Rattle.mp_requests.specs.Reports.{IsReported}
 use Rattle.mp_requests.specs.Requests.{NamesChannels, refs_of, report_in}
 
@@ -176,5 +176,5 @@ pub copies_of_named : (fields : List (List ℕ)) (named : List Ref) (series : Re
     → map series_of bundle ≡ map series named → min_refs ≤ length bundle
 copies_of_named fields named series bundle fits read copied =
     let two = two_fit (length fields) fits in
-    let all = length-all_some (map ref fields) named read ∙ length-map fields ref in
+    let all = all_long (map ref fields) named read ∙ length-map fields ref in
     omega (arith, two, all, copies_long bundle (map series named) copied, length-map named series)

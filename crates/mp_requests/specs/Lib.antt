@@ -2,5 +2,4 @@ pub mod Requests
 pub mod Reads
 pub mod Answering
 pub mod AnswerLaws
-pub mod NumberLaws
 pub mod Reports
