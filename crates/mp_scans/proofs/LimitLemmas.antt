@@ -9,42 +9,38 @@ use Rattle.std.proofs.lemmas.List.{length-set, get_or-set_same, get_or-set_other
 use Rattle.std.proofs.Common.{inl, inr, set, ◌∙◌, pos, w32, FitsSigned}
 use Rattle.std.specs.Int.{bit_at}
 use Rattle.mp_defs.specs.Series.{Series, series_of}
-use Rattle.mp_sums.specs.declared.limits.Limit.{Limit}
-use Rattle.mp_sums.specs.Limits.{IsBeyond}
 use Rattle.mp_sums.specs.Grids.{distance_in}
-use Rattle.mp_sums.specs.Residues.{residue_limit, item}
-use Rattle.mp_sums.specs.ResidueLaws.{residues_tell}
+use Rattle.mp_sums.specs.Residues.{item}
 use Rattle.mp_scans.specs.declared.blocks.Block.{Block}
 use Rattle.mp_scans.specs.Blocks.{residue_in, AreAbove, AreResiduesAt}
-use Rattle.mp_scans.specs.Offering.{only, in_row, in_block, IsLimiting}
+use Rattle.mp_scans.specs.Offering.{only, in_row, in_block, IsLimiting, TellsNothing}
 use Rattle.mp_defs.specs.Profile.{windows_of}
 use Rattle.mp_scans.specs.Limiting.{IsRow, IsColumn, IsRowLimit, IsColumnLimit, AreLimits, AreQuiet, AreKept, first_row}
 use Rattle.mp_scans.specs.Limiting.{first_on}
 
--- a residue above a limit's is beyond the limit
-beyond : (block : Block) (limit : Limit) (p c d : ℕ)
-    → distance_in block.grid (block.row + p) (block.column + c) ≡ Some d
-    → residue_limit block.rounding.m block.rounding.shift limit <ℤ residue_in block p c → IsBeyond limit d
-beyond block limit p c d e above =
-    residues_tell.beyond block.grid.m block.rounding.shift limit (series_of block.grid.rows.now) (block.row + p)
-    (series_of block.grid.columns.now) (block.column + c) d e
-    (subst (λ m. residue_limit m block.rounding.shift limit <ℤ residue_in block p c) block.same_length above)
+-- a bound of what keeps the nearest windows is one of the block's rows and columns
+bound_here : (block : Block) (first : ℕ) (gives_nothing : ℕ → ℕ → Type 0) (bound r : ℤ) → r ≡ bound
+    → TellsNothing block.rounding.m block.rounding.shift first gives_nothing bound
+    → TellsNothing block.grid.m block.rounding.shift first gives_nothing r
+bound_here block first gives_nothing bound r e h =
+    subst (λ m. TellsNothing m block.rounding.shift first gives_nothing r) block.same_length
+    (subst (TellsNothing block.rounding.m block.rounding.shift first gives_nothing) (sym e) h)
 
-pub is_row_limit : (block : Block) (keeps : ℕ → ℕ → ℕ → Type 0) (first p start : ℕ) (limit : Limit) (r : ℤ)
-    → r ≡ residue_limit block.rounding.m block.rounding.shift limit → start ≡ block.column + first
-    → ((column dist : ℕ) → start ≤ column → IsBeyond limit dist → keeps (block.row + p) column dist)
+pub is_row_limit : (block : Block) (keeps : ℕ → ℕ → ℕ → Type 0) (first p start : ℕ) (bound r : ℤ) → r ≡ bound
+    → start ≡ block.column + first
+    → TellsNothing block.rounding.m block.rounding.shift start (keeps (block.row + p)) bound
     → IsRowLimit block keeps first p r
-is_row_limit block keeps first p start limit r e s h = λ _ c d le is above.
-    h (block.column + c) d (omega (arith, s, le))
-    (beyond block limit p c d is (subst (λ z. z <ℤ residue_in block p c) e above))
+is_row_limit block keeps first p start bound r e s h = λ _ c d le is above.
+    (bound_here block start (keeps (block.row + p)) bound r e h).above (series_of block.grid.rows.now) (block.row + p)
+    (series_of block.grid.columns.now) (block.column + c) d is above (block.column + c) (omega (arith, s, le))
 
-pub is_column_limit : (block : Block) (keeps : ℕ → ℕ → ℕ → Type 0) (first c : ℕ) (limit : Limit) (r : ℤ)
-    → r ≡ residue_limit block.rounding.m block.rounding.shift limit
-    → ((row dist : ℕ) → block.row + first ≤ row → IsBeyond limit dist → keeps (block.column + c) row dist)
+pub is_column_limit : (block : Block) (keeps : ℕ → ℕ → ℕ → Type 0) (first c : ℕ) (bound r : ℤ) → r ≡ bound
+    → TellsNothing block.rounding.m block.rounding.shift (block.row + first) (keeps (block.column + c)) bound
     → IsColumnLimit block keeps first c r
-is_column_limit block keeps first c limit r e h = λ _ p d le is above.
-    h (block.row + p) d (omega (arith, le)) (beyond block limit p c d is (subst (λ z. z <ℤ residue_in block p c) e
-    above))
+is_column_limit block keeps first c bound r e h = λ _ p d le is above.
+    (bound_here block (block.row + first) (keeps (block.column + c)) bound r e h).above (series_of block.grid.rows.now)
+    (block.row + p) (series_of block.grid.columns.now) (block.column + c) d is above (block.row + p)
+    (omega (arith, le))
 
 -- pairs that are passed over give nothing
 pub quiet_above : (block : Block) (keeps_row keeps_column : ℕ → ℕ → ℕ → Type 0) (offset : ℕ) (rows columns : List ℤ)

@@ -1,9 +1,10 @@
 -- What holds of a way to offer windows to each other.
 use Rattle.std.specs.Prelude.{◌≡◌, ℕ, ◌+◌, ◌<◌, ◌≤◌, Bool, true, false, ◌==◌, ◌&&◌, ◌||◌, nat_le, nat_lt}
-use Rattle.std.specs.Prelude.{Some, None}
+use Rattle.std.specs.Prelude.{Some, None, ℤ, ◌<ℤ◌}
 use Rattle.mp_defs.specs.Series.{Series}
 use Rattle.mp_defs.specs.Distance.{distance}
 use Rattle.mp_defs.specs.Profile.{windows_of}
+use Rattle.mp_sums.specs.Residues.{rounded_residue}
 
 -- windows i and j, and no others
 abbrev pub only : ℕ → ℕ → ℕ → ℕ → Bool
@@ -17,6 +18,11 @@ in_row r c d row column = (row == r) && (nat_le c column && nat_lt column d)
 abbrev pub in_block : ℕ → ℕ → ℕ → ℕ → ℕ → ℕ → Bool
 in_block first end top bottom row column =
     (nat_le (row + first) column && nat_lt column (row + end)) && (nat_le top row && nat_lt row bottom)
+
+-- where a pair of windows has a residue above the bound, a window from first on that has its distance gives nothing
+pub record TellsNothing (m shift first : ℕ) (gives_nothing : ℕ → ℕ → Type 0) (bound : ℤ) : Type 0 where
+  pub above : (a : Series) (i : ℕ) (b : Series) (j d : ℕ) → distance m a i b j ≡ Some d
+      → bound <ℤ rounded_residue m shift a i b j → (index : ℕ) → first ≤ index → gives_nothing index d
 
 -- rows are windows of the first series, and columns of the second. A scan is of the pairs of a row and a column that
 -- pass a test, and leads from one state of what keeps the nearest windows to another

@@ -37,9 +37,8 @@ pub(crate) fn row_limit<O: Offers>(block: &Block, p: usize, into: &O::Into) -> i
     ensures { IsRowLimit block.now (O.keeps_row into.now) p p result }
 {
     if is_row_free(block, p) {
-        let first = block.column + p;
-        let limit = O::row_limit(into, (block.row + p) as u64, first as u64);
-        block.rounding.residue_limit(limit)
+        let (row, first) = (block.row + p, block.column + p);
+        O::row_bound(into, &block.rounding, row as u64, first as u64)
     } else {
         NEVER
     }
@@ -54,8 +53,7 @@ pub(crate) fn column_limit<O: Offers>(block: &Block, first: usize, c: usize, int
 {
     if is_column_free(block, c) {
         let (column, row) = (block.column + c, block.row + first);
-        let limit = O::column_limit(into, column as u64, row as u64);
-        block.rounding.residue_limit(limit)
+        O::column_bound(into, &block.rounding, column as u64, row as u64)
     } else {
         NEVER
     }

@@ -5,10 +5,10 @@ ghost use Rattle.mp_defs.specs.Series.{Series};
 ghost use Rattle.mp_defs.specs.Distance.{distance};
 ghost use Rattle.mp_defs.specs.Profile.{windows_of};
 ghost use Rattle.mp_sums.specs.Limits.{IsBeyond};
-ghost use Rattle.mp_scans.specs.Offering.{only, IsOffering, IsLimiting};
+ghost use Rattle.mp_scans.specs.Offering.{only, IsOffering, IsLimiting, TellsNothing};
 
 use mp_nums::Sq;
-use mp_sums::Limit;
+use mp_sums::{Limit, Rounding};
 
 /// A way to offer the windows of a pair. One window of the pair is a row and one a column.
 pub trait Offers {
@@ -46,6 +46,23 @@ pub trait Offers {
     /// Which distances of the rows from `first` on may still give the column something.
     fn column_limit(into: &Self::Into, column: u64, first: u64) -> Limit
         ensures { (row dist : ℕ) → first ≤ row → IsBeyond result dist → keeps_column into.now column row dist };
+
+    /// A residue of pairs by a rounding, such that the columns from `first` on that have a greater one give the row
+    /// nothing.
+    #[inline]
+    fn row_bound(into: &Self::Into, rounding: &Rounding, row: u64, first: u64) -> i32
+        ensures { TellsNothing rounding.now.m rounding.now.shift first (keeps_row into.now row) result }
+    {
+        rounding.residue_limit(Self::row_limit(into, row, first))
+    }
+
+    /// A residue of pairs by a rounding, such that the rows from `first` on that have a greater one give the column nothing.
+    #[inline]
+    fn column_bound(into: &Self::Into, rounding: &Rounding, column: u64, first: u64) -> i32
+        ensures { TellsNothing rounding.now.m rounding.now.shift first (keeps_column into.now column) result }
+    {
+        rounding.residue_limit(Self::column_limit(into, column, first))
+    }
 
     /// Offers of more pairs give what these pairs give together.
     ghost laws: { IsOffering least fits may_offer is_scanned };

@@ -3,7 +3,7 @@ use Rattle.std.proofs.Common.{◌≡◌, ℕ, ◌+◌, ◌-◌, ◌*◌, ◌/◌
 use Rattle.std.proofs.lemmas.Nat.{mul-le, shl_whole, shr_le, leading_le, leading_length}
 use Rattle.std.proofs.Math.Nat.{pow-le-pow_right}
 use Rattle.std.specs.Prelude.{◌==◌, if◌then◌else◌, nat_le}
-use Rattle.std.specs.Int.{w128, leading_zeros}
+use Rattle.std.specs.Int.{w64, leading_zeros}
 use Rattle.std.proofs.lemmas.Bool.Decides.{nat_tests}
 use Rattle.mp_sums.specs.Rounding.{weight, widened_least, threshold}
 
@@ -16,19 +16,19 @@ short true m a e lt le =
     absurd (omega (arith, more, lt, le))
 short false m a e lt le = grind (arith, nat_tests)
 
-zeros_in_front : (a : ℕ) → a < 2 ^ 32 → 96 ≤ leading_zeros w128 a
+zeros_in_front : (a : ℕ) → a < 2 ^ 32 → 32 ≤ leading_zeros w64 a
 zeros_in_front a lt =
-    let bits = leading_length 128 a (omega (arith, lt)) in
+    let bits = leading_length 64 a (omega (arith, lt)) in
     omega (arith, bits.1, short (nat_le 33 bits.0) bits.0 a refl lt bits.3)
 
 pub weight_small : (m a : ℕ) → a < 2 ^ 32 → weight m a ≤ 16
-weight_small m a lt = omega (arith, leading_le 128 m, zeros_in_front a lt)
+weight_small m a lt = omega (arith, leading_le 64 m, zeros_in_front a lt)
 
-pub weight_is : (a b m k r : ℕ) → k ≡ m → b ≡ a → r ≡ leading_zeros w128 k - leading_zeros w128 b
+pub weight_is : (a b m k r : ℕ) → k ≡ m → b ≡ a → r ≡ leading_zeros w64 k - leading_zeros w64 b
     → r / 2 ≡ weight m a
 weight_is a b m k r same there e =
-    ap (λ n. n / 2) (e ∙ ap (λ n. leading_zeros w128 n - leading_zeros w128 b) same
-    ∙ ap (λ n. leading_zeros w128 m - leading_zeros w128 n) there)
+    ap (λ n. n / 2) (e ∙ ap (λ n. leading_zeros w64 n - leading_zeros w64 b) same
+    ∙ ap (λ n. leading_zeros w64 m - leading_zeros w64 n) there)
 
 -- m weighted
 weighted : (m c : ℕ) → m < 2 ^ 32 → c ≤ 16 → (m * 2 ^ c) % 2 ^ 64 ≡ m * 2 ^ c

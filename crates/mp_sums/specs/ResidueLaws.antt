@@ -1,5 +1,5 @@
 -- Why residues move on, and what they tell.
-use Rattle.std.proofs.Common.{◌≡◌, ℕ, ◌+◌, ◌-◌, ◌^◌, ◌<◌, ◌≤◌, inl, inr, refl, sym, ap, ◌∙◌, arith}
+use Rattle.std.proofs.Common.{◌≡◌, ℕ, ◌+◌, ◌-◌, ◌^◌, ◌<◌, ◌≤◌, inl, inr, refl, sym, ap, ◌∙◌, arith, subst}
 use Rattle.std.proofs.Common.{w32, FitsSigned, ℤ, pos, ◌+ℤ◌, ◌-ℤ◌, ◌*ℤ◌, Bool, true, false}
 use Rattle.std.specs.Prelude.{◌≤ℤ◌, ◌<ℤ◌, negsuc, Some, ◌==◌, if◌then◌else◌}
 use Rattle.std.specs.Int.{int_wrap}
@@ -14,6 +14,8 @@ use Rattle.mp_sums.specs.Sums.{numbers_of, square_sum}
 use Rattle.mp_sums.specs.Limits.{IsWithin, IsBeyond}
 use Rattle.mp_sums.specs.Rounding.{rounded, threshold}
 use Rattle.mp_sums.specs.Residues.{residue, rounded_residue, residue_up_to, limit_within, limit_below, residue_limit}
+use Rattle.mp_sums.specs.Residues.{IsLimitOf}
+use Rattle.mp_nums.specs.declared.nearest.Sq.{Sq}
 use Rattle.mp_sums.specs.Laws.{ResiduesMoveOn, ResiduesTell}
 use Rattle.mp_sums.specs.Products.{square_difference, square_is, add_wraps, sub_wraps, mul_wraps, twice}
 use Rattle.mp_sums.specs.SumLaws.{moved_on, sum_same, distances_are_sums}
@@ -140,3 +142,41 @@ residues_tell = record {
       not_within limit d (λ h. above_and_within (rounded_residue m shift a i b j) (residue_limit m shift limit) above
       (passes m shift limit a i b j d e h));
 }
+
+-- ---- limits of residues
+
+-- the greatest residue within a limit is one
+pub is_limit : (m shift : ℕ) (limit : Limit) (bound : ℤ) → bound ≡ residue_limit m shift limit
+    → IsLimitOf m shift limit bound
+is_limit m shift limit bound e = record {
+  beyond = λ a i b j d there above.
+      residues_tell.beyond m shift limit a i b j d there
+      (subst (λ z. z <ℤ rounded_residue m shift a i b j) e above);
+}
+
+-- what lies beyond all distances up to one lies beyond those below it
+pub is_limit_before : (m shift : ℕ) (dist : Sq) (bound : ℤ) → bound ≡ limit_within m shift dist.0
+    → IsLimitOf m shift (Below dist) bound
+is_limit_before m shift dist bound e = record {
+  beyond = λ a i b j d there above.
+      let far : dist.0 < d = (is_limit m shift (Within dist) bound e).beyond a i b j d there above in
+      omega (arith, far);
+}
+
+-- without rounding the distances below one have the residues below its own
+one_less : (m : ℕ) (dist : ℕ) (bound : ℤ) → bound ≡ limit_within m 0 dist → bound <ℤ pos 2147483647 → 1 ≤ dist
+    → bound -ℤ pos 1 ≡ limit_below m 0 dist
+one_less m dist bound e less some =
+    let few : dist < 4294967294 = omega (arith, ints, e, less) in
+    let before : residue_up_to (dist - 1) ≡ bound -ℤ pos 1 = omega (arith, ints, e, few, some) in
+    sym (by_distance dist (residue_up_to (dist - 1)) some ∙ before)
+  where
+    by_distance : (d : ℕ) (r : ℤ) → 1 ≤ d → (if d == 0 then negsuc 2147483647 else r) ≡ r
+    by_distance d r le = grind (arith, nat_tests)
+
+pub is_limit_unrounded : (m shift : ℕ) (dist : Sq) (bound : ℤ) → shift ≡ 0 → bound ≡ limit_within m shift dist.0
+    → bound <ℤ pos 2147483647 → 1 ≤ dist.0 → IsLimitOf m shift (Below dist) (bound -ℤ pos 1)
+is_limit_unrounded m shift dist bound none e less some =
+    is_limit m shift (Below dist) (bound -ℤ pos 1)
+    (one_less m dist.0 bound (e ∙ ap (λ s. limit_within m s dist.0) none) less some
+    ∙ sym (ap (λ s. limit_below m s dist.0) none))

@@ -1,10 +1,12 @@
 -- Sums modulo 2 ^ 32, in signed numbers of 32 bits.
 use Rattle.std.specs.Prelude.{◌≡◌, ℕ, ◌+◌, ◌-◌, ◌<◌, ◌==◌, min, if◌then◌else◌, List, length, slice_index_or}
-use Rattle.std.specs.Prelude.{ℤ, pos, negsuc, ◌+ℤ◌, ◌-ℤ◌, ◌*ℤ◌}
+use Rattle.std.specs.Prelude.{ℤ, pos, negsuc, ◌+ℤ◌, ◌-ℤ◌, ◌*ℤ◌, ◌<ℤ◌, Some}
 use Rattle.std.specs.Int.{w32, int_wrap}
 use Rattle.mp_defs.specs.Series.{Series}
+use Rattle.mp_defs.specs.Distance.{distance}
 use Rattle.mp_sums.specs.declared.limits.Limit.{Limit}
 use Rattle.mp_sums.specs.declared.limits.Limit.TheVariants.{Every, Within, Below}
+use Rattle.mp_sums.specs.Limits.{IsBeyond}
 use Rattle.mp_sums.specs.Sums.{numbers_of, square_sum}
 use Rattle.mp_sums.specs.Rounding.{rounded, threshold}
 
@@ -36,6 +38,11 @@ abbrev pub residue_limit : ℕ → ℕ → Limit → ℤ
 residue_limit m shift Every = pos 2147483647
 residue_limit m shift (Within most) = limit_within m shift most.0
 residue_limit m shift (Below end) = limit_below m shift end.0
+
+-- two windows of m samples whose residue is above it lie beyond the limit
+pub record IsLimitOf (m shift : ℕ) (limit : Limit) (bound : ℤ) : Type 0 where
+  pub beyond : (a : Series) (i : ℕ) (b : Series) (j d : ℕ) → distance m a i b j ≡ Some d
+      → bound <ℤ rounded_residue m shift a i b j → IsBeyond limit d
 
 -- ---- steps
 

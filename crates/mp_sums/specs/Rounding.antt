@@ -1,6 +1,6 @@
 -- Numbers rounded down to multiples of a power of two, and how far sums of squared differences can grow by that.
 use Rattle.std.specs.Prelude.{ℕ, ◌+◌, ◌-◌, ◌*◌, ◌/◌, ◌^◌, ◌==◌, if◌then◌else◌, ℤ}
-use Rattle.std.specs.Int.{w128, int_shr, leading_zeros}
+use Rattle.std.specs.Int.{w64, int_shr, leading_zeros}
 
 -- the numbers in units of 2 ^ shift, rounded down
 abbrev pub rounded : ℕ → (ℕ → ℤ) → ℕ → ℤ
@@ -14,7 +14,7 @@ widened m w a = a + a / w + 1 + m + m * w
 
 -- half of the bits by which a is longer than m: as a power of two, about the weight that widens least
 abbrev pub weight : ℕ → ℕ → ℕ
-weight m a = (leading_zeros w128 m - leading_zeros w128 a) / 2
+weight m a = (leading_zeros w64 m - leading_zeros w64 a) / 2
 
 abbrev pub widened_least : ℕ → ℕ → ℕ
 widened_least m a = widened m (2 ^ weight m a) a

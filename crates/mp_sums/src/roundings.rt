@@ -7,7 +7,7 @@ ghost use Rattle.mp_sums.specs.declared.numbers.TheConstants.{NUMBER_BITS};
 use crate::limits::Limit;
 use crate::numbers::number_of;
 use crate::residues::{ALWAYS, NEVER};
-use mp_nums::Sample;
+use mp_nums::{Sample, Sq};
 
 /// How samples are rounded: in units of `2^shift`, down. Windows of `m` samples are compared.
 #[derive(Clone, Copy, Debug)]
@@ -31,7 +31,8 @@ impl Rounding {
     ghost use Rattle.mp_defs.specs.Series.{reading_of, series_of};
     ghost use Rattle.mp_sums.specs.Sums.{filled, numbers_of};
     ghost use Rattle.mp_sums.specs.Rounding.{rounded, weight, widened_least, threshold};
-    ghost use Rattle.mp_sums.specs.Residues.{limit_within, limit_below, residue_limit, AreNumbers};
+    ghost use Rattle.mp_sums.specs.Residues.{limit_within, limit_below, residue_limit, AreNumbers, IsLimitOf};
+    ghost use Rattle.mp_sums.specs.declared.limits.Limit.TheVariants.{Below};
 
     /// A sample, rounded. A missing one counts as 0.
     #[inline]
@@ -89,8 +90,7 @@ impl Rounding {
         ensures weight { result ≡ weight self.now.m units }
         ensures small { result ≤ 16 }
     {
-        let m = u128::from(self.m);
-        let units = u128::from(units);
+        let m = u64::from(self.m);
         m.leading_zeros().saturating_sub(units.leading_zeros()) / 2
     }
 
@@ -112,7 +112,7 @@ impl Rounding {
         ensures { result ≡ limit_within self.now.m self.now.shift dist }
     {
         let units = dist >> (2 * self.shift);
-        if units >= 4_294_967_294 {
+        if units >= 1 << 32 {
             ALWAYS
         } else {
             let threshold = self.threshold(units as u64).min(4_294_967_294);
@@ -129,6 +129,22 @@ impl Rounding {
             NEVER
         } else {
             self.limit_within(dist - 1)
+        }
+    }
+
+    /// A limit of residues for distances below one, from that for distances up to it. Where samples are rounded, a pair
+    /// at the distance itself may be within it too.
+    #[inline]
+    pub fn limit_before(&self, dist: Sq, within: i32) -> i32
+        requires { within ≡ limit_within self.now.m self.now.shift dist.0 }
+        ensures { IsLimitOf self.now.m self.now.shift (Below dist) result }
+    {
+        if dist.0 == 0 {
+            NEVER
+        } else if self.shift == 0 && within < ALWAYS {
+            within - 1
+        } else {
+            within
         }
     }
 

@@ -1,4 +1,4 @@
-pub mod CompactLemmas
+pub mod ColumnLemmas
 pub mod PairLemmas
 pub mod BlockLemmas
 pub mod ProfileLaws

@@ -1,18 +1,14 @@
 //! Slots in little room.
 
-ghost use Rattle.std.specs.Prelude.{◌≡◌, ℕ, ◌<◌, ◌≤◌, length, slice_index_or, IfOk, IfSome, None};
-ghost use Rattle.mp_sums.specs.Limits.{IsBeyond};
-ghost use Rattle.mp_scans.specs.Slots.{Covers};
-ghost use Rattle.mp_partial.specs.Values.{empty_column, merged_column, offered};
+ghost use Rattle.std.specs.Prelude.{◌≡◌, ◌<◌, length, slice_index_or, IfOk, IfSome, None};
+ghost use Rattle.mp_partial.specs.Values.{empty_column};
 
 use mp_nums::{Memory, Near, Slot, Sq};
-use mp_scans::limit_of;
-use mp_sums::Limit;
 use std::alloc::Global;
 use std::marker::Model;
 
 /// The start that stands for no window.
-const NO_START: u64 = u64::MAX;
+pub(crate) const NO_START: u64 = u64::MAX;
 
 /// By this a distance has an upper and a lower half.
 const HALF: u128 = 1 << 64;
@@ -38,11 +34,10 @@ impl Model for Compact {
 
 impl Compact {
     ghost use Rattle.std.specs.Prelude.{Some};
-    ghost use Rattle.mp_nums.specs.Near.{nearer_of};
 
     /// No window.
     #[inline]
-    fn none() -> Compact
+    pub(crate) fn none() -> Compact
         ensures { result ≡ None }
     {
         Compact {
@@ -54,7 +49,7 @@ impl Compact {
 
     /// A window.
     #[inline]
-    fn of(near: Near) -> Compact
+    pub(crate) fn of(near: Near) -> Compact
         requires { near.index < NO_START }
         ensures { result ≡ Some near }
     {
@@ -67,7 +62,7 @@ impl Compact {
 
     /// What stands there.
     #[inline]
-    fn slot(&self) -> Slot
+    pub(crate) fn slot(&self) -> Slot
         ensures slot { result ≡ self.now }
         ensures start { IfSome result (λ near. near.index < NO_START) }
     {
@@ -81,32 +76,6 @@ impl Compact {
             })
         }
     }
-
-    /// Keeps the nearer of what stands there and of a window.
-    #[inline]
-    fn offer(&mut self, near: Near)
-        requires { near.index < NO_START }
-        ensures { self.new ≡ nearer_of self.old (Some near) }
-    {
-        let is_nearer = match self.slot() {
-            Some(found) => near < found,
-            None => true,
-        };
-        if is_nearer {
-            *self = Compact::of(near);
-        }
-    }
-
-    /// Keeps the nearer of both.
-    #[inline]
-    fn merge(&mut self, other: Slot)
-        requires { IfSome other (λ near. near.index < NO_START) }
-        ensures { self.new ≡ nearer_of self.old other }
-    {
-        if let Some(near) = other {
-            self.offer(near);
-        }
-    }
 }
 
 /// So many places with no window.
@@ -118,47 +87,6 @@ pub(crate) fn no_windows(alloc: Global, size: u64) -> Result<Vec<Compact>, Memor
         slots.push(Compact::none())?;
     }
     Ok(slots)
-}
-
-/// Forgets what was found.
-pub(crate) fn clear(slots: &mut [Compact])
-    ensures { slots.new ≡ empty_column (length slots.old) }
-{
-    for slot in slots.iter_mut() {
-        *slot = Compact::none();
-    }
-}
-
-/// Keeps the nearer window at each place.
-pub(crate) fn merge(slots: &mut [Compact], others: &[Compact])
-    requires { length others.now ≡ length slots.old }
-    ensures { slots.new ≡ merged_column slots.old others.now }
-{
-    for i in 0..slots.len() {
-        slots[i].merge(slot_at(others, i));
-    }
-}
-
-/// Window `index` is found at this distance from the window at a place.
-#[inline]
-pub(crate) fn offer_at(slots: &mut [Compact], place: u64, index: u64, dist: Sq)
-    requires place { place < length slots.old }
-    requires index { index < NO_START }
-    ensures { slots.new ≡ offered slots.old place (record { dist = dist; index = index }) }
-{
-    slots[place as usize].offer(Near { dist, index });
-}
-
-/// The limit of what stands at a place, to windows from `first` on. Past the last place every distance passes.
-#[inline]
-pub(crate) fn limit_in(slots: &[Compact], place: u64, first: u64) -> Limit
-    ensures { (index dist : ℕ) → first ≤ index → IsBeyond result dist
-        → Covers (slice_index_or slots.now place None) index dist }
-{
-    match slots.get(place as usize) {
-        Some(slot) => limit_of(&slot.slot(), first),
-        None => Limit::Every,
-    }
 }
 
 /// What stands at a place.

@@ -92,6 +92,7 @@ impl<'a> Kernel for OwnTiles<'a> {
 
     fn run(&self, piece: u64, into: &mut Sides) {
         let _windows = into.len();
+        into.round_by(&self.plan.rounding);
         scan_tile::<OnBothSides>(&self.plan, &self.cut.tile(piece), into);
     }
 }

@@ -1,6 +1,7 @@
 //! Profiles along diagonals: each tile of a cut of the pairs of windows is scanned.
 #![tactic(auto)]
 
+mod columns;
 mod compact;
 mod joins;
 mod kernels;

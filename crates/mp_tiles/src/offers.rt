@@ -22,7 +22,7 @@ use crate::sides::Sides;
 use mp_nums::{Near, Slot, Sq, nearer};
 use mp_partial::{Patch, Profile};
 use mp_scans::Offers;
-use mp_sums::Limit;
+use mp_sums::{Limit, Rounding};
 
 /// Each of two windows of one series is offered to the other, on the side on which it starts.
 pub(crate) struct OnBothSides;
@@ -77,6 +77,16 @@ impl Offers for OnBothSides {
     #[inline]
     fn column_limit(into: &Sides, column: u64, first: u64) -> Limit {
         into.left_limit(column, first)
+    }
+
+    #[inline]
+    fn row_bound(into: &Sides, rounding: &Rounding, row: u64, first: u64) -> i32 {
+        into.right_bound(rounding, row, first)
+    }
+
+    #[inline]
+    fn column_bound(into: &Sides, rounding: &Rounding, column: u64, first: u64) -> i32 {
+        into.left_bound(rounding, column, first)
     }
 }
 

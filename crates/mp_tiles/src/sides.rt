@@ -2,23 +2,24 @@
 
 ghost use Rattle.std.specs.Prelude.{◌≡◌, ℕ, ◌<◌, ◌≤◌, [], ◌∷◌, length, slice_index_or, None};
 ghost use Rattle.mp_sums.specs.Limits.{IsBeyond};
+ghost use Rattle.mp_scans.specs.Offering.{TellsNothing};
 ghost use Rattle.mp_scans.specs.Slots.{Covers};
 ghost use Rattle.mp_partial.specs.Values.{HasColumns, empty_columns, merged_column, merged_columns, offered};
 ghost use Rattle.mp_partial.specs.MergeLaws.{columns_merge};
 
-use crate::compact::{Compact, clear, limit_in, merge, no_windows, offer_at, slot_at};
-use mp_nums::{Memory, Sq};
+use crate::columns::Column;
+use mp_nums::{Memory, Near, Sq};
 use mp_partial::{Part, Profile};
-use mp_sums::Limit;
+use mp_sums::{Limit, Rounding};
 use std::alloc::Global;
 use std::marker::Model;
 
 /// For each window, by its start, the nearest of the windows that start earlier, and the nearest of those that start
-/// later. A window takes 48 bytes.
+/// later. A window takes 56 bytes.
 #[derive(Debug, Drop)]
 pub struct Sides {
-    left: Vec<Compact>,
-    right: Vec<Compact>,
+    left: Column,
+    right: Column,
 }
 
 impl Model for Sides {
@@ -27,9 +28,9 @@ impl Model for Sides {
 
     ghost Value = { Sided };
 
-    ghost view = { λ sides. record { left = sides.left.items; right = sides.right.items } };
+    ghost view = { λ sides. record { left = sides.left; right = sides.right } };
 
-    ghost invariant = { λ sides. length sides.right.items ≡ length sides.left.items };
+    ghost invariant = { λ sides. length sides.right ≡ length sides.left };
 }
 
 impl Sides {
@@ -48,7 +49,7 @@ impl Sides {
         ensures { (index dist : ℕ) → first ≤ index → IsBeyond result dist
             → Covers (slice_index_or self.now.right window None) index dist }
     {
-        limit_in(self.right.as_slice(), window, first)
+        self.right.limit(window, first)
     }
 
     /// Which distances of the windows that start at `first` or later may still give a window a nearer one that starts
@@ -58,7 +59,34 @@ impl Sides {
         ensures { (index dist : ℕ) → first ≤ index → IsBeyond result dist
             → Covers (slice_index_or self.now.left window None) index dist }
     {
-        limit_in(self.left.as_slice(), window, first)
+        self.left.limit(window, first)
+    }
+
+    /// Has bounds of residues be those of samples rounded so.
+    pub(crate) fn round_by(&mut self, rounding: &Rounding)
+        ensures { self.new ≡ self.old }
+    {
+        self.left.round_by(rounding);
+        self.right.round_by(rounding);
+    }
+
+    /// A residue of pairs by a rounding, such that windows from `first` on with a greater one give a window no nearer one
+    /// that starts later.
+    #[inline]
+    pub(crate) fn right_bound(&self, rounding: &Rounding, window: u64, first: u64) -> i32
+        ensures { TellsNothing rounding.now.m rounding.now.shift first (Covers (slice_index_or self.now.right window None))
+            result }
+    {
+        self.right.bound(rounding, window, first)
+    }
+
+    /// The same of one that starts earlier.
+    #[inline]
+    pub(crate) fn left_bound(&self, rounding: &Rounding, window: u64, first: u64) -> i32
+        ensures { TellsNothing rounding.now.m rounding.now.shift first (Covers (slice_index_or self.now.left window None))
+            result }
+    {
+        self.left.bound(rounding, window, first)
     }
 
     /// Windows `i` and `j`, which starts later, have this distance.
@@ -69,8 +97,9 @@ impl Sides {
         ensures left { self.new.left ≡ offered self.old.left j (record { dist = dist; index = i }) }
         ensures right { self.new.right ≡ offered self.old.right i (record { dist = dist; index = j }) }
     {
-        offer_at(self.left.as_mut_slice(), j, i, dist);
-        offer_at(self.right.as_mut_slice(), i, j, dist);
+        let _few = (self.left.len(), self.right.len());
+        self.left.offer(j as usize, Near { dist, index: i });
+        self.right.offer(i as usize, Near { dist, index: j });
     }
 
     /// The profile of what was found, in the room of a profile of no windows. It takes no memory.
@@ -83,10 +112,10 @@ impl Sides {
         ensures right { result.right ≡ self.now.right }
         ensures all { result.all ≡ merged_column self.now.left self.now.right }
     {
-        let (left, right) = (self.left.as_slice(), self.right.as_slice());
+        let (left, right) = (&self.left, &self.right);
         let mut profile = room;
         for k in 0..left.len() {
-            profile.push(slot_at(left, k), slot_at(right, k));
+            profile.push(left.slot(k), right.slot(k));
         }
         profile
     }
@@ -107,8 +136,8 @@ impl Part for Sides {
 
     fn unit(alloc: Global, size: u64) -> Result<Self, Memory> {
         Ok(Sides {
-            left: no_windows(alloc, size)?,
-            right: no_windows(alloc, size)?,
+            left: Column::unit(alloc, size)?,
+            right: Column::unit(alloc, size)?,
         })
     }
 
@@ -117,12 +146,12 @@ impl Part for Sides {
     }
 
     fn clear(&mut self) {
-        clear(self.left.as_mut_slice());
-        clear(self.right.as_mut_slice());
+        self.left.clear();
+        self.right.clear();
     }
 
     fn merge(&mut self, other: &Self) {
-        merge(self.left.as_mut_slice(), other.left.as_slice());
-        merge(self.right.as_mut_slice(), other.right.as_slice());
+        self.left.merge(&other.left);
+        self.right.merge(&other.right);
     }
 }

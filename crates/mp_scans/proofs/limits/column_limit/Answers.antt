@@ -5,10 +5,9 @@ use Rattle.mp_scans.proofs.limits.column_limit.Goals as goal
 
 pub returns-then-is_column_free : goal.returns-then-is_column_free
 returns-then-is_column_free g c =
-    let fits : FitsSigned w32 c.residue_limit.result = search rules in
+    let fits : FitsSigned w32 c.column_bound.result = search rules in
     is_column_limit c.args.block.now (g.O.Offers.keeps_column c.args.into.now) c.args.first c.args.c
-    c.column_limit-limit.result _
-    (to_z-of_z w32 c.residue_limit.result fits ∙ c.residue_limit.ensures) c.column_limit-limit.ensures
+    c.column_bound.result _ (to_z-of_z w32 c.column_bound.result fits) c.column_bound.ensures
 
 pub returns-else-is_column_free : goal.returns-else-is_column_free
 returns-else-is_column_free g c =

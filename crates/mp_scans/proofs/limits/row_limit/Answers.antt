@@ -5,11 +5,10 @@ use Rattle.mp_scans.proofs.limits.row_limit.Goals as goal
 
 pub returns-then-is_row_free : goal.returns-then-is_row_free
 returns-then-is_row_free g c =
-    let fits : FitsSigned w32 c.residue_limit.result = search rules in
+    let fits : FitsSigned w32 c.row_bound.result = search rules in
     is_row_limit c.args.block.now (g.O.Offers.keeps_row c.args.into.now) c.args.p c.args.p
-    (c.args.block.now.column + c.args.p) c.row_limit-limit.result _
-    (to_z-of_z w32 c.residue_limit.result fits ∙ c.residue_limit.ensures)
-    (omega arith) c.row_limit-limit.ensures
+    (c.args.block.now.column + c.args.p) c.row_bound.result _ (to_z-of_z w32 c.row_bound.result fits) (omega arith)
+    c.row_bound.ensures
 
 pub returns-else-is_row_free : goal.returns-else-is_row_free
 returns-else-is_row_free g c =

@@ -8,6 +8,7 @@ use Rattle.mp_cuts.specs.Pairs.{has_pair, no_tile}
 use Rattle.mp_tiles.specs.Plans.{row_series}
 use Rattle.mp_tiles.specs.Among.{profile_among}
 use Rattle.mp_tiles.specs.Sides.{Sided, HaveSides}
+use Rattle.mp_tiles.specs.Scanning.{AreSided}
 use Rattle.mp_tiles.specs.OfferingLaws.{sides_stay}
 use Rattle.mp_tiles.specs.Pieces.{OwnTiling, sides_value, own_value, own_size, two_columns}
 use Rattle.mp_tiles.proofs.kernels.OwnTilesKernel.run.Goals as goal
@@ -17,14 +18,21 @@ sides_taken : (old new : Sided) (p q : Columns) → new.left ≡ merged_column o
     → ◌≡◌ {A = Value} (new.left ∷ new.right ∷ []) (merged_columns (old.left ∷ old.right ∷ []) (sides_value q))
 sides_taken old new p q e f g = cc
 
+scanned : (c : goal.After-scan_tile)
+    → AreSided (has_pair 0 c.tile.result) c.self.inside.plan.grid.m (row_series c.self.inside.plan) c.args.into.now
+    c.scan_tile.new.into
+scanned c =
+    let plan = c.self.inside.plan in
+    subst (λ (s : Sided). AreSided (has_pair 0 c.tile.result) plan.grid.m (row_series plan) s c.scan_tile.new.into)
+    c.round_by.ensures c.scan_tile.ensures.scanned
+
 pub returns-clause-value : goal.returns-clause-value
 returns-clause-value c =
     let plan = c.self.inside.plan in
     let tile : Tile = get_or c.self.inside.cut c.args.piece no_tile in
     subst (λ (o : OwnTiling). ◌≡◌ {A = Value} (c.scan_tile.new.into.left ∷ c.scan_tile.new.into.right ∷ [])
     (merged_columns (c.args.into.now.left ∷ c.args.into.now.right ∷ []) (own_value o c.args.piece))) c.self.view_is
-    (sides_taken c.args.into.now c.scan_tile.new.into _ _ c.scan_tile.ensures.scanned.left
-    c.scan_tile.ensures.scanned.right
+    (sides_taken c.args.into.now c.scan_tile.new.into _ _ (scanned c).left (scanned c).right
     (ap (λ (t : Tile). profile_among (has_pair 0 t) plan.grid.m (row_series plan))
     (sym (get_or_from_slice_get c.self.inside.cut c.args.piece c.tile.result no_tile c.tile.ensures))))
 
@@ -42,7 +50,7 @@ stay : (c : goal.After-scan_tile)
 stay c =
     let plan = c.self.inside.plan in
     sides_stay (has_pair 0 c.tile.result) plan.grid.m (row_series plan) c.args.into.now c.scan_tile.new.into (places c)
-    c.scan_tile.ensures.scanned
+    (scanned c)
 
 pub returns-clause-size : goal.returns-clause-size
 returns-clause-size c = (stay c).left ∙ sym (places c).left

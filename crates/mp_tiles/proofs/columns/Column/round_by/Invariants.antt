@@ -1,0 +1,9 @@
+use Rattle.std.proofs.Common.{◌≡◌}
+use Rattle.mp_tiles.proofs.ColumnLemmas.{AreBoundsBelow}
+use Rattle.mp_tiles.proofs.columns.Column.round_by.Given as goal
+
+abbrev pub invariant-loop-k : goal.invariant-loop-k
+invariant-loop-k l = record {
+  slots : l.self-inside.slots.items ≡ l.fn.self;
+  bounds : AreBoundsBelow l.k l.rounding.m l.rounding.shift l.self-inside.slots.items l.self-inside.bounds.items;
+}

@@ -1,6 +1,0 @@
-use Rattle.std.proofs.Common.{◌≡◌, replicate, take}
-use Rattle.std.specs.Prelude.{None}
-use Rattle.mp_tiles.proofs.compact.clear.Given as goal
-
-abbrev pub invariant-loop-slot : goal.invariant-loop-slot
-invariant-loop-slot l = take l.slot-index l.slots ≡ replicate l.slot-index None

@@ -1,0 +1,216 @@
+//! The nearest windows on one side, and what residues tell of them.
+
+ghost use Rattle.std.specs.Prelude.{◌≡◌, ℕ, ◌<◌, ◌≤◌, length, slice_index_or, IfOk, None};
+ghost use Rattle.mp_sums.specs.Limits.{IsBeyond};
+ghost use Rattle.mp_scans.specs.Offering.{TellsNothing};
+ghost use Rattle.mp_scans.specs.Slots.{Covers};
+ghost use Rattle.mp_partial.specs.Values.{empty_column, merged_column, offered};
+ghost use Rattle.mp_tiles.specs.Compact.{slot_bound};
+ghost use Rattle.mp_tiles.specs.Scanning.{taken};
+ghost use Rattle.mp_tiles.specs.declared.compact.TheConstants.{NO_START};
+
+use crate::compact::{Compact, no_windows, slot_at};
+use mp_nums::{Memory, Near, Slot, nearer};
+use mp_scans::limit_of;
+use mp_sums::{ALWAYS, Limit, Rounding, ZERO};
+use std::alloc::Global;
+use std::marker::Model;
+
+/// For each window the nearest one that was found, or none.
+#[derive(Debug, Drop)]
+pub(crate) struct Column {
+    slots: Vec<Compact>,
+    /// For each the greatest residue of windows as near as the one that was found. The scan asks for it at every block, and
+    /// it changes seldom.
+    bounds: Vec<i32>,
+    /// How samples are rounded of which these are residues.
+    rounding: Rounding,
+}
+
+impl Model for Column {
+    ghost use Rattle.std.specs.Prelude.{List, Option};
+    ghost use Rattle.mp_nums.specs.declared.nearest.Near.{Near};
+    ghost use Rattle.mp_tiles.specs.Compact.{AreBounds};
+
+    ghost Value = { List (Option Near) };
+
+    ghost view = { λ column. column.slots.items };
+
+    ghost invariant = { λ column.
+        AreBounds column.rounding.m column.rounding.shift column.slots.items column.bounds.items };
+}
+
+/// The greatest residue of windows as near as what stands in a slot.
+#[inline]
+fn bound_of(rounding: &Rounding, slot: Slot) -> i32
+    ensures { result ≡ slot_bound rounding.now.m rounding.now.shift slot }
+{
+    match slot {
+        Some(near) => rounding.residue_limit(Limit::Within(near.dist)),
+        None => ALWAYS,
+    }
+}
+
+/// The same for windows from `first` on that are nearer than it, from that for those as near.
+#[inline]
+fn bound_from(rounding: &Rounding, slot: Slot, within: i32, first: u64) -> i32
+    requires { within ≡ slot_bound rounding.now.m rounding.now.shift slot }
+    ensures { TellsNothing rounding.now.m rounding.now.shift first (Covers slot) result }
+{
+    match slot {
+        Some(near) if near.index <= first => rounding.limit_before(near.dist, within),
+        _ => within,
+    }
+}
+
+/// Whether a residue tells at once that windows don't lie at distance 0. Then equal distances are few, and what was found
+/// need not be looked at.
+#[inline]
+fn is_apart(rounding: &Rounding, within: i32) -> bool {
+    i64::from(within) > i64::from(ZERO) + 2 * i64::from(rounding.m) + 1
+}
+
+impl Column {
+    ghost use Rattle.std.specs.Prelude.{slice_set, IfSome, Some};
+    ghost use Rattle.mp_nums.specs.Near.{nearer_of};
+
+    /// So many windows for which none was found.
+    pub(crate) fn unit(alloc: Global, size: u64) -> Result<Column, Memory>
+        ensures { IfOk result (λ column. column ≡ empty_column size) }
+    {
+        let slots = no_windows(alloc, size)?;
+        let bounds = vec![in alloc; ALWAYS; size as usize]?;
+        Ok(Column {
+            slots,
+            bounds,
+            rounding: Rounding { m: 1, shift: 0 },
+        })
+    }
+
+    /// The number of windows.
+    #[inline]
+    pub(crate) fn len(&self) -> usize
+        ensures len { result ≡ length self.now }
+        ensures few { length self.now < NO_START }
+    {
+        self.slots.len()
+    }
+
+    /// What was found for a window.
+    #[inline]
+    pub(crate) fn slot(&self, place: usize) -> Slot
+        requires { place < length self.now }
+        ensures slot { result ≡ slice_index_or self.now place None }
+        ensures start { IfSome result (λ near. near.index < NO_START) }
+    {
+        slot_at(self.slots.as_slice(), place)
+    }
+
+    /// Has residues be those of samples rounded so.
+    pub(crate) fn round_by(&mut self, rounding: &Rounding)
+        ensures { self.new ≡ self.old }
+    {
+        if self.rounding.m == rounding.m && self.rounding.shift == rounding.shift {
+            return;
+        }
+        for k in 0..self.slots.len() {
+            let bound = bound_of(rounding, slot_at(self.slots.as_slice(), k));
+            self.bounds.as_mut_slice()[k] = bound;
+        }
+        self.rounding = *rounding;
+    }
+
+    /// Puts a slot at a place.
+    #[inline]
+    fn set(&mut self, place: usize, slot: Compact)
+        requires { place < length self.old }
+        ensures { self.new ≡ slice_set self.old place slot }
+    {
+        let bound = bound_of(&self.rounding, slot.slot());
+        self.bounds.as_mut_slice()[place] = bound;
+        self.slots.as_mut_slice()[place] = slot;
+    }
+
+    /// A window is found for the one at a place.
+    #[inline]
+    pub(crate) fn offer(&mut self, place: usize, near: Near)
+        requires place { place < length self.old }
+        requires start { near.index < NO_START }
+        ensures { self.new ≡ offered self.old place near }
+    {
+        let is_nearer = match self.slot(place) {
+            Some(found) => near < found,
+            None => true,
+        };
+        if is_nearer {
+            self.set(place, Compact::of(near));
+        }
+    }
+
+    /// Forgets what was found.
+    pub(crate) fn clear(&mut self)
+        ensures { self.new ≡ empty_column (length self.old) }
+    {
+        for k in 0..self.len() {
+            self.set(k, Compact::none());
+        }
+    }
+
+    /// Takes what a slot has, if it is nearer.
+    fn take(&mut self, place: usize, found: Slot)
+        requires place { place < length self.old }
+        requires start { IfSome found (λ near. near.index < NO_START) }
+        ensures { self.new ≡ taken self.old place found }
+    {
+        if let Some(near) = found {
+            self.offer(place, near);
+        }
+    }
+
+    /// Keeps the nearer window at each place.
+    pub(crate) fn merge(&mut self, other: &Column)
+        requires { length other.now ≡ length self.old }
+        ensures column { self.new ≡ merged_column self.old other.now }
+        ensures places { length self.new ≡ length self.old }
+    {
+        for k in 0..self.len() {
+            self.take(k, other.slot(k));
+        }
+    }
+
+    /// The limit of what was found for a window, to windows from `first` on. Past the last place every distance passes.
+    #[inline]
+    pub(crate) fn limit(&self, place: u64, first: u64) -> Limit
+        ensures { (index dist : ℕ) → first ≤ index → IsBeyond result dist
+            → Covers (slice_index_or self.now place None) index dist }
+    {
+        let place = place as usize;
+        if place < self.len() {
+            limit_of(&self.slot(place), first)
+        } else {
+            Limit::Every
+        }
+    }
+
+    /// A residue of pairs by a rounding, such that windows from `first` on with a greater one give a window nothing.
+    #[inline]
+    pub(crate) fn bound(&self, rounding: &Rounding, place: u64, first: u64) -> i32
+        ensures { TellsNothing rounding.now.m rounding.now.shift first (Covers (slice_index_or self.now place None))
+            result }
+    {
+        let at = place as usize;
+        if at < self.slots.len()
+            && self.rounding.m == rounding.m
+            && self.rounding.shift == rounding.shift
+        {
+            let within = self.bounds.as_slice()[at];
+            if is_apart(rounding, within) {
+                within
+            } else {
+                bound_from(rounding, slot_at(self.slots.as_slice(), at), within, first)
+            }
+        } else {
+            rounding.residue_limit(self.limit(place, first))
+        }
+    }
+}
