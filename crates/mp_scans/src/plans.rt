@@ -16,6 +16,8 @@ pub struct Plan<'a> {
     pub rounding: Rounding,
     /// Whether a residue tells the distance of its row and its column. Else that is computed from their samples.
     pub is_exact: bool,
+    /// Whether the columns are windows of the rows' own series. Near ones are much alike then, and bring limits down first.
+    pub is_own: bool,
     pub ghost some_samples: { 1 ≤ grid.m },
     pub ghost same_length: { rounding.m ≡ grid.m },
     pub ghost few_rows: { length grid.rows.now ≤ MAX_SAMPLES },
@@ -34,8 +36,18 @@ fn are_distances(grid: &Grid, shift: u32) -> bool
     shift == 0 && grid.distances_fit(RESIDUE_BITS)
 }
 
+/// A rounding of two series at which few pairs pass.
+fn rounding_for(grid: &Grid) -> Rounding
+    ensures { result.m ≡ grid.now.m }
+{
+    Rounding {
+        m: grid.m as u32,
+        shift: shift_for(grid),
+    }
+}
+
 impl<'a> Plan<'a> {
-    /// The plan for two series, by a rounding at which few pairs pass.
+    /// The plan for a series with itself, by a rounding at which few pairs pass.
     pub fn of(grid: Grid<'a>) -> Plan<'a>
         requires some_samples { 1 ≤ grid.m }
         requires few_rows { length grid.rows.now ≤ MAX_SAMPLES }
@@ -43,15 +55,22 @@ impl<'a> Plan<'a> {
         ensures grid { result.grid ≡ grid.entry }
         ensures exact { MayBeDistances grid.entry result.rounding.shift → result.is_exact ≡ true }
     {
-        let rounding = Rounding {
-            m: grid.m as u32,
-            shift: shift_for(&grid),
-        };
-        Plan::by(grid, rounding)
+        Plan::by(grid, rounding_for(&grid), true)
     }
 
-    /// The plan for two series, by this rounding.
-    pub fn by(grid: Grid<'a>, rounding: Rounding) -> Plan<'a>
+    /// The same for two series.
+    pub fn between(grid: Grid<'a>) -> Plan<'a>
+        requires some_samples { 1 ≤ grid.m }
+        requires few_rows { length grid.rows.now ≤ MAX_SAMPLES }
+        requires few_columns { length grid.columns.now ≤ MAX_SAMPLES }
+        ensures grid { result.grid ≡ grid.entry }
+        ensures exact { MayBeDistances grid.entry result.rounding.shift → result.is_exact ≡ true }
+    {
+        Plan::by(grid, rounding_for(&grid), false)
+    }
+
+    /// The plan by this rounding.
+    pub fn by(grid: Grid<'a>, rounding: Rounding, is_own: bool) -> Plan<'a>
         requires some_samples { 1 ≤ grid.m }
         requires same_length { rounding.m ≡ grid.m }
         requires few_rows { length grid.rows.now ≤ MAX_SAMPLES }
@@ -65,6 +84,7 @@ impl<'a> Plan<'a> {
             grid,
             rounding,
             is_exact,
+            is_own,
         }
     }
 }

@@ -11,18 +11,23 @@ use crate::offers::Offers;
 use crate::plans::{Plan, count_columns};
 use crate::sizes::GROUP;
 
-/// How many diagonals are scanned together first. On these most pairs are offered where a series is smooth, since each
-/// row is nearer to its column than those before it.
+/// How many diagonals of a series with itself are scanned together first. On these most pairs are offered where it is
+/// smooth, since each row is nearer to its column than those before it.
 const NEAREST: usize = 8;
 
-/// How many diagonals are scanned together from one on, as many as lie before it. Near ones often have the nearest
-/// windows, so they bring limits down first; and on the same diagonals only the first tie is offered to a column.
+/// How many diagonals are scanned together from one on. Of a series with itself these are as many as lie before it. Near
+/// ones often have the nearest windows, so they bring limits down first; and on the same diagonals only the first tie is
+/// offered to a column.
 #[inline]
-fn next_width(start: usize) -> usize
+fn next_width(plan: &Plan, start: usize) -> usize
     ensures some { 1 ≤ result }
     ensures few { result ≤ GROUP }
 {
-    start.max(NEAREST).min(GROUP)
+    if plan.is_own {
+        start.max(NEAREST).min(GROUP)
+    } else {
+        GROUP
+    }
 }
 
 /// Offers the pairs of the rows from `top` on and before `bottom` and the columns that start from `first` on and before
@@ -48,7 +53,7 @@ pub fn scan<O: Offers>(
     let stop = end.min(columns);
     let mut start = first;
     while start < stop {
-        let width = (stop - start).min(next_width(start));
+        let width = (stop - start).min(next_width(plan, start));
         let group = Group {
             plan: *plan,
             first: start,

@@ -61,7 +61,7 @@ impl<'a> JoinTiles<'a> {
         ensures together { join_together result ≡ ab_join m (series_of a.now) (series_of b.now) ∷ [] }
     {
         let (first, second) = (windows(a.len() as u64, m), windows(b.len() as u64, m));
-        let plan = Plan::of(Grid {
+        let plan = Plan::between(Grid {
             rows: a,
             columns: b,
             m: m as usize,

@@ -20,6 +20,7 @@ pub(crate) fn transposed<'a>(plan: &Plan<'a>) -> Plan<'a>
         },
         rounding: plan.rounding,
         is_exact: plan.is_exact,
+        is_own: plan.is_own,
     }
 }
 
@@ -39,5 +40,6 @@ pub(crate) fn rows_between<'a>(plan: &Plan<'a>, top: usize, bottom: usize) -> Pl
         },
         rounding: plan.rounding,
         is_exact: plan.is_exact,
+        is_own: plan.is_own,
     }
 }

@@ -181,7 +181,7 @@ pub fn scan_both(a: &[Sample], b: &[Sample], m: u32, tile: &Tile, into: &mut Slo
     ensures places { length into.new.items ≡ length into.old.items }
     ensures spare { into.new.spare ≡ into.old.spare }
 {
-    let plan = Plan::of(Grid {
+    let plan = Plan::between(Grid {
         rows: a,
         columns: b,
         m: m as usize,

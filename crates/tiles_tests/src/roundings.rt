@@ -42,7 +42,7 @@ fn find(
     let mut found = nothing(alloc, rows, columns, rounding.m)?;
     let m = rounding.m as usize;
     let grid = Grid { rows, columns, m };
-    let plan = Plan::by(grid, rounding);
+    let plan = Plan::by(grid, rounding, first % 2 == 1);
     let bottom = windows(rows.len() as u64, rounding.m) as usize;
     scan::<EachFound>(&plan, first, 200, 0, bottom, &mut found);
     Ok(found)

@@ -12,6 +12,6 @@ returns-clause-items c =
     let tile = c.args.tile.now in
     subst (λ (g : Grid). c.scan_join.new.into.items ≡ merged_column old
     (nearest_column (has_pair (length old - 1) tile) g.m (series_of g.rows.now) (series_of g.columns.now)))
-    c.of-plan.ensures.grid c.scan_join.ensures.taken
+    c.between-plan.ensures.grid c.scan_join.ensures.taken
     ∙ ap (λ w. merged_column old (nearest_column (has_pair (w - 1) tile) c.args.m (series_of c.args.a.now)
     (series_of c.args.b.now))) c.requires.places

@@ -20,7 +20,7 @@ returns-clause-together c =
     let first = series_are_of_samples.windows_are m c.args.a.now in
     let second = series_are_of_samples.windows_are m c.args.b.now in
     subst (λ (g : Grid). join_together (record { a = g.rows.now; b = g.columns.now; m = g.m; tiles = tiles })
-    ≡ ab_join m a b ∷ []) (sym c.of-plan.ensures.grid)
+    ≡ ab_join m a b ∷ []) (sym c.between-plan.ensures.grid)
     (ap (λ w. merged_below merged_columns (empty_columns 1 w)
     (λ k. nearest_column (has_pair (w - 1) (get_or tiles k no_tile)) m a b ∷ []) (length tiles)) (sym first)
     ∙ ap (join_tiles_value m a b)
