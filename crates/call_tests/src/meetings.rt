@@ -3,8 +3,9 @@
 use mp_consensus::consensus;
 use mp_nums::Sample;
 use mp_nums::Sample::Value;
-use mp_outside::MeetGate;
+use mp_outside::{Gate, MeetGate};
 use mp_series::{Bundle, MAX_SAMPLES};
+use mp_tiles::profile;
 use mp_workers::{ab_join, self_join};
 use std::alloc::{AllocError, Global};
 use std::test::Fail;
@@ -26,6 +27,36 @@ fn two_workers_of_a_profile_meet(rt: HostRuntime) -> Result<(), Fail> {
     let found = self_join(&rt, rt.alloc(), samples.as_slice(), 8, 64, 2, &gate)?;
     assert!(rt; gate.met());
     assert_eq!(rt; found.len(), 1_993);
+    Ok(())
+}
+
+/// Lets the pieces of a profile's near windows pass, of which two workers have one each, and is a meeting from then on.
+#[derive(Drop)]
+struct LateGate {
+    meeting: MeetGate,
+}
+
+impl Gate for LateGate {
+    fn pass(&self, worker: u32, piece: u64) {
+        if piece >= 2 {
+            self.meeting.pass(worker, piece);
+        }
+    }
+}
+
+#[test]
+fn two_workers_of_a_profile_meet_behind_its_near_windows(rt: HostRuntime) -> Result<(), Fail> {
+    let samples = long(rt.alloc())?;
+    assert!(rt; samples.len() as u64 <= MAX_SAMPLES);
+    let gate = LateGate {
+        meeting: MeetGate::new(),
+    };
+    let found = self_join(&rt, rt.alloc(), samples.as_slice(), 8, 64, 2, &gate)?;
+    assert!(rt; gate.meeting.met());
+    let expected = profile(rt.alloc(), samples.as_slice(), 8, 64)?;
+    assert!(rt; found.all() == expected.all());
+    assert!(rt; found.left() == expected.left());
+    assert!(rt; found.right() == expected.right());
     Ok(())
 }
 

@@ -6,3 +6,4 @@ pub mod JoinLaws
 pub mod SideLemmas
 pub mod RowLemmas
 pub mod PlanLemmas
+pub mod NearLemmas

@@ -8,7 +8,7 @@ use Rattle.std.proofs.lemmas.Bool.Decides.{nat_tests}
 use Rattle.mp_nums.specs.declared.nearest.Near.{Near}
 use Rattle.mp_defs.specs.Series.{Series}
 use Rattle.mp_defs.specs.Window.{excl, is_allowed}
-use Rattle.mp_defs.specs.Profile.{profile, windows_of}
+use Rattle.mp_defs.specs.Profile.{profile, matrix_profile, windows_of}
 use Rattle.mp_defs.specs.Laws.{IsIrreflexive, IsSymmetric}
 use Rattle.mp_defs.specs.ColumnLaws.{columns_by_choice}
 use Rattle.mp_defs.specs.NearestLaws.{zone_is_mutual}
@@ -89,19 +89,32 @@ tiles_together tile m a (k ∷ ks) =
 one_side : (t u : Bool) (i j : ℕ) → t ≡ u → (i ≡ j → t ≡ false) → ((nat_lt i j && t) || (nat_lt j i && u)) ≡ t
 one_side t u i j e h = grind (arith, nat_tests)
 
+-- so are the values of tiles by their numbers
+pub among_tiles : (m : ℕ) (a : Series) (tiles : List Tile)
+    → tiles_value m a tiles ≡ columns_value (profile_among (some_has 0 tiles) m a)
+among_tiles m a tiles =
+    tiles_together (λ k. get_or tiles k no_tile) m a (range_with_len 0 (length tiles))
+    ∙ ap (λ ts. columns_value (profile_among (some_has 0 ts) m a)) (tiles_by_number tiles)
+
 any_tiles : (may : ℕ → ℕ → Bool) → IsIrreflexive may → IsSymmetric may → (m : ℕ) (a : Series) (tiles : List Tile)
     → HoldEachOnce may (windows_of m a) tiles → tiles_value m a tiles ≡ columns_value (profile may m a)
 any_tiles may irreflexive symmetric m a tiles once =
-    let tile : ℕ → Tile = λ k. get_or tiles k no_tile in
     let has = λ (i j : ℕ) (lt : j < windows_of m a). once_or_not (nat_lt i j && may i j)
     (count_by (λ t. has_pair 0 t i j) tiles) (once i j lt) in
-    tiles_together tile m a (range_with_len 0 (length tiles))
-    ∙ ap (λ ts. columns_value (profile_among (some_has 0 ts) m a))
-    (tiles_by_number tiles)
+    among_tiles m a tiles
     ∙ value_same (either_way (some_has 0 tiles)) may m a
     (λ i j lt lt'.
     ap (λ p. p || some_has 0 tiles j i) (has i j lt') ∙ ap (λ p. (nat_lt i j && may i j) || p) (has j i lt)
     ∙ one_side (may i j) (may j i) i j (symmetric i j) (λ e. subst (λ (k : ℕ). may i k ≡ false) e (irreflexive i)))
+
+-- pairs that may be compared add nothing to the matrix profile
+pub among_within : (pairs : ℕ → ℕ → Bool) (m : ℕ) (a : Series)
+    → ((i j : ℕ) → (either_way pairs i j || is_allowed m i j) ≡ is_allowed m i j)
+    → merged_columns (columns_value (profile_among pairs m a)) (columns_value (matrix_profile m a))
+    ≡ columns_value (matrix_profile m a)
+among_within pairs m a may =
+    sym (value_either (either_way pairs) (is_allowed m) m a)
+    ∙ value_same (λ i j. either_way pairs i j || is_allowed m i j) (is_allowed m) m a (λ i j _ _. may i j)
 
 -- ---- the cut outside the exclusion zone
 

@@ -1,7 +1,7 @@
 -- What tiles give both sides of the profile.
 use Rattle.std.proofs.Common.{◌≡◌, ℕ, List, [], ◌∷◌, length, get_or, refl, ap, sym, ◌∙◌}
 use Rattle.std.specs.List.{range_with_len}
-use Rattle.mp_defs.specs.Series.{Series}
+use Rattle.mp_defs.specs.Series.{Series, series_of}
 use Rattle.mp_defs.specs.Profile.{Columns, windows_of}
 use Rattle.mp_partial.specs.Values.{Column, Value, merged_column, merged_columns, empty_column, empty_columns}
 use Rattle.mp_partial.specs.Values.{merged_over, merged_below}
@@ -9,7 +9,8 @@ use Rattle.mp_cuts.specs.declared.cuts.Tile.{Tile}
 use Rattle.mp_cuts.specs.Pairs.{has_pair, no_tile}
 use Rattle.mp_tiles.specs.Among.{profile_among, columns_value}
 use Rattle.mp_tiles.specs.Laws.{tiles_value}
-use Rattle.mp_tiles.specs.Pieces.{sides_value}
+use Rattle.mp_tiles.specs.Sides.{Sided}
+use Rattle.mp_tiles.specs.Pieces.{OwnTiling, own_value, sides_value}
 
 -- ---- columns behind a first one
 
@@ -26,7 +27,7 @@ behind_first none unit first value [] = refl
 behind_first none unit first value (k ∷ ks) =
     ap (merged_columns (first k ∷ value k)) (behind_first none unit first value ks)
 
-same_behind : (x y : Column) (xs ys : Value) → x ∷ xs ≡ y ∷ ys → xs ≡ ys
+pub same_behind : (x y : Column) (xs ys : Value) → x ∷ xs ≡ y ∷ ys → xs ≡ ys
 same_behind x y xs ys e = cc
 
 -- what tiles make of all three columns they make of both sides
@@ -39,3 +40,17 @@ sides_together m a tiles c e =
     (sym (behind_first (empty_column (windows_of m a)) (empty_columns 2 (windows_of m a)) (λ k. (part k).all)
     (λ k. sides_value (part k)) (range_with_len 0 (length tiles)))
     ∙ e)
+
+-- ---- a piece
+
+-- what the tile of a number gives is the value of that piece
+pub piece_taken : (own seen : OwnTiling) (k : ℕ) (tile : Tile) (old new : Sided) → own ≡ seen
+    → get_or own.tiles k no_tile ≡ tile
+    → ◌≡◌ {A = Value} (new.left ∷ new.right ∷ []) (merged_columns (old.left ∷ old.right ∷ [])
+    (sides_value (profile_among (has_pair 0 tile) own.m (series_of own.samples))))
+    → ◌≡◌ {A = Value} (new.left ∷ new.right ∷ []) (merged_columns (old.left ∷ old.right ∷ []) (own_value seen k))
+piece_taken own seen k tile old new same is taken =
+    let found : Value = old.left ∷ old.right ∷ [] in
+    taken
+    ∙ ap (λ t. merged_columns found (sides_value (profile_among (has_pair 0 t) own.m (series_of own.samples)))) (sym is)
+    ∙ ap (λ o. merged_columns found (own_value o k)) same

@@ -9,5 +9,6 @@ pub mod LimitLaws
 pub mod Laws
 pub mod SideLaws
 pub mod Pieces
+pub mod Near
 pub mod PatchScanning
 pub mod PatchLaws

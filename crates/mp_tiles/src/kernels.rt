@@ -1,14 +1,20 @@
 //! The tiles of a series as the pieces of a kernel, and the profile that they make.
 
-ghost use Rattle.std.specs.Prelude.{◌≡◌, ◌≤◌, length, IfOk};
+ghost use Rattle.std.specs.Prelude.{◌≡◌, ◌+◌, ◌≤◌, [], ◌∷◌, length, IfOk};
 ghost use Rattle.mp_series.specs.declared.limits.TheConstants.{MAX_SAMPLES, MAX_WINDOW, MIN_WINDOW};
 ghost use Rattle.mp_defs.specs.Series.{series_of};
+ghost use Rattle.mp_defs.specs.Window.{windows as windows_in, excl as zone};
 ghost use Rattle.mp_defs.specs.Profile.{matrix_profile};
+ghost use Rattle.mp_partial.specs.Values.{HasColumns, merged_columns};
+ghost use Rattle.mp_cuts.specs.Pairs.{has_pair, IsTileBetween};
+ghost use Rattle.mp_tiles.specs.Among.{profile_among};
+ghost use Rattle.mp_tiles.specs.Pieces.{sides_value};
 
+use crate::near::{Bands, NearTiles};
 use crate::offers::OnBothSides;
 use crate::scans::scan_tile;
 use crate::sides::Sides;
-use mp_cuts::{Cut, MAX_TILE, MAX_TILES, cut_own};
+use mp_cuts::{Cut, MAX_TILE, MAX_TILES, Tile, cut_own};
 use mp_nums::{Memory, Sample};
 use mp_partial::{Kernel, Profile, run_in_order};
 use mp_scans::Plan;
@@ -16,6 +22,22 @@ use mp_series::{MAX_SAMPLES, MAX_WINDOW, MIN_WINDOW, excl, windows};
 use mp_sums::Grid;
 use std::alloc::Global;
 use std::marker::Model;
+
+/// Merges both sides of the profile of a tile's pairs into what was found.
+pub(crate) fn take_tile(plan: &Plan, tile: &Tile, into: &mut Sides)
+    requires same { plan.now.grid.columns.now ≡ plan.now.grid.rows.now }
+    requires tile { IsTileBetween (zone plan.now.grid.m + 1) (windows_in (length plan.now.grid.rows.now) plan.now.grid.m)
+        (windows_in (length plan.now.grid.rows.now) plan.now.grid.m) tile.now }
+    requires places { length into.old.left ≡ windows_in (length plan.now.grid.rows.now) plan.now.grid.m }
+    ensures value { into.new.left ∷ into.new.right ∷ [] ≡ merged_columns (into.old.left ∷ into.old.right ∷ [])
+        (sides_value (profile_among (has_pair 0 tile.now) plan.now.grid.m (series_of plan.now.grid.rows.now))) }
+    ensures size { length into.new.left ≡ length into.old.left }
+    ensures is_value { HasColumns 2 (length into.new.left) (into.new.left ∷ into.new.right ∷ []) }
+{
+    let _windows = into.len();
+    into.round_by(&plan.rounding);
+    scan_tile::<OnBothSides>(plan, tile, into);
+}
 
 /// The tiles of a series as the pieces of a kernel, whose values together are both sides of the matrix profile.
 #[derive(Drop)]
@@ -36,9 +58,8 @@ impl<'a> Model for OwnTiles<'a> {
 }
 
 impl<'a> OwnTiles<'a> {
-    ghost use Rattle.mp_defs.specs.Window.{windows as windows_in, excl as zone};
     ghost use Rattle.mp_cuts.specs.Cutting.{own_tiles};
-    ghost use Rattle.mp_tiles.specs.Pieces.{sides_value, own_together};
+    ghost use Rattle.mp_tiles.specs.Pieces.{own_together};
 
     /// The tiles of at most `tile` diagonals of the samples' windows of length `m`. It takes no memory.
     pub fn new(samples: &'a [Sample], m: u32, tile: u32) -> OwnTiles<'a>
@@ -62,6 +83,24 @@ impl<'a> OwnTiles<'a> {
         OwnTiles {
             plan,
             cut: cut_own(count, excl(m), tile),
+        }
+    }
+
+    /// The pairs of windows that start close together, outside the exclusion zone, in so many bands of rows. Merged into
+    /// both sides of the matrix profile they change nothing. It takes no memory.
+    pub fn near(&self, bands: u32) -> NearTiles<'a>
+        requires some { 1 ≤ bands }
+        ensures samples { result.samples ≡ self.now.samples }
+        ensures m { result.m ≡ self.now.m }
+        ensures few { length result.tiles ≤ MAX_TILES }
+        ensures within { merged_columns (own_together result)
+            (sides_value (matrix_profile self.now.m (series_of self.now.samples)))
+            ≡ sides_value (matrix_profile self.now.m (series_of self.now.samples)) }
+    {
+        let windows = self.size();
+        NearTiles {
+            plan: self.plan,
+            bands: Bands::of(windows, excl(self.plan.rounding.m), bands),
         }
     }
 }
@@ -91,9 +130,7 @@ impl<'a> Kernel for OwnTiles<'a> {
     }
 
     fn run(&self, piece: u64, into: &mut Sides) {
-        let _windows = into.len();
-        into.round_by(&self.plan.rounding);
-        scan_tile::<OnBothSides>(&self.plan, &self.cut.tile(piece), into);
+        take_tile(&self.plan, &self.cut.tile(piece), into);
     }
 }
 

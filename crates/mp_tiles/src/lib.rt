@@ -7,6 +7,7 @@ mod joins;
 mod kernels;
 mod laws;
 mod limits;
+mod near;
 mod offers;
 mod plans;
 mod scans;
@@ -19,5 +20,6 @@ pub use mp_cuts::{
     Cut, MAX_ROWS, MAX_TILE, MAX_TILES, Tile, cut_both, cut_own, cuts_hold_each_pair_once,
     worked_cuts,
 };
+pub use near::NearTiles;
 pub use scans::{scan_both, scan_own, scan_patch};
 pub use sides::Sides;

@@ -1,21 +1,57 @@
 -- What the workers of a team draw and find.
-use Rattle.std.proofs.Common.{◌≡◌, ℕ, ◌+◌, ◌<◌, ◌≤◌, List, [], ◌∷◌, ◌++◌, Bool, true, false, refl, sym, ap, subst, ◌∙◌}
-use Rattle.std.proofs.Common.{append-nil, length, take, drop, arith, zero, suc}
-use Rattle.std.specs.Prelude.{nat_lt, ◌==◌, ◌&&◌, ◌||◌, if◌then◌else◌, All, Some, slice_get, slice_set}
+use Rattle.std.proofs.Common.{◌≡◌, ℕ, ◌+◌, ◌-◌, ◌<◌, ◌≤◌, List, [], ◌∷◌, ◌++◌, Bool, true, false, refl, sym, ap, subst, ◌∙◌}
+use Rattle.std.proofs.Common.{append-nil, length, get_or, take, drop, arith, zero, suc}
+use Rattle.std.specs.Prelude.{nat_lt, ◌==◌, ◌&&◌, ◌||◌, if◌then◌else◌, All, Option, Some, option_to_list, slice_get, slice_set}
+use Rattle.std.specs.Prelude.{map, replicate}
 use Rattle.std.specs.Prelude.{sum_by}
-use Rattle.std.specs.List.{range_with_len}
+use Rattle.std.specs.List.{range_with_len, swap_remove}
 use Rattle.std.proofs.lemmas.Bool.Decides.{nat_tests}
 use Rattle.std.proofs.lemmas.List.Concat.{flat_map-append}
 use Rattle.std.proofs.lemmas.List.Elements.{filter-append, filter_passes}
-use Rattle.std.proofs.lemmas.List.Elements.{All-head, All-tail, All-cons, All-nil, All-append, All-set, All-weaker}
-use Rattle.std.proofs.lemmas.List.Sums.{sum_by-cons}
+use Rattle.std.proofs.lemmas.List.Elements.{All-head, All-tail, All-cons, All-nil, All-append, All-set, All-take, All-weaker}
+use Rattle.std.proofs.lemmas.List.Sums.{sum_by-cons, sum_by_push}
+use Rattle.std.proofs.lemmas.List.{length-append}
 use Rattle.mp_partial.specs.Values.{Value, merged_over, merged_below}
 use Rattle.mp_partial.specs.MergeLaws.{IsMerging}
 use Rattle.mp_partial.specs.Together.{has_piece, HaveSamePieces}
 use Rattle.mp_partial.specs.TogetherLaws.{merges_by_pieces, pieces_of_lists}
 use Rattle.mp_workers.specs.Desks.{DeskId, once_below, past, pieces_among, times}
-use Rattle.mp_workers.specs.Teams.{WorkerState, IsDone, HaveRun, pieces_of, with_first_of}
+use Rattle.mp_workers.specs.Teams.{WorkerState, IsDone, IsReady, AreReady, HaveRun, found_first, pieces_of, with_first_of, with_pieces}
 use Rattle.mp_workers.proofs.Working.{pieces_have}
+
+-- ---- lists of parts and of workers
+
+-- the last of a list left it
+pub last_left : {X : Type 0} (old new : List X) (left : Option X) (x : X) → old ≡ new ++ option_to_list left
+    → left ≡ Some x → old ≡ new ++ x ∷ []
+last_left old new left x e is = e ∙ ap (λ o. new ++ option_to_list o) is
+
+pub one_less : {X : Type 0} (old new : List X) (x : X) → old ≡ new ++ x ∷ [] → length old ≡ length new + 1
+one_less old new x e = ap length e ∙ length-append new (x ∷ [])
+
+pub sum_less : {X : Type 0} (f : X → ℕ) (old new : List X) (x : X) → old ≡ new ++ x ∷ []
+    → sum_by f old ≡ sum_by f new + f x
+sum_less f old new x e = ap (sum_by f) e ∙ sum_by_push f new x
+
+pub all_but_one : {X : Type 0} (P : X → Type 0) (xs : List X) (i : ℕ) (d : X) → 0 < length xs → All P xs
+    → All P (swap_remove xs i d)
+all_but_one P xs i d some all =
+    let last = get_or xs (length xs - 1) d in
+    All-take P (length xs - 1) (slice_set xs i last)
+    (All-set P xs i last (all (length xs - 1) d (omega (arith, some))) all)
+
+-- parts whose sizes and values are told one by one are alike
+pub all_alike : {X : Type 0} (size_of : X → ℕ) (value_of : X → Value) (size : ℕ) (value : Value) (xs : List X) (n m : ℕ)
+    → map size_of xs ≡ replicate n size → map value_of xs ≡ replicate m value
+    → All (λ x. (size_of x ≡ size) × (value_of x ≡ value)) xs
+all_alike size_of value_of size value [] n m e f = All-nil (λ x. (size_of x ≡ size) × (value_of x ≡ value))
+all_alike size_of value_of size value (x ∷ xs) zero m e f = absurd (cc)
+all_alike size_of value_of size value (x ∷ xs) (suc n) zero e f = absurd (cc)
+all_alike size_of value_of size value (x ∷ xs) (suc n) (suc m) e f =
+    let size_is : size_of x ≡ size = cc in
+    let value_is : value_of x ≡ value = cc in
+    All-cons (λ x. (size_of x ≡ size) × (value_of x ≡ value)) x xs (size_is, value_is)
+    (all_alike size_of value_of size value xs n m (cc) (cc))
 
 -- ---- one worker
 
@@ -38,36 +74,21 @@ new_pieces pieces old numbers new last none is all past =
     ∙ ap (λ b. pieces_among pieces numbers ++ (if b then last ∷ [] else [])) no_piece
     ∙ append-nil (pieces_among pieces numbers) ∙ all_are_pieces pieces numbers all
 
--- a worker that had found nothing has what its pieces have together
-pub worker_found : (IsValue : ℕ → Value → Type 0) (unit : ℕ → Value) (merged : Value → Value → Value)
-    → IsMerging IsValue unit merged → (size : ℕ) (value : ℕ → Value) (pieces : ℕ) (numbers drawn : List ℕ)
-    → ((k : ℕ) → k < pieces → IsValue size (value k)) → All (λ number. number < pieces) numbers
-    → pieces_among pieces drawn ≡ numbers → (old new : Value) → old ≡ unit size
-    → new ≡ merged old (merged_over merged (unit size) value numbers)
-    → new ≡ merged_over merged (unit size) value (pieces_among pieces drawn)
-worker_found IsValue unit merged laws size value pieces numbers drawn values all same old new none is =
-    let over = merged_over merged (unit size) value in
-    is ∙ ap (λ v. merged v (over numbers)) none
-    ∙ laws.unit_first size (over numbers) ((merges_by_pieces IsValue unit merged laws).is_value size value numbers
-    (pieces_have IsValue size value pieces numbers values all))
-    ∙ ap over (sym same)
-
 -- ---- some workers
 
 -- one worker that is done is a team that has run
-pub one_has_run : (desk : DeskId) (size : ℕ) (together : List ℕ → Value) (workers : List WorkerState)
-    (worker : WorkerState)
-    → length workers ≡ 1 → IsDone desk size worker
-    → worker.found ≡ together (pieces_among desk.pieces worker.pass.drawn)
-    → HaveRun desk size together (slice_set workers 0 worker)
-one_has_run desk size together [] worker one done found = absurd (omega (arith, one))
-one_has_run desk size together (x ∷ []) worker one done found = (
+pub one_has_run : (desk : DeskId) (size : ℕ) (together : Value → List ℕ → Value) (workers : List WorkerState)
+    (d worker : WorkerState) → length workers ≡ 1 → IsDone desk size worker
+    → worker.found ≡ together (get_or workers 0 d).found (pieces_among desk.pieces worker.pass.drawn)
+    → HaveRun desk size (together (found_first workers)) (slice_set workers 0 worker)
+one_has_run desk size together [] d worker one done found = absurd (omega (arith, one))
+one_has_run desk size together (x ∷ []) d worker one done found = (
   All-cons (IsDone desk size) worker [] done (All-nil (IsDone desk size)),
   worker,
   refl,
-  found ∙ ap together (sym (append-nil (pieces_among desk.pieces worker.pass.drawn))),
+  found ∙ ap (together x.found) (sym (append-nil (pieces_among desk.pieces worker.pass.drawn))),
 )
-one_has_run desk size together (x ∷ y ∷ rest) worker one done found = absurd (omega (arith, one))
+one_has_run desk size together (x ∷ y ∷ rest) d worker one done found = absurd (omega (arith, one))
 
 -- what the workers drew are pieces
 are_below : (pieces : ℕ) (workers : List WorkerState) → All (λ k. k < pieces) (pieces_of pieces workers)
@@ -106,24 +127,56 @@ first_of_both : (low high : List WorkerState) (first : WorkerState) → slice_ge
 first_of_both [] high first is = absurd (cc)
 first_of_both (w ∷ ws) high first is = is
 
+-- where all workers begin with one value, the first of them does
+pub first_found : (desk : DeskId) (size : ℕ) (start : Value) (workers : List WorkerState)
+    → All (IsReady desk size start) workers → 0 < length workers → found_first workers ≡ start
+first_found desk size start [] all some = absurd (omega (arith, some))
+first_found desk size start (w ∷ ws) all some = (All-head (IsReady desk size start) w ws all).found
+
+-- workers that begin with what a team begins with are a team themselves
+pub part_ready : (IsValue : ℕ → Value → Type 0) (desk : DeskId) (size : ℕ) (start : Value) (workers : List WorkerState)
+    → IsValue size start → All (IsReady desk size start) workers → 0 < length workers
+    → AreReady IsValue desk size workers
+part_ready IsValue desk size start workers is all some =
+    let same = sym (first_found desk size start workers all some) in
+    record {
+      is_value = subst (IsValue size) same is;
+      each = subst (λ v. All (IsReady desk size v) workers) same all;
+    }
+
+-- what was found before both halves counts once
+both_started : (IsValue : ℕ → Value → Type 0) (unit : ℕ → Value) (merged : Value → Value → Value)
+    → IsMerging IsValue unit merged → (size : ℕ) (start a b : Value) → IsValue size start → IsValue size a
+    → IsValue size b → merged (merged start a) (merged start b) ≡ merged start (merged a b)
+both_started IsValue unit merged laws size start a b is is_a is_b =
+    let both = laws.merged_is_value size a b is_a is_b in
+    laws.associative size start a (merged start b) is is_a (laws.merged_is_value size start b is is_b)
+    ∙ ap (merged start) (sym (laws.associative size a start b is_a is is_b)
+    ∙ ap (λ v. merged v b) (laws.commutative size a start is_a is) ∙ laws.associative size start a b is is_a is_b)
+    ∙ sym (laws.associative size start start (merged a b) is is both)
+    ∙ ap (λ v. merged v (merged a b)) (laws.idempotent size start is)
+
 -- two teams that have run are one, once the first worker of one has what both found
 pub both_have_run : (IsValue : ℕ → Value → Type 0) (unit : ℕ → Value) (merged : Value → Value → Value)
     → IsMerging IsValue unit merged → (desk : DeskId) (size : ℕ) (value : ℕ → Value)
-    → ((k : ℕ) → k < desk.pieces → IsValue size (value k)) → (low high low' : List WorkerState)
-    → HaveRun desk size (merged_over merged (unit size) value) low
-    → HaveRun desk size (merged_over merged (unit size) value) high
+    → ((k : ℕ) → k < desk.pieces → IsValue size (value k)) → (start : Value) → IsValue size start
+    → (low high low' : List WorkerState)
+    → HaveRun desk size (with_pieces merged (unit size) value start) low
+    → HaveRun desk size (with_pieces merged (unit size) value start) high
     → ((first other : WorkerState) → slice_get low 0 ≡ Some first → slice_get high 0 ≡ Some other
     → low' ≡ slice_set low 0 (with_first_of merged first other))
-    → HaveRun desk size (merged_over merged (unit size) value) (low' ++ high)
-both_have_run IsValue unit merged laws desk size value values low high low' low_run high_run sets =
+    → HaveRun desk size (with_pieces merged (unit size) value start) (low' ++ high)
+both_have_run IsValue unit merged laws desk size value values start is low high low' low_run high_run sets =
     let over = merged_over merged (unit size) value in
+    let together = with_pieces merged (unit size) value start in
+    let by_pieces = merges_by_pieces IsValue unit merged laws in
     let low_first = low_run.1 in
     let high_first = high_run.1 in
     let first = with_first_of merged low_first high_first in
     let done = first_is_done desk size low low_first low_run.2 low_run.0 in
     let have = λ (workers : List WorkerState). pieces_have IsValue size value desk.pieces
     (pieces_of desk.pieces workers) values (are_below desk.pieces workers) in
-    subst (λ team. HaveRun desk size over (team ++ high)) (sym (sets low_first high_first low_run.2 high_run.2)) (
+    subst (λ team. HaveRun desk size together (team ++ high)) (sym (sets low_first high_first low_run.2 high_run.2)) (
       All-append (IsDone desk size) (slice_set low 0 first) high
           (All-set (IsDone desk size) low 0 first
           (record {
@@ -139,12 +192,16 @@ both_have_run IsValue unit merged laws desk size value values low high low' low_
       first,
       first_of_both (slice_set low 0 first) high first (first_set low low_first first low_run.2),
       ap (λ v. merged v high_first.found) low_run.3
-          ∙ ap (merged (over (pieces_of desk.pieces low))) high_run.3
-          ∙ sym ((merges_by_pieces IsValue unit merged laws).joined size value (pieces_of desk.pieces low)
-          (pieces_of desk.pieces high) (have low) (have high))
-          ∙ ap (λ ks. over (ks ++ pieces_of desk.pieces high))
+          ∙ ap (merged (together (pieces_of desk.pieces low))) high_run.3
+          ∙ both_started IsValue unit merged laws size start (over (pieces_of desk.pieces low))
+          (over (pieces_of desk.pieces high)) is
+          (by_pieces.is_value size value (pieces_of desk.pieces low) (have low))
+          (by_pieces.is_value size value (pieces_of desk.pieces high) (have high))
+          ∙ ap (merged start) (sym (by_pieces.joined size value (pieces_of desk.pieces low)
+          (pieces_of desk.pieces high) (have low) (have high)))
+          ∙ ap (λ ks. together (ks ++ pieces_of desk.pieces high))
           (sym (same_drawn desk.pieces low low_first first low_run.2 refl))
-          ∙ ap over (sym (flat_map-append (λ worker. pieces_among desk.pieces worker.pass.drawn)
+          ∙ ap together (sym (flat_map-append (λ worker. pieces_among desk.pieces worker.pass.drawn)
           (slice_set low 0 first) high)),
     )
 
@@ -219,23 +276,23 @@ first_within (w ∷ ws) first x is =
     subst (λ v. times x v.pass.drawn ≤ sum_by (λ worker. times x worker.pass.drawn) (w ∷ ws)) same
     (omega (arith, sum_by-cons (λ worker. times x worker.pass.drawn) w ws))
 
--- where the workers of a closed desk have run, the first of them has what all pieces have together
+-- where the workers of a closed desk have run, the first of them has what was found before with what all pieces have
 pub all_found : (IsValue : ℕ → Value → Type 0) (unit : ℕ → Value) (merged : Value → Value → Value)
     → IsMerging IsValue unit merged → (desk : DeskId) (size : ℕ) (value : ℕ → Value)
-    → ((k : ℕ) → k < desk.pieces → IsValue size (value k)) → (workers : List WorkerState)
-    → (run : HaveRun desk size (merged_over merged (unit size) value) workers) → (next : ℕ)
+    → ((k : ℕ) → k < desk.pieces → IsValue size (value k)) → (start : Value) → (workers : List WorkerState)
+    → (run : HaveRun desk size (with_pieces merged (unit size) value start) workers) → (next : ℕ)
     → ((x : ℕ) → sum_by (λ worker. times x worker.pass.drawn) workers ≡ once_below next x)
-    → run.1.found ≡ merged_below merged (unit size) value desk.pieces
-all_found IsValue unit merged laws desk size value values workers run next once =
+    → run.1.found ≡ merged start (merged_below merged (unit size) value desk.pieces)
+all_found IsValue unit merged laws desk size value values start workers run next once =
     let last = (first_is_done desk size workers run.1 run.2 run.0).past_pieces in
     let there : 1 ≤ once_below next last.0 =
     omega (arith, last.2, first_within workers run.1 last.0 run.2, once last.0) in
     let past : desk.pieces < next = omega (arith, last.1, past_next next last.0 there) in
     run.3
-    ∙ (merges_by_pieces IsValue unit merged laws).same size value (pieces_of desk.pieces workers)
+    ∙ ap (merged start) ((merges_by_pieces IsValue unit merged laws).same size value (pieces_of desk.pieces workers)
     (range_with_len 0 desk.pieces)
     (pieces_have IsValue size value desk.pieces (pieces_of desk.pieces workers) values (are_below desk.pieces workers))
-    (all_drawn desk.pieces next workers once past)
+    (all_drawn desk.pieces next workers once past))
 
 -- so many workers of a team have as much weight
 pub weights_are_count : (desk : DeskId) (size : ℕ) (workers : List WorkerState) → All (IsDone desk size) workers

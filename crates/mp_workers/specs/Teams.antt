@@ -1,6 +1,6 @@
 -- Teams of workers, each with a pass and a part of its own.
-use Rattle.std.specs.Prelude.{◌≡◌, ℕ, ◌≤◌, List, [], All, flat_map, slice_get, Some}
-use Rattle.mp_partial.specs.Values.{Value}
+use Rattle.std.specs.Prelude.{◌≡◌, ℕ, ◌≤◌, List, [], ◌∷◌, All, flat_map, slice_get, Some}
+use Rattle.mp_partial.specs.Values.{Value, merged_over}
 use Rattle.mp_workers.specs.Desks.{DeskId, PassState, pieces_among, times}
 
 -- a worker: its pass, the size of what it has found, and the value of that
@@ -15,11 +15,21 @@ pub record IsOfTeam (desk : DeskId) (size : ℕ) (worker : WorkerState) : Type 0
   pub weight : worker.pass.weight ≡ 1
   pub size_is : worker.size ≡ size
 
--- it has drawn nothing yet, and found nothing
-pub record IsReady (desk : DeskId) (size : ℕ) (unit : Value) (worker : WorkerState) : Type 0 where
+-- it has drawn nothing yet, and begins with what was found before
+pub record IsReady (desk : DeskId) (size : ℕ) (start : Value) (worker : WorkerState) : Type 0 where
   pub of_team : IsOfTeam desk size worker
   pub drawn : worker.pass.drawn ≡ []
-  pub found : worker.found ≡ unit
+  pub found : worker.found ≡ start
+
+-- what the first worker has found
+abbrev pub found_first : List WorkerState → Value
+found_first [] = []
+found_first (worker ∷ rest) = worker.found
+
+-- all workers begin with the same value of their size
+pub record AreReady (IsValue : ℕ → Value → Type 0) (desk : DeskId) (size : ℕ) (workers : List WorkerState) : Type 0 where
+  pub is_value : IsValue size (found_first workers)
+  pub each : All (IsReady desk size (found_first workers)) workers
 
 -- a number that is no piece stands in the list
 abbrev pub HasPast : ℕ → List ℕ → Type 0
@@ -33,6 +43,10 @@ pub record IsDone (desk : DeskId) (size : ℕ) (worker : WorkerState) : Type 0 w
 -- the pieces that the workers drew
 abbrev pub pieces_of : ℕ → List WorkerState → List ℕ
 pieces_of pieces workers = flat_map (λ worker. pieces_among pieces worker.pass.drawn) workers
+
+-- what was found before with what some pieces have together
+abbrev pub with_pieces : (Value → Value → Value) → Value → (ℕ → Value) → Value → List ℕ → Value
+with_pieces merged unit value start numbers = merged start (merged_over merged unit value numbers)
 
 -- all workers are done, and the first one has what all of them found
 abbrev pub HaveRun : DeskId → ℕ → (List ℕ → Value) → List WorkerState → Type 0

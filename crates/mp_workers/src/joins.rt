@@ -1,15 +1,16 @@
 //! Profiles and joins that workers compute side by side.
 
-ghost use Rattle.std.specs.Prelude.{◌≡◌, ◌≤◌, length, IfOk};
+ghost use Rattle.std.specs.Prelude.{◌≡◌, ◌≤◌, [], ◌∷◌, length, IfOk};
 ghost use Rattle.mp_defs.specs.Series.{series_of};
 ghost use Rattle.mp_defs.specs.Profile.{matrix_profile, ab_join};
+ghost use Rattle.mp_tiles.specs.Pieces.{own_size, own_together, sides_value};
 
-use crate::teams::run_all;
+use crate::teams::{run_all, run_one_after_another};
 use mp_nums::{Memory, Sample, Slots};
 use mp_outside::Gate;
 use mp_partial::{Kernel, MAX_WORKERS, Profile};
 use mp_series::{MAX_SAMPLES, MAX_WINDOW, MIN_WINDOW};
-use mp_tiles::{JoinTiles, MAX_TILE, OwnTiles};
+use mp_tiles::{JoinTiles, MAX_TILE, MAX_TILES, OwnTiles, Sides};
 use std::alloc::Global;
 use std::thread::Threads;
 
@@ -28,6 +29,30 @@ fn worth(pairs: u64, workers: u32) -> u32
 /// How many pairs of a sample of one series and a sample of another there are.
 fn pairs(first: &[Sample], second: &[Sample]) -> u64 {
     (first.len() as u64).saturating_mul(second.len() as u64)
+}
+
+/// Both sides of the matrix profile of the tiles' samples. Several workers compare near windows first, since what these
+/// find lets most of the others be passed over, and each begins the tiles with what all of them found.
+fn both_sides<R: Threads + Sync, G: Gate>(
+    rt: &R,
+    alloc: Global,
+    tiles: &OwnTiles,
+    workers: u32,
+    gate: &G,
+) -> Result<Sides, Memory>
+    requires few { length tiles.now.tiles ≤ MAX_TILES }
+    requires some { 1 ≤ workers }
+    requires workers { workers ≤ MAX_WORKERS }
+    requires together { own_together tiles.now
+        ≡ sides_value (matrix_profile tiles.now.m (series_of tiles.now.samples)) }
+    ensures value { IfOk result (λ sides. sides.left ∷ sides.right ∷ []
+        ≡ sides_value (matrix_profile tiles.now.m (series_of tiles.now.samples))) }
+    ensures size { IfOk result (λ sides. length sides.left ≡ own_size tiles.now) }
+{
+    if workers == 1 {
+        return run_all(rt, alloc, tiles, tiles.pieces(), workers, gate);
+    }
+    run_one_after_another(rt, alloc, &tiles.near(workers), tiles, workers, gate)
 }
 
 /// The matrix profile of the samples at window length `m`, computed in tiles of at most `tile` diagonals by so many
@@ -55,7 +80,7 @@ pub fn self_join<R: Threads + Sync, G: Gate>(
     let tiles = OwnTiles::new(samples, m, tile);
     let room = Profile::with_capacity(alloc, tiles.size())?;
     let workers = worth(pairs(samples, samples) / 2, workers);
-    Ok(run_all(rt, alloc, &tiles, tiles.pieces(), workers, gate)?.profile(room))
+    Ok(both_sides(rt, alloc, &tiles, workers, gate)?.profile(room))
 }
 
 /// The AB-join at window length `m`: for each window of `a` its nearest window in `b`, without an exclusion zone,

@@ -2,15 +2,15 @@
 
 ghost use Rattle.std.specs.Prelude.{◌≡◌, ℕ, ◌+◌, ◌-◌, ◌<◌, ◌≤◌, [], All, IfOk, length, sum_by};
 ghost use Rattle.std.specs.Prelude.{slice_get, slice_set, Some};
-ghost use Rattle.mp_partial.specs.Values.{merged_over};
+ghost use Rattle.mp_partial.specs.Values.{Value};
 ghost use Rattle.mp_workers.specs.Desks.{pieces_among, times};
-ghost use Rattle.mp_workers.specs.Teams.{IsDone, IsReady, WorkerState, with_first_of};
+ghost use Rattle.mp_workers.specs.Teams.{IsDone, IsReady, WorkerState, with_first_of, with_pieces};
 
 use crate::desks::Desk;
 use crate::passes::Pass;
 use mp_nums::Memory;
 use mp_outside::Gate;
-use mp_partial::{Kernel, Part};
+use mp_partial::{Kernel, MAX_WORKERS, Part};
 use std::alloc::Global;
 use std::marker::Model;
 
@@ -37,70 +37,101 @@ impl<P: Part> Model for Worker<P> {
 impl<P: Part> Worker<P> {
     /// Runs pieces until none is left.
     pub(crate) fn work<K: Kernel<Out = P>, G: Gate>(&mut self, desk: &Desk, kernel: &K, gate: &G)
-        requires ready { IsReady desk.now (K.size_of kernel.now) (P.unit_of (K.size_of kernel.now)) self.old }
+        requires ready { IsReady desk.now (K.size_of kernel.now) self.old.found self.old }
         requires pieces { desk.now.pieces ≤ K.pieces_of kernel.now }
         ensures done { IsDone desk.now (K.size_of kernel.now) self.new }
-        ensures found { self.new.found ≡ merged_over P.merged (P.unit_of (K.size_of kernel.now))
-            (K.value_of kernel.now) (pieces_among desk.now.pieces self.new.pass.drawn) }
+        ensures found { self.new.found ≡ with_pieces P.merged (P.unit_of (K.size_of kernel.now)) (K.value_of kernel.now)
+            self.old.found (pieces_among desk.now.pieces self.new.pass.drawn) }
     {
         desk.work(&mut self.pass, self.number, kernel, &mut self.found, gate);
     }
 }
 
-/// So many workers, each with a pass that is cut off from one with the whole weight.
+/// A worker for each of some parts, which it begins with, each with a pass that is cut off from one with the whole weight.
 pub(crate) fn hire<P: Part>(
     alloc: Global,
     desk: &Desk,
     pass: &mut Pass,
-    count: u32,
-    size: u64,
+    parts: &mut Vec<P>,
 ) -> Result<Vec<Worker<P>>, Memory>
     requires desk { pass.old.desk ≡ desk.now }
     requires unused { pass.old.drawn ≡ [] }
-    requires weight { count < pass.old.weight }
+    requires weight { length parts.old.items < pass.old.weight }
+    requires few { length parts.old.items ≤ MAX_WORKERS }
     ensures desk { IfOk result (λ team. pass.new.desk ≡ desk.now) }
     ensures unused { IfOk result (λ team. pass.new.drawn ≡ []) }
-    ensures weight { IfOk result (λ team. pass.new.weight ≡ pass.old.weight - count) }
-    ensures count { IfOk result (λ team. length team.items ≡ count) }
-    ensures ready { IfOk result (λ team. All (IsReady desk.now size (P.unit_of size)) team.items) }
+    ensures weight { IfOk result (λ team. pass.new.weight ≡ pass.old.weight - length parts.old.items) }
+    ensures count { IfOk result (λ team. length team.items ≡ length parts.old.items) }
+    ensures ready { IfOk result (λ team. (size : ℕ) (start : Value)
+        → All (λ part. (P.size_of part ≡ size) × (P.value part ≡ start)) parts.old.items
+        → All (IsReady desk.now size start) team.items) }
+    ensures emptied { IfOk result (λ team. parts.new.items ≡ []) }
 {
-    let mut team = Vec::with_capacity(alloc, count as usize)?;
-    for number in 0..count {
+    let mut team = Vec::with_capacity(alloc, parts.len())?;
+    while let Some(found) = parts.pop() {
+        let number = team.len() as u32;
+        let pass = desk.split(pass);
         team.push(Worker {
             number,
-            pass: desk.split(pass),
-            found: P::unit(alloc, size)?,
+            pass,
+            found,
         })?;
     }
     Ok(team)
 }
 
-/// Takes in the passes of all workers of a team.
-fn join_passes<P: Part>(desk: &Desk, pass: &mut Pass, mut team: Vec<Worker<P>>)
+/// Takes in the passes of all workers of a team, and hands over their parts.
+fn join_passes<P: Part>(
+    desk: &Desk,
+    pass: &mut Pass,
+    mut team: Vec<Worker<P>>,
+    parts: &mut Vec<P>,
+) -> Result<(), Memory>
     requires desk { pass.old.desk ≡ desk.now }
     requires of_desk { All (λ worker. worker.pass.desk ≡ desk.now) team.items }
-    ensures desk { pass.new.desk ≡ desk.now }
-    ensures weight { pass.new.weight ≡ pass.old.weight + sum_by (λ worker. worker.pass.weight) team.items }
-    ensures drawn { (x : ℕ) → times x pass.new.drawn
-        ≡ times x pass.old.drawn + sum_by (λ worker. times x worker.pass.drawn) team.items }
+    ensures desk { IfOk result (λ _. pass.new.desk ≡ desk.now) }
+    ensures weight { IfOk result (λ _. pass.new.weight
+        ≡ pass.old.weight + sum_by (λ worker. worker.pass.weight) team.items) }
+    ensures drawn { IfOk result (λ _. (x : ℕ) → times x pass.new.drawn
+        ≡ times x pass.old.drawn + sum_by (λ worker. times x worker.pass.drawn) team.items) }
+    ensures count { IfOk result (λ _. length parts.new.items ≡ length parts.old.items + length team.items) }
+    ensures sizes { IfOk result (λ _. (size : ℕ) → All (λ worker. worker.size ≡ size) team.items
+        → All (λ part. P.size_of part ≡ size) parts.old.items → All (λ part. P.size_of part ≡ size) parts.new.items) }
 {
     while let Some(worker) = team.pop() {
-        let Worker { pass: other, .. } = worker;
+        let Worker {
+            pass: other,
+            found,
+            ..
+        } = worker;
         desk.join(pass, other);
+        parts.push(found)?;
     }
+    Ok(())
 }
 
-/// Takes in the passes of all workers of a team, and hands over what its first one has found.
-pub(crate) fn gather<P: Part>(desk: &Desk, pass: &mut Pass, mut team: Vec<Worker<P>>) -> P
+/// Takes in the passes of all workers of a team, and hands over what its first one has found. The parts of the others are
+/// handed over too.
+pub(crate) fn gather<P: Part>(
+    desk: &Desk,
+    pass: &mut Pass,
+    mut team: Vec<Worker<P>>,
+    parts: &mut Vec<P>,
+) -> Result<P, Memory>
     requires some { 0 < length team.items }
     requires desk { pass.old.desk ≡ desk.now }
     requires of_desk { All (λ worker. worker.pass.desk ≡ desk.now) team.items }
-    ensures desk { pass.new.desk ≡ desk.now }
-    ensures weight { pass.new.weight ≡ pass.old.weight + sum_by (λ worker. worker.pass.weight) team.items }
-    ensures drawn { (x : ℕ) → times x pass.new.drawn
-        ≡ times x pass.old.drawn + sum_by (λ worker. times x worker.pass.drawn) team.items }
-    ensures found { (first : WorkerState) → slice_get team.items 0 ≡ Some first → P.value result ≡ first.found }
-    ensures size { (first : WorkerState) → slice_get team.items 0 ≡ Some first → P.size_of result ≡ first.size }
+    requires no_part { parts.old.items ≡ [] }
+    ensures desk { IfOk result (λ _. pass.new.desk ≡ desk.now) }
+    ensures weight { IfOk result (λ _. pass.new.weight
+        ≡ pass.old.weight + sum_by (λ worker. worker.pass.weight) team.items) }
+    ensures drawn { IfOk result (λ _. (x : ℕ) → times x pass.new.drawn
+        ≡ times x pass.old.drawn + sum_by (λ worker. times x worker.pass.drawn) team.items) }
+    ensures found { IfOk result (λ part. (first : WorkerState) → slice_get team.items 0 ≡ Some first
+        → (P.value part ≡ first.found) × (P.size_of part ≡ first.size)) }
+    ensures count { IfOk result (λ _. length parts.new.items + 1 ≡ length team.items) }
+    ensures sizes { IfOk result (λ _. (size : ℕ) → All (λ worker. worker.size ≡ size) team.items
+        → All (λ part. P.size_of part ≡ size) parts.new.items) }
 {
     let Worker {
         pass: own,
@@ -108,8 +139,32 @@ pub(crate) fn gather<P: Part>(desk: &Desk, pass: &mut Pass, mut team: Vec<Worker
         ..
     } = team.swap_remove(0);
     desk.join(pass, own);
-    join_passes(desk, pass, team);
-    found
+    join_passes(desk, pass, team, parts)?;
+    Ok(found)
+}
+
+/// Gives each part what was found, in place of what it has. It takes no memory.
+pub(crate) fn hand_on<P: Part>(found: &P, parts: &mut Vec<P>)
+    requires is_value { P.is_value (P.size_of found.now) (P.value found.now) }
+    requires sizes { All (λ part. P.size_of part ≡ P.size_of found.now) parts.old.items }
+    ensures count { length parts.new.items ≡ length parts.old.items }
+    ensures alike { All (λ part. (P.size_of part ≡ P.size_of found.now) × (P.value part ≡ P.value found.now))
+        parts.new.items }
+{
+    for part in parts.iter_mut() {
+        take_over(part, found);
+    }
+}
+
+/// The part then has what the other one found.
+fn take_over<P: Part>(part: &mut P, found: &P)
+    requires is_value { P.is_value (P.size_of found.now) (P.value found.now) }
+    requires size { P.size_of part.old ≡ P.size_of found.now }
+    ensures size { P.size_of part.new ≡ P.size_of found.now }
+    ensures value { P.value part.new ≡ P.value found.now }
+{
+    part.clear();
+    part.merge(found);
 }
 
 /// Merges what the first of some workers has found with what the first of others has.

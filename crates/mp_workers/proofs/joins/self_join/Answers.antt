@@ -1,18 +1,18 @@
-use Rattle.std.proofs.Common.{◌≡◌, [], ◌∷◌, subst, ◌∙◌}
+use Rattle.std.proofs.Common.{ap, ◌∙◌}
+use Rattle.std.specs.Prelude.{ℕ, List}
+use Rattle.mp_nums.specs.declared.samples.Sample.{Sample}
 use Rattle.mp_defs.specs.Series.{series_of}
-use Rattle.mp_partial.specs.Values.{merged_columns, empty_columns, merged_below}
-use Rattle.mp_tiles.specs.Pieces.{own_size, own_value, own_together}
+use Rattle.mp_defs.specs.Profile.{matrix_profile}
+use Rattle.mp_tiles.specs.Pieces.{sides_value}
 use Rattle.mp_tiles.specs.SideLaws.{all_of_both}
 use Rattle.mp_workers.proofs.joins.self_join.Goals as goal
 
 pub returns-clause-all : goal.returns-clause-all
 returns-clause-all g c =
     let own = c.new-tiles.result in
-    let sides = c.in_ok-run_all.field-0 in
-    let together : sides.left ∷ sides.right ∷ [] ≡ own_together own =
-    subst (λ n. sides.left ∷ sides.right ∷ []
-    ≡ merged_below merged_columns (empty_columns 2 (own_size own)) (own_value own) n) c.pieces.ensures
-    c.in_ok-run_all.ensures.value in
+    let sides = c.in_ok-both_sides.field-0 in
     c.profile-2.ensures.all
     ∙ all_of_both sides.left sides.right c.args.m (series_of c.args.samples.now)
-    (together ∙ c.new-tiles.ensures.together)
+    (c.in_ok-both_sides.ensures.value
+    ∙ ap (λ (m : ℕ). sides_value (matrix_profile m (series_of own.samples))) c.new-tiles.ensures.m
+    ∙ ap (λ (samples : List Sample). sides_value (matrix_profile c.args.m (series_of samples))) c.new-tiles.ensures.samples)
