@@ -1,15 +1,23 @@
 -- Lists that are filled place by place.
-use Rattle.std.proofs.Common.{◌≡◌, ℕ, ◌+◌, ◌<◌, ◌≤◌, ◌⊎◌, List, length, set, get_or, sym, arith, below_more, subst}
+use Rattle.std.proofs.Common.{◌≡◌, ◌≢◌, ℕ, ◌+◌, ◌<◌, ◌≤◌, ◌⊎◌, inl, inr, List, length, set, get_or, sym, arith, subst}
 use Rattle.std.proofs.Common.{ℤ, pos, take, drop, ap, ◌∙◌, w32}
+use Rattle.std.proofs.lemmas.Bool.{cases_eq}
 use Rattle.std.specs.Int.{int_wrap}
 use Rattle.std.proofs.lemmas.List.{get_or-set_same, get_or-set_other, get_or-take, get_or-drop, length-take, length-drop}
 use Rattle.mp_sums.specs.Residues.{AreNumbers}
 
+pub set_at : {X : Type 0} (P : ℕ → X → Type 0) (d : X) (v : List X) (n : ℕ) (z : X) → n < length v → P n z → (k : ℕ)
+    → (k ≢ n → P k (get_or v k d)) → P k (get_or (set v n z) k d)
+set_at P d v n z lt here k before = elim (cases_eq k n) [
+  | inl same ↦ subst (λ q. P q (get_or (set v n z) q d)) (sym same)
+      (subst (P n) (sym (get_or-set_same v n z d lt)) here)
+  | inr other ↦ subst (P k) (sym (get_or-set_other v n k z d other)) (before other)
+]
+
 pub set_next : {X : Type 0} (P : ℕ → X → Type 0) (d : X) (v : List X) (n : ℕ) (z : X) → n < length v
     → ((q : ℕ) → q < n → P q (get_or v q d)) → P n z → (q : ℕ) → q < n + 1 → P q (get_or (set v n z) q d)
-set_next P d v n z lt before here = below_more (λ q. P q (get_or (set v n z) q d)) n
-    (λ q less. subst (P q) (sym (get_or-set_other v n q z d (λ e. omega (arith, e, less)))) (before q less))
-    (subst (P n) (sym (get_or-set_same v n z d lt)) here)
+set_next P d v n z lt before here = λ q below.
+    set_at P d v n z lt here q (λ other. before q (omega (arith, below, other)))
 
 pub this_or_behind : (k s : ℕ) → k ≤ s → (s ≡ k) ⊎ (k < s)
 this_or_behind k s le = grind arith

@@ -2,9 +2,6 @@
 use Rattle.std.proofs.Common.{◌≡◌, ℕ, ◌+◌, ◌^◌, ◌<◌, ◌≤◌, ℤ, List, length, true, refl, sym, ap, ◌∙◌, arith}
 use Rattle.std.specs.Prelude.{Option, Some, None, IsTrue, IsSome}
 use Rattle.std.proofs.lemmas.List.{length-map}
-use Rattle.std.specs.Prelude.{◌||◌}
-use Rattle.std.proofs.lemmas.Bool.Decides.{nat_tests}
-use Rattle.mp_scans.specs.Offering.{only, in_row}
 use Rattle.mp_nums.specs.declared.samples.Sample.{Sample}
 use Rattle.mp_defs.specs.Series.{Series, reading_of, series_of}
 use Rattle.mp_defs.specs.Window.{is_free}
@@ -46,28 +43,6 @@ pub no_distance : (m : ℕ) (a b : Series) (i j : ℕ)
 no_distance m a b i j h =
     none_of (distance m a i b j) (IsTrue (is_free m a i) × IsTrue (is_free m b j)) (of_free_windows m a i b j).0
     (λ both. h both.0 both.1)
-
--- ---- one column of the row first
-
-pub first_columns : (r c d e b r' b' i j : ℕ) → d ≡ c → r' ≡ r → b' ≡ b
-    → (only r' b' i j || in_row r d e i j) ≡ (only r b i j || in_row r c e i j)
-first_columns r c d e b r' b' i j f g h = grind (arith, nat_tests)
-
-pub next_column : (r c d e b r' d' i j : ℕ) → c ≤ d → e ≡ d + 1 → r' ≡ r → d' ≡ d
-    → ((only r b i j || in_row r c d i j) || only r' d' i j) ≡ (only r b i j || in_row r c e i j)
-next_column r c d e b r' d' i j le f g h = grind (arith, nat_tests)
-
-pub taken_column : (r c d e b i j : ℕ) → c ≤ d → b ≡ d → e ≡ d + 1
-    → (only r b i j || in_row r c d i j) ≡ (only r b i j || in_row r c e i j)
-taken_column r c d e b i j le f g = grind (arith, nat_tests)
-
-pub columns_on : (r c d e b i j : ℕ) → c ≤ d → d ≤ e
-    → ((only r b i j || in_row r c d i j) || in_row r d e i j) ≡ (only r b i j || in_row r c e i j)
-columns_on r c d e b i j le le' = grind (arith, nat_tests)
-
-pub all_columns : (r c d b e i j : ℕ) → c ≤ b → b < e → d ≡ e
-    → (only r b i j || in_row r c d i j) ≡ in_row r c e i j
-all_columns r c d b e i j le lt f = grind (arith, nat_tests)
 
 -- ---- residues that are distances
 

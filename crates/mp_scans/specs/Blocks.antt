@@ -1,16 +1,18 @@
 -- Blocks of rows and columns, thirty-two diagonals at once.
-use Rattle.std.specs.Prelude.{◌≡◌, ℕ, ◌+◌, ◌-◌, ◌*◌, ◌<◌, ◌≤◌, ◌⊎◌, List, length, ℤ, ◌<ℤ◌, Bool}
-use Rattle.mp_defs.specs.Series.{Series, series_of}
-use Rattle.mp_defs.specs.Profile.{windows_of}
+use Rattle.std.specs.Prelude.{◌≡◌, ℕ, ◌+◌, ◌-◌, ◌*◌, ◌<◌, ◌≤◌, ◌⊎◌, List, length, ℤ, Bool}
 use Rattle.mp_sums.specs.declared.distances.Grid.{Grid}
 use Rattle.mp_sums.specs.Sums.{square_sum}
 use Rattle.mp_sums.specs.Grids.{row_numbers, column_numbers}
 use Rattle.mp_sums.specs.Rounding.{rounded}
 use Rattle.mp_sums.specs.Residues.{residue, item}
 use Rattle.mp_scans.specs.declared.blocks.Block.{Block}
+use Rattle.mp_scans.specs.declared.blocks.Pair.{Pair}
+use Rattle.mp_scans.specs.declared.blocks.Row.{Row}
 use Rattle.mp_scans.specs.declared.blocks.Strip.{Strip}
-use Rattle.mp_scans.specs.Offering.{in_block}
 use Rattle.mp_scans.specs.declared.vectors.TheConstants.{LANES}
+use Rattle.mp_scans.specs.Lanes.{IsAbove}
+use Rattle.mp_scans.specs.Offering.{only, in_row, in_block}
+use Rattle.mp_scans.specs.Windows.{row_windows, column_windows}
 
 -- the rounded numbers of the rows, and of the columns
 abbrev pub rounded_rows : Block → ℕ → ℤ
@@ -24,17 +26,40 @@ abbrev pub residue_in : Block → ℕ → ℕ → ℤ
 residue_in block k c =
     residue (square_sum block.grid.m (rounded_rows block) (block.row + k) (rounded_columns block) (block.column + c))
 
+-- a row is a window of its series, and so is a column
+abbrev pub IsRow : Block → ℕ → Type 0
+IsRow block p = block.row + p < row_windows block.grid
+
+abbrev pub IsColumn : Block → ℕ → Type 0
+IsColumn block c = block.column + c < column_windows block.grid
+
 -- the residues of a row and of thirty-two columns
 pub record AreResiduesAt (block : Block) (k c : ℕ) (residues : List ℤ) : Type 0 where
   pub count : length residues ≡ LANES
   pub each : (t : ℕ) → t < LANES → item residues t ≡ residue_in block k (c + t)
 
--- in the rows from one on and before another, each residue on the thirty-two diagonals that start so far behind is
--- above its row's limit and its column's
-pub record AreAbove (block : Block) (offset : ℕ) (rows columns : List ℤ) (from end : ℕ) : Type 0 where
-  pub row : (p t : ℕ) → from ≤ p → p < end → t < LANES → item rows p <ℤ residue_in block p (p + offset + t)
-  pub column : (p t : ℕ) → from ≤ p → p < end → t < LANES
-      → item columns (p + offset + t) <ℤ residue_in block p (p + offset + t)
+-- those of a strip's row
+abbrev pub AreResiduesOf : Strip → ℕ → List ℤ → Type 0
+AreResiduesOf strip p residues = AreResiduesAt strip.block p (p + strip.offset) residues
+
+-- in a strip's rows from one on and before another, each residue is above its row's limit and its column's
+pub record AreAbove (strip : Strip) (rows columns : List ℤ) (from end : ℕ) : Type 0 where
+  pub each : (p t : ℕ) → from ≤ p → p < end → t < LANES
+      → IsAbove (item rows p) (item columns (p + strip.offset + t)) (residue_in strip.block p (p + strip.offset + t))
+
+-- a row of a strip, a column that it has on one of the strip's diagonals, and their residue
+pub record IsPairOf (strip : Strip) (pair : Pair) : Type 0 where
+  pub row : pair.row < strip.end
+  pub first : pair.row + strip.offset ≤ pair.column
+  pub last : pair.column < pair.row + strip.offset + 32
+  pub is_column : IsColumn strip.block pair.column
+  pub residue : pair.residue ≡ residue_in strip.block pair.row pair.column
+
+-- a row of a strip, as many columns as it has on the strip's first diagonals or fewer, and its residues
+pub record IsRowOf (strip : Strip) (row : Row) : Type 0 where
+  pub place : row.place < strip.end
+  pub are_columns : strip.block.column + (row.place + strip.offset) + row.width ≤ column_windows strip.block.grid
+  pub residues : AreResiduesOf strip row.place row.residues.now
 
 -- the residues at a strip's places are those behind its last row, where it has one, and others stay
 pub record AreMovedOn (strip : Strip) (old new : List ℤ) : Type 0 where
@@ -43,28 +68,29 @@ pub record AreMovedOn (strip : Strip) (old new : List ℤ) : Type 0 where
   pub others : (k : ℕ) → (k < strip.offset) ⊎ (strip.offset + LANES ≤ k) → item new k ≡ item old k
   pub places : length new ≡ length old
 
+-- a pair of a block
+abbrev pub in_pair : Block → Pair → ℕ → ℕ → Bool
+in_pair block pair = only (block.row + pair.row) (block.column + pair.column)
+
+-- so many columns of a strip's row
+abbrev pub in_columns : Strip → ℕ → ℕ → ℕ → ℕ → Bool
+in_columns strip p width =
+    in_row (strip.block.row + p) (strip.block.column + (p + strip.offset))
+    (strip.block.column + (p + strip.offset) + width)
+
 -- the pairs of a strip's rows from one on and before another
 abbrev pub in_strip : Strip → ℕ → ℕ → ℕ → ℕ → Bool
 in_strip strip from end =
     in_block (strip.block.column - strip.block.row + strip.offset)
     (strip.block.column - strip.block.row + strip.offset + strip.width) (strip.block.row + from) (strip.block.row + end)
 
--- the residues of a row in strips of thirty-two diagonals, whose first has the given column. A strip past the last
--- window has none
+-- the place of a lane of a strip has the residue of a row, where the strip's first column is a window
+abbrev pub IsStripResidue : Grid → ℕ → ℕ → ℕ → List ℤ → ℕ → ℕ → Type 0
+IsStripResidue grid shift row column residues s t =
+    t < 32 → s * 32 + t < length residues → column + s * 32 < column_windows grid → item residues (s * 32 + t)
+    ≡ residue (square_sum grid.m (rounded shift (row_numbers grid)) row (rounded shift (column_numbers grid))
+    (column + s * 32 + t))
+
+-- the residues of a row in strips of thirty-two diagonals, whose first has the given column
 pub record AreStripResidues (grid : Grid) (shift row column : ℕ) (residues : List ℤ) : Type 0 where
-  pub each : (s t : ℕ) → t < 32 → s * 32 + t < length residues
-      → column + s * 32 < windows_of grid.m (series_of grid.columns.now)
-      → item residues (s * 32 + t)
-      ≡ residue (square_sum grid.m (rounded shift (row_numbers grid)) row (rounded shift (column_numbers grid))
-      (column + s * 32 + t))
-
--- there are places for the windows of a block's series
-abbrev pub FitIn : {Into : Type 0} → (ℕ → Series → Series → Into → Type 0) → Block → Into → Type 0
-FitIn fits block into =
-    fits block.grid.m (series_of block.grid.rows.now) (series_of block.grid.columns.now) into
-
--- these pairs of windows of a block's series are scanned
-abbrev pub AreScannedIn : {Into : Type 0} → (ℕ → Series → Series → (ℕ → ℕ → Bool) → Into → Into → Type 0) → Block
-    → (ℕ → ℕ → Bool) → Into → Into → Type 0
-AreScannedIn is_scanned block pairs old new =
-    is_scanned block.grid.m (series_of block.grid.rows.now) (series_of block.grid.columns.now) pairs old new
+  pub each : (s t : ℕ) → IsStripResidue grid shift row column residues s t

@@ -1,5 +1,5 @@
 -- Vectors of thirty-two signed numbers.
-use Rattle.std.specs.Prelude.{◌≡◌, ℕ, ◌<◌, List, length, ℤ, FitsSigned}
+use Rattle.std.specs.Prelude.{◌≡◌, ℕ, ◌<◌, List, length, ℤ, ◌<ℤ◌, FitsSigned}
 use Rattle.std.specs.Int.{w32}
 use Rattle.mp_sums.specs.Residues.{item}
 use Rattle.mp_scans.specs.declared.vectors.TheConstants.{LANES}
@@ -7,3 +7,7 @@ use Rattle.mp_scans.specs.declared.vectors.TheConstants.{LANES}
 pub record AreLanes (v : List ℤ) : Type 0 where
   pub count : length v ≡ LANES
   pub fit : (t : ℕ) → t < LANES → FitsSigned w32 (item v t)
+
+-- a residue is above the limit of its row and that of its column
+abbrev pub IsAbove : ℤ → ℤ → ℤ → Type 0
+IsAbove row column residue = (row <ℤ residue) × (column <ℤ residue)

@@ -1,3 +1,4 @@
+pub mod Windows
 pub mod Lanes
 pub mod Free
 pub mod Exacts

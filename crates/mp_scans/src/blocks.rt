@@ -3,14 +3,16 @@
 ghost use Rattle.std.specs.Prelude.{◌≡◌, ◌+◌, ◌*◌, ◌^◌, ◌<◌, ◌≤◌, length, true};
 ghost use Rattle.std.specs.Int.{div_ceil};
 ghost use Rattle.mp_defs.specs.Series.{series_of};
-ghost use Rattle.mp_defs.specs.Profile.{windows_of};
 ghost use Rattle.mp_sums.specs.Grids.{row_numbers, column_numbers};
 ghost use Rattle.mp_sums.specs.Rounding.{rounded};
 ghost use Rattle.mp_sums.specs.Residues.{AreChanges};
 ghost use Rattle.mp_scans.specs.Free.{AreFree};
 ghost use Rattle.mp_scans.specs.Distances.{AreDistances};
+ghost use Rattle.mp_scans.specs.Windows.{row_windows, column_windows};
 ghost use Rattle.mp_scans.specs.declared.sizes.TheConstants.{ROWS, COLUMNS, GROUP};
 
+use crate::exacts::Exact;
+use crate::sizes::{COLUMNS, GROUP, ROWS};
 use mp_sums::{Grid, Rounding};
 use std::simd::prelude::*;
 
@@ -46,7 +48,7 @@ pub(crate) struct Block<'a> {
     ghost few_samples: { length grid.columns.now < 2 ^ 31 },
     ghost order: { row ≤ column },
     ghost column_place: { column < 2 ^ 31 },
-    ghost are_rows: { row + length rows.differences.now ≤ windows_of grid.m (series_of grid.rows.now) },
+    ghost are_rows: { row + length rows.differences.now ≤ row_windows grid },
     ghost wide: { length rows.differences.now + div_ceil width 32 * 32 ≤ length columns.differences.now + 1 },
     ghost same_length: { rounding.m ≡ grid.m },
     ghost exact: { is_exact ≡ true → AreDistances grid rounding.shift },
@@ -75,8 +77,7 @@ pub(crate) struct Strip<'a> {
     ghost diagonals: { offset + 32 ≤ GROUP },
     ghost rows: { end ≤ length block.rows.differences.now },
     ghost columns: { end + offset + 31 ≤ length block.columns.differences.now },
-    ghost are_columns: { 1 ≤ end
-        → block.column + offset + end ≤ windows_of block.grid.m (series_of block.grid.columns.now) },
+    ghost are_columns: { 1 ≤ end → block.column + offset + end ≤ column_windows block.grid },
 }
 
 /// A row and a column, both counted from a block's first, and their residue.
@@ -96,4 +97,15 @@ pub(crate) struct Row<'a> {
     pub(crate) residues: &'a i32x32,
     ghost some_columns: { 1 ≤ width },
     ghost narrow: { width ≤ 32 },
+}
+
+/// What is known as the pairs of a group are offered.
+#[derive(Clone, Copy)]
+pub(crate) struct Known {
+    /// The limits of a block's rows.
+    pub(crate) rows: [i32; ROWS],
+    /// Those of its columns.
+    pub(crate) columns: [i32; COLUMNS],
+    /// Of each diagonal a sum, or none.
+    pub(crate) exacts: [Option<Exact>; GROUP],
 }

@@ -2,16 +2,14 @@
 
 ghost use Rattle.std.specs.Prelude.{◌≡◌, ◌+◌, ◌-◌, ◌*◌, ◌^◌, ◌<◌, ◌≤◌, length};
 ghost use Rattle.std.specs.Int.{div_ceil};
-ghost use Rattle.mp_defs.specs.Series.{series_of};
-ghost use Rattle.mp_defs.specs.Profile.{windows_of};
-ghost use Rattle.mp_scans.specs.Blocks.{AreStripResidues, FitIn, AreScannedIn};
+ghost use Rattle.mp_scans.specs.Blocks.{AreStripResidues};
 ghost use Rattle.mp_scans.specs.Exacts.{AreExacts, AreExactsIn};
-ghost use Rattle.mp_scans.specs.Limiting.{AreLimits, first_on};
+ghost use Rattle.mp_scans.specs.Limiting.{IsKnown, first_on};
 ghost use Rattle.mp_scans.specs.Offering.{in_block};
-ghost use Rattle.mp_scans.specs.declared.sizes.TheConstants.{GROUP, ROWS};
+ghost use Rattle.mp_scans.specs.Windows.{row_windows, column_windows, FitIn, AreScannedIn};
+ghost use Rattle.mp_scans.specs.declared.sizes.TheConstants.{COLUMNS, GROUP, ROWS};
 
-use crate::blocks::{Block, Changes, Strip};
-use crate::exacts::Exact;
+use crate::blocks::{Block, Changes, Known, Strip};
 use crate::firsts::{fill_windows, start_residues};
 use crate::limits::{fill_column_limits, fill_row_limits};
 use crate::marks::mark_free;
@@ -42,30 +40,21 @@ struct Rows<'a> {
     count: usize,
     ghost some: { 1 ≤ count },
     ghost few: { count ≤ ROWS },
-    ghost are_rows: { row + count ≤ windows_of group.plan.grid.m (series_of group.plan.grid.rows.now) },
+    ghost are_rows: { row + count ≤ row_windows group.plan.grid },
     ghost column: { row + group.first < 2 ^ 31 },
 }
 
 /// Takes the pairs of a block, strip by strip. The last strip has a column's first rows, and so comes first: a later row
 /// at the same distance gives the column nothing.
-fn scan_strips<O: Offers>(
-    block: &Block,
-    row_limits: &mut [i32],
-    column_limits: &mut [i32],
-    residues: &mut [i32],
-    exacts: &mut [Option<Exact>],
-    into: &mut O::Into,
-)
+fn scan_block<O: Offers>(block: &Block, residues: &mut [i32], known: &mut Known, into: &mut O::Into)
     requires strips { length residues.old ≡ div_ceil block.now.width 32 * 32 }
     requires apart { block.now.row + O.least ≤ block.now.column }
     requires residues { AreStripResidues block.now.grid block.now.rounding.shift block.now.row block.now.column
         residues.old }
-    requires exacts { AreExactsIn block.now exacts.old }
-    requires fits { FitIn O.fits block.now into.old }
-    requires limits { AreLimits block.now (O.keeps_row into.old) (O.keeps_column into.old)
-        (first_on (div_ceil block.now.width 32 * 32)) row_limits.old column_limits.old }
-    ensures exacts { AreExactsIn block.now exacts.new }
-    ensures scanned { AreScannedIn O.is_scanned block.now (in_block (block.now.column - block.now.row)
+    requires known { IsKnown O.fits O.keeps_row O.keeps_column block.now (first_on (div_ceil block.now.width 32 * 32))
+        known.old into.old }
+    ensures exacts { AreExactsIn block.now known.new.exacts }
+    ensures scanned { AreScannedIn O.is_scanned block.now.grid (in_block (block.now.column - block.now.row)
         (block.now.column - block.now.row + block.now.width) block.now.row
         (block.now.row + length block.now.rows.differences.now)) into.old into.new }
     ensures residues { AreStripResidues block.now.grid block.now.rounding.shift
@@ -87,40 +76,8 @@ fn scan_strips<O: Offers>(
             width,
             end,
         };
-        scan_strip::<O>(&strip, row_limits, column_limits, residues, exacts, into);
+        scan_strip::<O>(&strip, residues, known, into);
     }
-}
-
-/// Takes the pairs of a block.
-fn scan_block<O: Offers>(
-    block: &Block,
-    residues: &mut [i32],
-    exacts: &mut [Option<Exact>],
-    into: &mut O::Into,
-)
-    requires some { 1 ≤ block.now.width }
-    requires strips { length residues.old ≡ div_ceil block.now.width 32 * 32 }
-    requires apart { block.now.row + O.least ≤ block.now.column }
-    requires residues { AreStripResidues block.now.grid block.now.rounding.shift block.now.row block.now.column
-        residues.old }
-    requires exacts { AreExactsIn block.now exacts.old }
-    requires fits { FitIn O.fits block.now into.old }
-    ensures exacts { AreExactsIn block.now exacts.new }
-    ensures scanned { AreScannedIn O.is_scanned block.now (in_block (block.now.column - block.now.row)
-        (block.now.column - block.now.row + block.now.width) block.now.row
-        (block.now.row + length block.now.rows.differences.now)) into.old into.new }
-    ensures residues { AreStripResidues block.now.grid block.now.rounding.shift
-        (block.now.row + length block.now.rows.differences.now)
-        (block.now.column + length block.now.rows.differences.now) residues.new }
-    ensures places { length residues.new ≡ length residues.old }
-{
-    let (mut rows, mut columns) = ([NEVER; ROWS], [NEVER; COLUMNS]);
-    let row_limits = &mut rows[..block.rows.differences.len()];
-    let column_limits = &mut columns[..block.columns.differences.len()];
-    fill_row_limits::<O>(block, row_limits, into);
-    let width = block.width.div_ceil(LANES) * LANES;
-    fill_column_limits::<O>(block, width, column_limits, into);
-    scan_strips::<O>(block, row_limits, column_limits, residues, exacts, into);
 }
 
 /// Takes the pairs of some rows on the diagonals of their group.
@@ -129,19 +86,17 @@ fn scan_rows<O: Offers>(
     room: &mut [i32; ROOM],
     marks: &mut [bool; MARKS],
     residues: &mut [i32],
-    exacts: &mut [Option<Exact>],
+    known: &mut Known,
     into: &mut O::Into,
 )
     requires strips { length residues.old ≡ div_ceil rows.now.group.width 32 * 32 }
     requires apart { O.least ≤ rows.now.group.first }
     requires residues { AreStripResidues rows.now.group.plan.grid rows.now.group.plan.rounding.shift rows.now.row
         (rows.now.row + rows.now.group.first) residues.old }
-    requires exacts { AreExacts rows.now.group.plan.grid rows.now.group.first exacts.old }
-    requires fits { O.fits rows.now.group.plan.grid.m (series_of rows.now.group.plan.grid.rows.now)
-        (series_of rows.now.group.plan.grid.columns.now) into.old }
-    ensures exacts { AreExacts rows.now.group.plan.grid rows.now.group.first exacts.new }
-    ensures scanned { O.is_scanned rows.now.group.plan.grid.m (series_of rows.now.group.plan.grid.rows.now)
-        (series_of rows.now.group.plan.grid.columns.now)
+    requires exacts { AreExacts rows.now.group.plan.grid rows.now.group.first known.old.exacts }
+    requires fits { FitIn O.fits rows.now.group.plan.grid into.old }
+    ensures exacts { AreExacts rows.now.group.plan.grid rows.now.group.first known.new.exacts }
+    ensures scanned { AreScannedIn O.is_scanned rows.now.group.plan.grid
         (in_block rows.now.group.first (rows.now.group.first + rows.now.group.width) rows.now.row
         (rows.now.row + rows.now.count)) into.old into.new }
     ensures residues { AreStripResidues rows.now.group.plan.grid rows.now.group.plan.rounding.shift
@@ -193,36 +148,38 @@ fn scan_rows<O: Offers>(
         free_rows: &free_rows[..count],
         free_columns: &free_columns[..columns],
     };
-    scan_block::<O>(&block, residues, exacts, into);
+    fill_row_limits::<O>(&block, &mut known.rows, into);
+    fill_column_limits::<O>(
+        &block,
+        group.width.div_ceil(LANES) * LANES,
+        &mut known.columns,
+        into,
+    );
+    scan_block::<O>(&block, residues, known, into);
 }
 
 /// Takes the pairs of the rows from `top` on and before `bottom` on the diagonals of a group. Each strip of these has
 /// thirty-two places for residues.
-fn scan_group_by<O: Offers>(
-    group: &Group,
-    top: usize,
-    bottom: usize,
-    residues: &mut [i32],
-    exacts: &mut [Option<Exact>],
-    into: &mut O::Into,
-)
+pub(crate) fn scan_group<O: Offers>(group: &Group, top: usize, bottom: usize, into: &mut O::Into)
     requires top { top ≤ bottom }
-    requires bottom { bottom ≤ windows_of group.now.plan.grid.m (series_of group.now.plan.grid.rows.now) }
-    requires within { top + group.now.first ≤ windows_of group.now.plan.grid.m
-        (series_of group.now.plan.grid.columns.now) }
-    requires strips { length residues.old ≡ div_ceil group.now.width 32 * 32 }
+    requires bottom { bottom ≤ row_windows group.now.plan.grid }
+    requires within { top + group.now.first ≤ column_windows group.now.plan.grid }
     requires apart { O.least ≤ group.now.first }
-    requires exacts { AreExacts group.now.plan.grid group.now.first exacts.old }
-    requires fits { O.fits group.now.plan.grid.m (series_of group.now.plan.grid.rows.now)
-        (series_of group.now.plan.grid.columns.now) into.old }
-    ensures scanned { O.is_scanned group.now.plan.grid.m (series_of group.now.plan.grid.rows.now)
-        (series_of group.now.plan.grid.columns.now)
+    requires fits { FitIn O.fits group.now.plan.grid into.old }
+    ensures scanned { AreScannedIn O.is_scanned group.now.plan.grid
         (in_block group.now.first (group.now.first + group.now.width) top bottom) into.old into.new }
 {
+    let mut places = [0; GROUP];
+    let residues = &mut places[..group.width.div_ceil(LANES) * LANES];
     start_residues(&group.plan, top, top + group.first, residues);
     let columns = count_columns(&group.plan.grid);
     let end = bottom.min(columns - group.first);
     let (mut room, mut marks) = ([0; ROOM], [false; MARKS]);
+    let mut known = Known {
+        rows: [NEVER; ROWS],
+        columns: [NEVER; COLUMNS],
+        exacts: [None; GROUP],
+    };
     let mut row = top;
     while row < end {
         let count = (end - row).min(ROWS);
@@ -231,33 +188,7 @@ fn scan_group_by<O: Offers>(
             row,
             count,
         };
-        scan_rows::<O>(&rows, &mut room, &mut marks, residues, exacts, into);
+        scan_rows::<O>(&rows, &mut room, &mut marks, residues, &mut known, into);
         row += count;
     }
-}
-
-/// Takes the pairs of the rows from `top` on and before `bottom` on the diagonals of a group.
-pub(crate) fn scan_group<O: Offers>(group: &Group, top: usize, bottom: usize, into: &mut O::Into)
-    requires top { top ≤ bottom }
-    requires bottom { bottom ≤ windows_of group.now.plan.grid.m (series_of group.now.plan.grid.rows.now) }
-    requires within { top + group.now.first ≤ windows_of group.now.plan.grid.m
-        (series_of group.now.plan.grid.columns.now) }
-    requires apart { O.least ≤ group.now.first }
-    requires fits { O.fits group.now.plan.grid.m (series_of group.now.plan.grid.rows.now)
-        (series_of group.now.plan.grid.columns.now) into.old }
-    ensures scanned { O.is_scanned group.now.plan.grid.m (series_of group.now.plan.grid.rows.now)
-        (series_of group.now.plan.grid.columns.now)
-        (in_block group.now.first (group.now.first + group.now.width) top bottom) into.old into.new }
-{
-    let mut residues = [0; GROUP];
-    let places = group.width.div_ceil(LANES) * LANES;
-    let mut exacts = [None; GROUP];
-    scan_group_by::<O>(
-        group,
-        top,
-        bottom,
-        &mut residues[..places],
-        &mut exacts,
-        into,
-    );
 }

@@ -1,7 +1,6 @@
 //! The limits of a block's rows and columns, as residues.
 
-ghost use Rattle.std.specs.Prelude.{◌≡◌, ℕ, ◌+◌, ◌<◌, ◌≤◌, length, FitsSigned, false};
-ghost use Rattle.std.specs.Int.{w32};
+ghost use Rattle.std.specs.Prelude.{◌≡◌, ℕ, ◌+◌, ◌<◌, ◌≤◌, length, false};
 ghost use Rattle.mp_defs.specs.Series.{series_of};
 ghost use Rattle.mp_defs.specs.Window.{is_free};
 ghost use Rattle.mp_sums.specs.Limits.{IsBeyond};
@@ -61,12 +60,12 @@ pub(crate) fn column_limit<O: Offers>(block: &Block, first: usize, c: usize, int
 
 /// The limits of all rows.
 pub(crate) fn fill_row_limits<O: Offers>(block: &Block, limits: &mut [i32], into: &O::Into)
-    requires places { length limits.old ≡ length block.now.rows.differences.now }
-    ensures limits { (p : ℕ) → p < length limits.new
+    requires places { length block.now.rows.differences.now ≤ length limits.old }
+    ensures limits { (p : ℕ) → p < length block.now.rows.differences.now
         → IsRowLimit block.now (O.keeps_row into.now) p p (item limits.new p) }
-    ensures places { length limits.new ≡ length block.now.rows.differences.now }
+    ensures places { length limits.new ≡ length limits.old }
 {
-    for p in 0..limits.len() {
+    for p in 0..block.rows.differences.len() {
         limits[p] = row_limit::<O>(block, p, into);
     }
 }
@@ -78,13 +77,12 @@ pub(crate) fn fill_column_limits<O: Offers>(
     limits: &mut [i32],
     into: &O::Into,
 )
-    requires places { length limits.old ≡ length block.now.columns.differences.now }
-    ensures limits { (c : ℕ) → c < length limits.new
+    requires places { length block.now.columns.differences.now ≤ length limits.old }
+    ensures limits { (c : ℕ) → c < length block.now.columns.differences.now
         → IsColumnLimit block.now (O.keeps_column into.now) (first_on width c) c (item limits.new c) }
-    ensures fit { (c : ℕ) → c < length limits.new → FitsSigned w32 (item limits.new c) }
-    ensures places { length limits.new ≡ length block.now.columns.differences.now }
+    ensures places { length limits.new ≡ length limits.old }
 {
-    for c in 0..limits.len() {
+    for c in 0..block.columns.differences.len() {
         limits[c] = column_limit::<O>(block, (c + 1).saturating_sub(width), c, into);
     }
 }

@@ -1,10 +1,11 @@
 //! Rows that are passed over.
 
 ghost use Rattle.std.specs.Prelude.{◌+◌, ◌≤◌};
-ghost use Rattle.mp_scans.specs.Blocks.{AreResiduesAt, in_strip, FitIn, AreScannedIn};
-ghost use Rattle.mp_scans.specs.Limiting.{AreLimits, first_row};
+ghost use Rattle.mp_scans.specs.Blocks.{AreResiduesOf, in_strip};
+ghost use Rattle.mp_scans.specs.Limiting.{IsKnownAt};
+ghost use Rattle.mp_scans.specs.Windows.{AreScannedIn};
 
-use crate::blocks::Strip;
+use crate::blocks::{Known, Strip};
 use crate::offers::Offers;
 use crate::runs::run;
 use std::simd::prelude::*;
@@ -15,21 +16,18 @@ use std::simd::prelude::*;
 pub(crate) fn pass_over<O: Offers>(
     strip: &Strip,
     from: usize,
-    row_limits: &[i32],
-    column_limits: &[i32],
+    known: &Known,
     residues: &mut i32x32,
     into: &O::Into,
 ) -> usize
     requires ordered { from ≤ strip.now.end }
     requires apart { strip.now.block.row + O.least ≤ strip.now.block.column + strip.now.offset }
-    requires fits { FitIn O.fits strip.now.block into.now }
-    requires limits { AreLimits strip.now.block (O.keeps_row into.now) (O.keeps_column into.now)
-        (first_row strip.now.offset from) row_limits.now column_limits.now }
-    requires residues { AreResiduesAt strip.now.block from (from + strip.now.offset) residues.old }
+    requires known { IsKnownAt O.fits O.keeps_row O.keeps_column strip.now from known.now into.now }
+    requires residues { AreResiduesOf strip.now from residues.old }
     ensures behind { from ≤ result }
     ensures within { result ≤ strip.now.end }
-    ensures residues { AreResiduesAt strip.now.block result (result + strip.now.offset) residues.new }
-    ensures scanned { AreScannedIn O.is_scanned strip.now.block (in_strip strip.now from result) into.now into.now }
+    ensures residues { AreResiduesOf strip.now result residues.new }
+    ensures scanned { AreScannedIn O.is_scanned strip.now.block.grid (in_strip strip.now from result) into.now into.now }
 {
-    run(strip, from, row_limits, column_limits, residues)
+    run(strip, from, known, residues)
 }

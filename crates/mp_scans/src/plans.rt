@@ -2,9 +2,8 @@
 
 ghost use Rattle.std.specs.Prelude.{◌≡◌, ◌≤◌, length, true};
 ghost use Rattle.mp_series.specs.declared.limits.TheConstants.{MAX_SAMPLES};
-ghost use Rattle.mp_defs.specs.Series.{series_of};
-ghost use Rattle.mp_defs.specs.Profile.{windows_of};
 ghost use Rattle.mp_scans.specs.Distances.{AreDistances, MayBeDistances};
+ghost use Rattle.mp_scans.specs.Windows.{column_windows};
 
 use crate::shifts::shift_for;
 use mp_sums::{Grid, Rounding};
@@ -92,7 +91,7 @@ impl<'a> Plan<'a> {
 /// How many windows the series of the columns has.
 #[inline]
 pub(crate) fn count_columns(grid: &Grid) -> usize
-    ensures { result ≡ windows_of grid.now.m (series_of grid.now.columns.now) }
+    ensures { result ≡ column_windows grid.now }
 {
     (grid.columns.len() + 1).saturating_sub(grid.m)
 }

@@ -1,12 +1,11 @@
 //! Rows in which no pair is within a limit, on thirty-two diagonals at once.
 
-ghost use Rattle.std.specs.Prelude.{◌≡◌, ℕ, ◌+◌, ◌<◌, ◌≤◌, length, FitsSigned};
+ghost use Rattle.std.specs.Prelude.{ℕ, ◌+◌, ◌<◌, ◌≤◌, length, FitsSigned};
 ghost use Rattle.std.specs.Int.{w32};
 ghost use Rattle.mp_sums.specs.Residues.{item};
-ghost use Rattle.mp_scans.specs.Lanes.{AreLanes};
-ghost use Rattle.mp_scans.specs.Blocks.{residue_in, AreResiduesAt, AreAbove};
+ghost use Rattle.mp_scans.specs.Blocks.{AreResiduesAt, AreResiduesOf, AreAbove};
 
-use crate::blocks::{Block, Strip};
+use crate::blocks::{Block, Known, Strip};
 use crate::vectors::{LANES, is_within, step};
 use std::simd::prelude::*;
 
@@ -32,28 +31,21 @@ pub(crate) fn advance(block: &Block, k: usize, c: usize, residues: &mut i32x32)
 ///
 /// It stands apart, so that the residues stay in registers.
 #[inline(never)]
-pub(crate) fn run(
-    strip: &Strip,
-    from: usize,
-    row_limits: &[i32],
-    column_limits: &[i32],
-    residues: &mut i32x32,
-) -> usize
+pub(crate) fn run(strip: &Strip, from: usize, known: &Known, residues: &mut i32x32) -> usize
     requires ordered { from ≤ strip.now.end }
-    requires row_limits { length row_limits.now ≡ length strip.now.block.rows.differences.now }
-    requires column_limits { length column_limits.now ≡ length strip.now.block.columns.differences.now }
-    requires column_fit { (q : ℕ) → q < length column_limits.now → FitsSigned w32 (item column_limits.now q) }
-    requires residues { AreResiduesAt strip.now.block from (from + strip.now.offset) residues.old }
+    requires fit { (c : ℕ) → c < length strip.now.block.columns.differences.now
+        → FitsSigned w32 (item known.now.columns c) }
+    requires residues { AreResiduesOf strip.now from residues.old }
     ensures behind { from ≤ result }
     ensures within { result ≤ strip.now.end }
-    ensures residues { AreResiduesAt strip.now.block result (result + strip.now.offset) residues.new }
-    ensures above { AreAbove strip.now.block strip.now.offset row_limits.now column_limits.now from result }
+    ensures residues { AreResiduesOf strip.now result residues.new }
+    ensures above { AreAbove strip.now known.now.rows known.now.columns from result }
 {
     let strip = *strip;
     let mut next = *residues;
     for q in from..strip.end {
         let c = q + strip.offset;
-        if is_within(&next, &row_limits[q], &column_limits[c..c + LANES]) {
+        if is_within(&next, &known.rows[q], &known.columns[c..c + LANES]) {
             *residues = next;
             return q;
         }

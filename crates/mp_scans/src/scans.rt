@@ -1,9 +1,8 @@
 //! The scan of a tile.
 
 ghost use Rattle.std.specs.Prelude.{◌≤◌};
-ghost use Rattle.mp_defs.specs.Series.{series_of};
-ghost use Rattle.mp_defs.specs.Profile.{windows_of};
 ghost use Rattle.mp_scans.specs.Offering.{in_block};
+ghost use Rattle.mp_scans.specs.Windows.{row_windows, FitIn, AreScannedIn};
 ghost use Rattle.mp_scans.specs.declared.sizes.TheConstants.{GROUP};
 
 use crate::groups::{Group, scan_group};
@@ -42,11 +41,9 @@ pub fn scan<O: Offers>(
 )
     requires apart { O.least ≤ first }
     requires top { top ≤ bottom }
-    requires bottom { bottom ≤ windows_of plan.now.grid.m (series_of plan.now.grid.rows.now) }
-    requires fits { O.fits plan.now.grid.m (series_of plan.now.grid.rows.now) (series_of plan.now.grid.columns.now)
-        into.old }
-    ensures scanned { O.is_scanned plan.now.grid.m (series_of plan.now.grid.rows.now)
-        (series_of plan.now.grid.columns.now) (in_block first end top bottom) into.old into.new }
+    requires bottom { bottom ≤ row_windows plan.now.grid }
+    requires fits { FitIn O.fits plan.now.grid into.old }
+    ensures scanned { AreScannedIn O.is_scanned plan.now.grid (in_block first end top bottom) into.old into.new }
 {
     // on the diagonals behind these every row from `top` on is past the last column
     let columns = count_columns(&plan.grid).saturating_sub(top);

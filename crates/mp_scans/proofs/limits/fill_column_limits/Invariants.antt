@@ -1,4 +1,4 @@
-use Rattle.std.proofs.Common.{◌≡◌, ℕ, ◌<◌, length, w32, FitsSigned}
+use Rattle.std.proofs.Common.{◌≡◌, ℕ, ◌<◌, length}
 use Rattle.mp_sums.specs.Residues.{item}
 use Rattle.mp_scans.specs.Limiting.{IsColumnLimit, first_on}
 use Rattle.mp_scans.proofs.limits.fill_column_limits.Given as goal
@@ -8,5 +8,4 @@ invariant-loop-c g l = record {
   places : length l.limits ≡ length l.initial.limits;
   done : (q : ℕ) → q < l.c
       → IsColumnLimit l.block (g.O.Offers.keeps_column l.into) (first_on l.width q) q (item l.limits q);
-  fit : (q : ℕ) → q < l.c → FitsSigned w32 (item l.limits q);
 }

@@ -1,4 +1,4 @@
-use Rattle.std.proofs.Common.{◌+◌, arith, refl}
+use Rattle.std.proofs.Common.{◌+◌, arith}
 use Rattle.mp_defs.specs.Series.{series_of}
 use Rattle.mp_scans.proofs.LimitLemmas.{quiet_at}
 use Rattle.mp_scans.proofs.pairs.offer_at.Goals as goal
@@ -6,21 +6,12 @@ use Rattle.mp_scans.proofs.pairs.offer_at.Goals as goal
 pub returns-then-may_give : goal.returns-then-may_give
 returns-then-may_give g c =
     let b = c.args.block.now in
-    record {
-      scanned =
-          c.offer.ensures b.grid.m (series_of b.grid.rows.now) (series_of b.grid.columns.now) c.requires.fits
-          (omega (arith, c.requires.row, b.are_rows)) c.requires.is_column c.requires.dist;
-      same = λ e. absurd (cc);
-    }
+    c.offer.ensures b.grid.m (series_of b.grid.rows.now) (series_of b.grid.columns.now) c.requires.fits
+    (omega (arith, c.requires.row, b.are_rows)) c.requires.is_column c.requires.dist
 
 pub returns-else-may_give : goal.returns-else-may_give
 returns-else-may_give g c =
-    let o = g.O.Offers in
     let b = c.args.block.now in
-    record {
-      scanned =
-          quiet_at o.least o.fits o.is_scanned o.keeps_row o.keeps_column g.met.O.Offers.limits b (b.row + c.args.p)
-          (b.column + c.args.c) c.args.dist c.args.into.now c.requires.apart c.requires.fits c.requires.dist
-          (c.may_give.ensures.row c.if-may_give.false) (c.may_give.ensures.column c.if-may_give.false);
-      same = λ _. refl;
-    }
+    quiet_at g.met.O.Offers.limits b.grid (b.row + c.args.p) (b.column + c.args.c) c.args.dist c.args.into.now
+    c.requires.fits c.requires.apart c.requires.dist (c.may_give.ensures.row c.if-may_give.false)
+    (c.may_give.ensures.column c.if-may_give.false)

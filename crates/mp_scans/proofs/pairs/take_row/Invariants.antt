@@ -1,9 +1,8 @@
 use Rattle.std.proofs.Common.{◌+◌, ◌-◌, ◌≤◌}
 use Rattle.std.specs.Prelude.{◌||◌}
-use Rattle.mp_scans.specs.Exacts.{AreExactsIn}
-use Rattle.mp_scans.specs.Blocks.{FitIn, AreScannedIn}
-use Rattle.mp_scans.specs.Limiting.{AreLimits, AreKept, first_row}
+use Rattle.mp_scans.specs.Limiting.{IsKnownAt, AreKept}
 use Rattle.mp_scans.specs.Offering.{only, in_row}
+use Rattle.mp_scans.specs.Windows.{AreScannedIn}
 use Rattle.mp_scans.proofs.pairs.take_row.Given as goal
 
 abbrev pub invariant-loop-t : goal.invariant-loop-t
@@ -14,14 +13,11 @@ invariant-loop-t g l =
     let first = b.column + (l.row.place + l.strip.offset) in
     record {
       within : l.t ≤ l.row.width;
-      exacts : AreExactsIn b l.exacts;
-      fits : FitIn offers.fits b l.into;
-      scanned : AreScannedIn offers.is_scanned b
+      scanned : AreScannedIn offers.is_scanned b.grid
           (λ i j. only r (first + l.nearest) i j || in_row r first (first + l.t) i j) l.fn.into l.into;
       kept : AreKept b (offers.keeps_row l.into) (offers.keeps_column l.into) l.row.place
           (l.row.place + l.strip.offset) l.above;
-      limits : AreLimits b (offers.keeps_row l.into) (offers.keeps_column l.into) (first_row l.strip.offset l.row.place)
-          l.row_limits l.column_limits;
+      known : IsKnownAt offers.fits offers.keeps_row offers.keeps_column l.strip l.row.place l.known l.into;
     }
 
 abbrev pub decreases-loop-t : goal.decreases-loop-t

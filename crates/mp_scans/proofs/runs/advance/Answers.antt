@@ -10,13 +10,15 @@ pub step-requires-clause-differences : goal.step-requires-clause-differences
 step-requires-clause-differences c =
     let b = c.args.block.now in
     part_lanes _ c.args.c (c.args.c + 32 - c.args.c) (omega arith) c.requires.columns
-    (difference_fits b.grid.m (rounded_columns b) b.column _ _ b.column_changes)
+    (λ t lt. difference_fits b.grid.m (rounded_columns b) b.column _ _ b.column_changes (c.args.c + t)
+    (omega (arith, lt, c.requires.columns)))
 
 pub step-requires-clause-sums : goal.step-requires-clause-sums
 step-requires-clause-sums c =
     let b = c.args.block.now in
     part_lanes _ c.args.c (c.args.c + 32 - c.args.c) (omega arith) (omega (arith, b.column_changes.same))
-    (sum_fits b.grid.m (rounded_columns b) b.column _ _ b.column_changes)
+    (λ t lt. sum_fits b.grid.m (rounded_columns b) b.column _ _ b.column_changes (c.args.c + t)
+    (omega (arith, lt, c.requires.columns)))
 
 pub returns : goal.returns
 returns c =

@@ -1,19 +1,17 @@
 use Rattle.std.proofs.Common.{◌≡◌, ◌-◌, ◌≤◌, ◌⊎◌}
-use Rattle.mp_defs.specs.Series.{series_of}
 use Rattle.mp_scans.specs.Offering.{in_block}
+use Rattle.mp_scans.specs.Windows.{FitIn, AreScannedIn}
 use Rattle.mp_scans.proofs.scans.scan.Given as goal
 
 abbrev pub invariant-loop-start : goal.invariant-loop-start
 invariant-loop-start g l =
     let offers = g.O.Offers in
     let grid = l.plan.grid in
-    let a = series_of grid.rows.now in
-    let b = series_of grid.columns.now in
     record {
       after : l.first ≤ l.start;
       order : (l.start ≤ l.stop) ⊎ (l.start ≡ l.first);
-      fits : offers.fits grid.m a b l.into;
-      scanned : offers.is_scanned grid.m a b (in_block l.first l.start l.top l.bottom) l.initial.into l.into;
+      fits : FitIn offers.fits grid l.into;
+      scanned : AreScannedIn offers.is_scanned grid (in_block l.first l.start l.top l.bottom) l.initial.into l.into;
     }
 
 abbrev pub decreases-loop-start : goal.decreases-loop-start

@@ -1,25 +1,24 @@
 use Rattle.std.proofs.Common.{◌≡◌, ◌+◌, ◌-◌, ◌≤◌, ◌⊎◌, length}
-use Rattle.mp_defs.specs.Series.{series_of}
 use Rattle.mp_scans.specs.Blocks.{AreStripResidues}
 use Rattle.mp_scans.specs.Exacts.{AreExacts}
 use Rattle.mp_scans.specs.Offering.{in_block}
-use Rattle.mp_scans.proofs.groups.scan_group_by.Given as goal
+use Rattle.mp_scans.specs.Windows.{FitIn, AreScannedIn}
+use Rattle.mp_scans.proofs.groups.scan_group.Given as goal
 
 abbrev pub invariant-loop-row : goal.invariant-loop-row
 invariant-loop-row g l =
     let offers = g.O.Offers in
     let grid = l.group.plan.grid in
-    let a = series_of grid.rows.now in
-    let b = series_of grid.columns.now in
     let first = l.group.first in
     record {
       after : l.top ≤ l.row;
       order : (l.row ≤ l.end) ⊎ (l.row ≡ l.top);
-      exacts : AreExacts grid first l.exacts;
-      fits : offers.fits grid.m a b l.into;
-      scanned : offers.is_scanned grid.m a b (in_block first (first + l.group.width) l.top l.row) l.initial.into l.into;
+      fits : FitIn offers.fits grid l.into;
+      exacts : AreExacts grid first l.known.exacts;
+      scanned : AreScannedIn offers.is_scanned grid (in_block first (first + l.group.width) l.top l.row)
+          l.initial.into l.into;
       residues : AreStripResidues grid l.group.plan.rounding.shift l.row (l.row + first) l.residues;
-      places : length l.residues ≡ length l.fn.residues;
+      places : length l.residues ≡ length l.initial.residues;
     }
 
 abbrev pub decreases-loop-row : goal.decreases-loop-row
