@@ -3,6 +3,7 @@ pub mod Plans
 pub mod Among
 pub mod Sides
 pub mod Scanning
+pub mod PatchScanning
 pub mod TakenLaws
 pub mod OfferingLaws
 pub mod LimitLaws
@@ -10,5 +11,4 @@ pub mod Laws
 pub mod SideLaws
 pub mod Pieces
 pub mod Near
-pub mod PatchScanning
 pub mod PatchLaws

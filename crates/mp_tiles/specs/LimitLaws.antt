@@ -1,76 +1,23 @@
 -- Why limits hold of each way of offering windows.
-use Rattle.std.proofs.Common.{◌≡◌, ◌≢◌, ℕ, zero, suc, ◌+◌, ◌<◌, ◌≤◌, ◌⊎◌, inl, inr, length, get_or, Bool, true, false}
+use Rattle.std.proofs.Common.{◌≡◌, ℕ, ◌+◌, ◌<◌, ◌≤◌, ◌⊎◌, inl, inr, get_or, Bool, true, false}
 use Rattle.std.proofs.Common.{refl, sym, ap, ◌∙◌, arith, subst}
-use Rattle.std.specs.Prelude.{Option, Some, None, ◌&&◌, ◌||◌, nat_lt, if◌then◌else◌, ⊤}
+use Rattle.std.specs.Prelude.{Some, None, ◌&&◌, ◌||◌, nat_lt, ⊤}
 use Rattle.std.proofs.lemmas.Bool.Decides.{nat_tests}
-use Rattle.mp_nums.specs.declared.nearest.Near.{Near}
-use Rattle.mp_nums.specs.Near.{nearer_of}
-use Rattle.mp_nums.specs.NearLaws.{nearer_commutes, nearer_associates, nearer_with_none}
 use Rattle.mp_defs.specs.Series.{Series}
 use Rattle.mp_defs.specs.Distance.{distance}
-use Rattle.mp_defs.specs.Least.{near_at, at_distance, candidate, near}
-use Rattle.mp_defs.specs.Profile.{nearest, windows_of}
+use Rattle.mp_defs.specs.Profile.{windows_of}
 use Rattle.mp_defs.specs.DistanceLaws.{symmetric}
-use Rattle.mp_defs.specs.LeastLaws.{grows_by_one_candidate}
-use Rattle.mp_partial.specs.Values.{Column}
 use Rattle.mp_partial.specs.Profiled.{Profiled}
-use Rattle.mp_scans.specs.Offering.{only, IsLimiting}
+use Rattle.mp_scans.specs.Offering.{IsLimiting}
 use Rattle.mp_scans.specs.Slots.{Covers}
 use Rattle.mp_tiles.specs.declared.offers.ColumnToRow.{ColumnToRow}
 use Rattle.mp_tiles.specs.declared.offers.RowToColumn.{RowToColumn}
 use Rattle.mp_tiles.specs.Among.{either_way}
 use Rattle.mp_tiles.specs.Sides.{Sided, sides_of}
 use Rattle.mp_tiles.specs.Scanning.{AreSided}
-use Rattle.mp_tiles.specs.TakenLaws.{HasTaken, at_taken, are_taken}
+use Rattle.mp_tiles.specs.TakenLaws.{taken_quiet, taken_stays}
 use Rattle.mp_tiles.specs.OfferingLaws.{fits_sides, is_scanned_sides, fits_each, is_scanned_each}
 use Rattle.mp_tiles.specs.OfferingLaws.{fits_rows, is_scanned_rows, fits_columns, is_scanned_columns, turned}
-
--- ---- one slot
-
-pub covers_more : (s x : Option Near) (j d : ℕ) → Covers s j d → Covers (nearer_of s x) j d
-covers_more s x j d h =
-    let c : Option Near = Some (near_at j d) in
-    nearer_associates s x c ∙ ap (nearer_of s) (nearer_commutes x c) ∙ sym (nearer_associates s c x)
-    ∙ ap (λ y. nearer_of y x) h
-
-near_quiet : (slot : Option Near) (c : ℕ → Option Near) (n : ℕ) → ((j : ℕ) → j < n → nearer_of slot (c j) ≡ slot)
-    → nearer_of slot (near c n) ≡ slot
-near_quiet slot c zero h = ap (nearer_of slot) (grows_by_one_candidate.no_candidates c) ∙ (nearer_with_none slot).1
-near_quiet slot c (suc n) h =
-    let one : n + 1 ≡ suc n = omega arith in
-    subst (λ k. nearer_of slot (near c k) ≡ slot) one
-    (ap (nearer_of slot) (grows_by_one_candidate.one_more c n) ∙ sym (nearer_associates slot (near c n) (c n))
-    ∙ ap (λ s. nearer_of s (c n)) (near_quiet slot c n (λ j lt. h j (omega (arith, lt)))) ∙ h n (omega arith))
-
-by_test : (t : Bool) (j : ℕ) (dist : Option ℕ) (slot : Option Near)
-    → ((d : ℕ) → t ≡ true → dist ≡ Some d → Covers slot j d)
-    → nearer_of slot (if t then at_distance j dist else None) ≡ slot
-by_test true j None slot h = (nearer_with_none slot).1
-by_test true j (Some d) slot h = h d refl refl
-by_test false j dist slot h = (nearer_with_none slot).1
-
-pub nearest_quiet : (slot : Option Near) (p : ℕ → Bool) (m : ℕ) (a : Series) (i : ℕ) (b : Series)
-    → ((j d : ℕ) → j < windows_of m b → p j ≡ true → distance m a i b j ≡ Some d → Covers slot j d)
-    → nearer_of slot (nearest m p a i b) ≡ slot
-nearest_quiet slot p m a i b h =
-    near_quiet slot (candidate p (λ j. distance m a i b j)) (windows_of m b)
-    (λ j lt. by_test (p j) j (distance m a i b j) slot (λ d is found. h j d lt is found))
-
--- ---- one column
-
-taken_quiet : (p : ℕ → ℕ → Bool) (m : ℕ) (a b : Series) (old : Column) → length old ≡ windows_of m a
-    → ((i j d : ℕ) → i < windows_of m a → j < windows_of m b → p i j ≡ true → distance m a i b j ≡ Some d
-    → Covers (get_or old i None) j d)
-    → HasTaken p m a b old old
-taken_quiet p m a b old l h =
-    are_taken p m a b old old l l
-    (λ k below. sym (nearest_quiet (get_or old k None) (p k) m a k b (λ j d lt is found. h k j d below lt is found)))
-
-taken_stays : (p : ℕ → ℕ → Bool) (m : ℕ) (a b : Series) (old new : Column) (i j d : ℕ) → length old ≡ windows_of m a
-    → i < windows_of m a → HasTaken p m a b old new → Covers (get_or old i None) j d → Covers (get_or new i None) j d
-taken_stays p m a b old new i j d l lt h covers =
-    subst (λ s. Covers s j d) (sym (at_taken p m a b old new i l lt h))
-    (covers_more (get_or old i None) (nearest m (p i) a i b) j d covers)
 
 -- ---- tests
 
@@ -88,12 +35,6 @@ last_true false t e = absurd (cc)
 
 is_less : (i j : ℕ) → nat_lt i j ≡ true → i < j
 is_less i j e = grind (arith, nat_tests)
-
-pub pair_is : (i j : ℕ) → only i j i j ≡ true
-pair_is i j = grind (arith, nat_tests)
-
-pub no_other_column : (i j c : ℕ) → c ≢ j → only i j i c ≡ false
-no_other_column i j c ne = grind (arith, nat_tests)
 
 -- ---- each of two windows of a series to the other, on its side
 

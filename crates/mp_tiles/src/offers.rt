@@ -6,23 +6,20 @@ ghost use Rattle.mp_defs.specs.Distance.{distance};
 ghost use Rattle.mp_defs.specs.Profile.{windows_of};
 ghost use Rattle.mp_partial.specs.Values.{offered};
 ghost use Rattle.mp_scans.specs.Offering.{only};
-ghost use Rattle.mp_tiles.specs.OfferingLaws.{fits_sides, may_sides, is_scanned_sides, on_both_sides};
 ghost use Rattle.mp_tiles.specs.OfferingLaws.{fits_each, may_each, is_scanned_each, each_to_other};
 ghost use Rattle.mp_tiles.specs.OfferingLaws.{fits_rows, may_row, is_scanned_rows, column_to_row};
 ghost use Rattle.mp_tiles.specs.OfferingLaws.{fits_columns, may_column, is_scanned_columns, row_to_column};
 ghost use Rattle.mp_tiles.specs.PatchScanning.{HasTakenFrom, fits_patch, may_patch, is_scanned_patch};
 ghost use Rattle.mp_tiles.specs.PatchScanning.{keeps_row_patch, keeps_column_patch};
 ghost use Rattle.mp_tiles.specs.PatchLaws.{patch_offers, patch_limits};
-ghost use Rattle.mp_tiles.specs.LimitLaws.{keeps_row_sides, keeps_column_sides, side_limits};
 ghost use Rattle.mp_tiles.specs.LimitLaws.{keeps_row_each, keeps_column_each, each_limits};
 ghost use Rattle.mp_tiles.specs.LimitLaws.{keeps_row_slot, keeps_column_slot, keeps_all, row_limits, column_limits};
 
 use crate::limits::{either, limit_at};
-use crate::sides::Sides;
 use mp_nums::{Near, Slot, Sq, nearer};
 use mp_partial::{Patch, Profile};
 use mp_scans::Offers;
-use mp_sums::{Limit, Rounding};
+use mp_sums::Limit;
 
 /// Each of two windows of one series is offered to the other, on the side on which it starts.
 pub(crate) struct OnBothSides;
@@ -43,51 +40,6 @@ pub(crate) struct ColumnToRow<'a> {
 #[derive(Drop)]
 pub(crate) struct RowToColumn<'a> {
     pub(crate) slots: &'a mut [Slot],
-}
-
-impl Offers for OnBothSides {
-    type Into = Sides;
-
-    ghost least = { 1 };
-
-    ghost fits = { fits_sides };
-
-    ghost may_offer = { may_sides };
-
-    ghost is_scanned = { is_scanned_sides };
-
-    ghost laws = { on_both_sides };
-
-    ghost keeps_row = { keeps_row_sides };
-
-    ghost keeps_column = { keeps_column_sides };
-
-    ghost limits = { side_limits };
-
-    #[inline]
-    fn offer(into: &mut Sides, row: u64, column: u64, dist: Sq) {
-        into.offer(row, column, dist);
-    }
-
-    #[inline]
-    fn row_limit(into: &Sides, row: u64, first: u64) -> Limit {
-        into.right_limit(row, first)
-    }
-
-    #[inline]
-    fn column_limit(into: &Sides, column: u64, first: u64) -> Limit {
-        into.left_limit(column, first)
-    }
-
-    #[inline]
-    fn row_bound(into: &Sides, rounding: &Rounding, row: u64, first: u64) -> i32 {
-        into.right_bound(rounding, row, first)
-    }
-
-    #[inline]
-    fn column_bound(into: &Sides, rounding: &Rounding, column: u64, first: u64) -> i32 {
-        into.left_bound(rounding, column, first)
-    }
 }
 
 impl Offers for EachToOther {

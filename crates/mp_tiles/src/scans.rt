@@ -3,15 +3,15 @@
 ghost use Rattle.std.specs.Prelude.{◌≡◌, ◌+◌, ◌-◌, ◌*◌, ◌<◌, ◌≤◌, [], ◌∷◌, length};
 ghost use Rattle.mp_defs.specs.Series.{series_of};
 ghost use Rattle.mp_defs.specs.Window.{windows, excl};
-ghost use Rattle.mp_defs.specs.Profile.{windows_of, nearest_column};
+ghost use Rattle.mp_defs.specs.Profile.{nearest_column};
 ghost use Rattle.mp_partial.specs.Values.{HasColumns, merged_column};
 ghost use Rattle.mp_partial.specs.Patching.{slots_from};
 ghost use Rattle.mp_cuts.specs.Pairs.{on_its_diagonals, has_pair, IsTileBetween};
 ghost use Rattle.mp_cuts.specs.Cutting.{diagonals_between};
 ghost use Rattle.mp_scans.specs.Offering.{in_block};
-ghost use Rattle.mp_tiles.specs.Plans.{row_series, column_series};
+ghost use Rattle.mp_scans.specs.Windows.{row_windows, column_windows, FitIn, AreScannedIn};
 ghost use Rattle.mp_tiles.specs.Among.{profile_among};
-ghost use Rattle.mp_tiles.specs.TakenLaws.{HasTaken};
+ghost use Rattle.mp_tiles.specs.TakenLaws.{HasTakenIn};
 ghost use Rattle.mp_tiles.specs.OfferingLaws.{turned};
 
 use crate::offers::{ColumnToRow, EachInPatch, EachToOther, RowToColumn};
@@ -26,11 +26,9 @@ use mp_sums::Grid;
 /// Offers the pairs of a tile of a series.
 pub(crate) fn scan_tile<O: Offers>(plan: &Plan, tile: &Tile, into: &mut O::Into)
     requires apart { O.least ≤ tile.now.first }
-    requires tile { IsTileBetween 1 (windows_of plan.now.grid.m (row_series plan.now))
-        (windows_of plan.now.grid.m (row_series plan.now)) tile.now }
-    requires fits { O.fits plan.now.grid.m (row_series plan.now) (column_series plan.now) into.old }
-    ensures scanned { O.is_scanned plan.now.grid.m (row_series plan.now) (column_series plan.now)
-        (has_pair 0 tile.now) into.old into.new }
+    requires tile { IsTileBetween 1 (row_windows plan.now.grid) (row_windows plan.now.grid) tile.now }
+    requires fits { FitIn O.fits plan.now.grid into.old }
+    ensures scanned { AreScannedIn O.is_scanned plan.now.grid (has_pair 0 tile.now) into.old into.new }
 {
     scan::<O>(
         plan,
@@ -97,9 +95,8 @@ pub fn scan_patch(samples: &[Sample], m: u32, tile: &Tile, into: &mut Patch)
 
 /// Offers to rows the columns that start from `first` on and before `end` behind them.
 fn scan_later(plan: &Plan, first: usize, end: usize, slots: &mut [Slot])
-    requires places { length slots.old ≡ windows_of plan.now.grid.m (row_series plan.now) }
-    ensures taken { HasTaken (in_block first end 0 (length slots.old)) plan.now.grid.m (row_series plan.now)
-        (column_series plan.now) slots.old slots.new }
+    requires places { length slots.old ≡ row_windows plan.now.grid }
+    ensures taken { HasTakenIn (in_block first end 0 (length slots.old)) plan.now.grid slots.old slots.new }
 {
     let rows = slots.len();
     let mut into = ColumnToRow { slots };
@@ -108,10 +105,9 @@ fn scan_later(plan: &Plan, first: usize, end: usize, slots: &mut [Slot])
 
 /// Offers to rows the columns that start from `first` on and before `end` before them.
 fn scan_earlier(plan: &Plan, first: usize, end: usize, slots: &mut [Slot])
-    requires places { length slots.old ≡ windows_of plan.now.grid.m (row_series plan.now) }
-    ensures taken { HasTaken
-        (turned (in_block first end 0 (windows_of plan.now.grid.m (column_series plan.now)))) plan.now.grid.m
-        (row_series plan.now) (column_series plan.now) slots.old slots.new }
+    requires places { length slots.old ≡ row_windows plan.now.grid }
+    ensures taken { HasTakenIn (turned (in_block first end 0 (column_windows plan.now.grid))) plan.now.grid slots.old
+        slots.new }
 {
     let columns = (plan.grid.columns.len() + 1).saturating_sub(plan.grid.m);
     let mut into = RowToColumn { slots };
@@ -123,9 +119,8 @@ fn scan_diagonals(plan: &Plan, origin: usize, tile: &Tile, slots: &mut [Slot])
     requires origin { origin < MAX_SAMPLES }
     requires ordered { tile.now.first ≤ tile.now.last }
     requires last { tile.now.last < 2 * MAX_SAMPLES }
-    requires places { length slots.old ≡ windows_of plan.now.grid.m (row_series plan.now) }
-    ensures taken { HasTaken (on_its_diagonals origin tile.now) plan.now.grid.m (row_series plan.now)
-        (column_series plan.now) slots.old slots.new }
+    requires places { length slots.old ≡ row_windows plan.now.grid }
+    ensures taken { HasTakenIn (on_its_diagonals origin tile.now) plan.now.grid slots.old slots.new }
     ensures places { length slots.new ≡ length slots.old }
 {
     let (first, end) = (tile.first as usize, tile.last as usize + 1);
@@ -139,12 +134,10 @@ fn scan_diagonals(plan: &Plan, origin: usize, tile: &Tile, slots: &mut [Slot])
 /// Offers to the tile's rows its columns. These rows are compared as the windows of a series that has no others, since
 /// each diagonal then begins with its first row or with the first column.
 fn scan_rows(plan: &Plan, tile: &Tile, slots: &mut [Slot])
-    requires tile { IsTileBetween 0 (diagonals_between (windows_of plan.now.grid.m (row_series plan.now))
-        (windows_of plan.now.grid.m (column_series plan.now))) (windows_of plan.now.grid.m (row_series plan.now))
-        tile.now }
-    requires places { length slots.old ≡ windows_of plan.now.grid.m (row_series plan.now) }
-    ensures taken { HasTaken (has_pair (length slots.old - 1) tile.now) plan.now.grid.m (row_series plan.now)
-        (column_series plan.now) slots.old slots.new }
+    requires tile { IsTileBetween 0 (diagonals_between (row_windows plan.now.grid) (column_windows plan.now.grid))
+        (row_windows plan.now.grid) tile.now }
+    requires places { length slots.old ≡ row_windows plan.now.grid }
+    ensures taken { HasTakenIn (has_pair (length slots.old - 1) tile.now) plan.now.grid slots.old slots.new }
 {
     let (top, bottom) = (tile.first_row as usize, tile.last_row as usize + 1);
     let origin = slots.len() - 1 - top;
@@ -154,12 +147,11 @@ fn scan_rows(plan: &Plan, tile: &Tile, slots: &mut [Slot])
 
 /// Offers to the tile's rows its columns.
 pub(crate) fn scan_join(plan: &Plan, tile: &Tile, into: &mut Slots)
-    requires tile { IsTileBetween 0 (diagonals_between (windows_of plan.now.grid.m (row_series plan.now))
-        (windows_of plan.now.grid.m (column_series plan.now))) (windows_of plan.now.grid.m (row_series plan.now))
-        tile.now }
-    requires places { length into.old.items ≡ windows_of plan.now.grid.m (row_series plan.now) }
-    ensures taken { HasTaken (has_pair (length into.old.items - 1) tile.now) plan.now.grid.m (row_series plan.now)
-        (column_series plan.now) into.old.items into.new.items }
+    requires tile { IsTileBetween 0 (diagonals_between (row_windows plan.now.grid) (column_windows plan.now.grid))
+        (row_windows plan.now.grid) tile.now }
+    requires places { length into.old.items ≡ row_windows plan.now.grid }
+    ensures taken { HasTakenIn (has_pair (length into.old.items - 1) tile.now) plan.now.grid into.old.items
+        into.new.items }
     ensures places { length into.new.items ≡ length into.old.items }
     ensures spare { into.new.spare ≡ into.old.spare }
 {

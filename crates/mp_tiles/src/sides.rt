@@ -1,15 +1,16 @@
 //! The nearest windows on both sides.
 
-ghost use Rattle.std.specs.Prelude.{◌≡◌, ℕ, ◌<◌, ◌≤◌, [], ◌∷◌, length, slice_index_or, None};
-ghost use Rattle.mp_sums.specs.Limits.{IsBeyond};
-ghost use Rattle.mp_scans.specs.Offering.{TellsNothing};
-ghost use Rattle.mp_scans.specs.Slots.{Covers};
+ghost use Rattle.std.specs.Prelude.{◌≡◌, ◌<◌, ◌≤◌, [], ◌∷◌, length};
 ghost use Rattle.mp_partial.specs.Values.{HasColumns, empty_columns, merged_column, merged_columns, offered};
 ghost use Rattle.mp_partial.specs.MergeLaws.{columns_merge};
+ghost use Rattle.mp_tiles.specs.OfferingLaws.{fits_sides, may_sides, is_scanned_sides, on_both_sides};
+ghost use Rattle.mp_tiles.specs.LimitLaws.{keeps_row_sides, keeps_column_sides, side_limits};
 
 use crate::columns::Column;
+use crate::offers::OnBothSides;
 use mp_nums::{Memory, Near, Sq};
 use mp_partial::{Part, Profile};
+use mp_scans::Offers;
 use mp_sums::{Limit, Rounding};
 use std::alloc::Global;
 use std::marker::Model;
@@ -42,51 +43,12 @@ impl Sides {
         self.left.len() as u64
     }
 
-    /// Which distances of the windows that start at `first` or later may still give a window a nearer one that starts
-    /// later.
-    #[inline]
-    pub(crate) fn right_limit(&self, window: u64, first: u64) -> Limit
-        ensures { (index dist : ℕ) → first ≤ index → IsBeyond result dist
-            → Covers (slice_index_or self.now.right window None) index dist }
-    {
-        self.right.limit(window, first)
-    }
-
-    /// Which distances of the windows that start at `first` or later may still give a window a nearer one that starts
-    /// earlier.
-    #[inline]
-    pub(crate) fn left_limit(&self, window: u64, first: u64) -> Limit
-        ensures { (index dist : ℕ) → first ≤ index → IsBeyond result dist
-            → Covers (slice_index_or self.now.left window None) index dist }
-    {
-        self.left.limit(window, first)
-    }
-
     /// Has bounds of residues be those of samples rounded so.
     pub(crate) fn round_by(&mut self, rounding: &Rounding)
         ensures { self.new ≡ self.old }
     {
         self.left.round_by(rounding);
         self.right.round_by(rounding);
-    }
-
-    /// A residue of pairs by a rounding, such that windows from `first` on with a greater one give a window no nearer one
-    /// that starts later.
-    #[inline]
-    pub(crate) fn right_bound(&self, rounding: &Rounding, window: u64, first: u64) -> i32
-        ensures { TellsNothing rounding.now.m rounding.now.shift first (Covers (slice_index_or self.now.right window None))
-            result }
-    {
-        self.right.bound(rounding, window, first)
-    }
-
-    /// The same of one that starts earlier.
-    #[inline]
-    pub(crate) fn left_bound(&self, rounding: &Rounding, window: u64, first: u64) -> i32
-        ensures { TellsNothing rounding.now.m rounding.now.shift first (Covers (slice_index_or self.now.left window None))
-            result }
-    {
-        self.left.bound(rounding, window, first)
     }
 
     /// Windows `i` and `j`, which starts later, have this distance.
@@ -153,5 +115,50 @@ impl Part for Sides {
     fn merge(&mut self, other: &Self) {
         self.left.merge(&other.left);
         self.right.merge(&other.right);
+    }
+}
+
+impl Offers for OnBothSides {
+    type Into = Sides;
+
+    ghost least = { 1 };
+
+    ghost fits = { fits_sides };
+
+    ghost may_offer = { may_sides };
+
+    ghost is_scanned = { is_scanned_sides };
+
+    ghost laws = { on_both_sides };
+
+    ghost keeps_row = { keeps_row_sides };
+
+    ghost keeps_column = { keeps_column_sides };
+
+    ghost limits = { side_limits };
+
+    #[inline]
+    fn offer(into: &mut Sides, row: u64, column: u64, dist: Sq) {
+        into.offer(row, column, dist);
+    }
+
+    #[inline]
+    fn row_limit(into: &Sides, row: u64, first: u64) -> Limit {
+        into.right.limit(row, first)
+    }
+
+    #[inline]
+    fn column_limit(into: &Sides, column: u64, first: u64) -> Limit {
+        into.left.limit(column, first)
+    }
+
+    #[inline]
+    fn row_bound(into: &Sides, rounding: &Rounding, row: u64, first: u64) -> i32 {
+        into.right.bound(rounding, row, first)
+    }
+
+    #[inline]
+    fn column_bound(into: &Sides, rounding: &Rounding, column: u64, first: u64) -> i32 {
+        into.left.bound(rounding, column, first)
     }
 }

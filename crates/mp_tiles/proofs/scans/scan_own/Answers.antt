@@ -9,44 +9,28 @@ use Rattle.mp_tiles.specs.OfferingLaws.{each_to_other}
 use Rattle.mp_tiles.specs.Pieces.{profile_has_columns}
 use Rattle.mp_tiles.proofs.scans.scan_own.Goals as goal
 
-places : (c : goal.After-scan_tile) → HasPlaces (windows_of c.args.m (series_of c.args.samples.now)) c.args.into.now
-places c =
-    let same = c.requires.places ∙ sym (series_are_of_samples.windows_are c.args.m c.args.samples.now) in
-    record {
-      all = same;
-      sides = record {
-        left = sym c.len-windows.ensures.left ∙ c.len-windows.ensures.all ∙ same;
-        right = sym c.len-windows.ensures.right ∙ c.len-windows.ensures.all ∙ same;
-      };
-    }
-
-scanned : (c : goal.After-scan_tile)
-    → IsScanned (has_pair 0 c.args.tile.now) c.args.m (series_of c.args.samples.now) c.args.into.now
-    c.scan_tile.new.into
-scanned c =
-    subst (λ (g : Grid). IsScanned (has_pair 0 c.args.tile.now) g.m (series_of g.rows.now) c.args.into.now
-    c.scan_tile.new.into) c.of-plan.ensures.grid c.scan_tile.ensures.scanned
-
-stay : (c : goal.After-scan_tile)
-    → HasPlaces (windows_of c.args.m (series_of c.args.samples.now)) c.scan_tile.new.into
-stay c =
+pub returns : goal.returns
+returns c =
+    let m = c.args.m in
     let a = series_of c.args.samples.now in
-    (each_to_other.still_fits c.args.m a a (has_pair 0 c.args.tile.now) _ _ (places c, refl) (scanned c)).0
-
-pub returns-clause-all : goal.returns-clause-all
-returns-clause-all c = (scanned c).all
-
-pub returns-clause-left : goal.returns-clause-left
-returns-clause-left c = (scanned c).sides.left
-
-pub returns-clause-right : goal.returns-clause-right
-returns-clause-right c = (scanned c).sides.right
-
-pub returns-clause-places : goal.returns-clause-places
-returns-clause-places c = (stay c).all ∙ sym (places c).all
-
-pub returns-clause-is_value : goal.returns-clause-is_value
-returns-clause-is_value c = profile_has_columns _ _ (stay c)
-
-pub returns-clause-spare : goal.returns-clause-spare
-returns-clause-spare c = (scanned c).spare
+    let pairs = has_pair 0 c.args.tile.now in
+    let all = c.requires.places ∙ sym (series_are_of_samples.windows_are m c.args.samples.now) in
+    let places : HasPlaces (windows_of m a) c.args.into.now = record {
+      all = all;
+      sides = record {
+        left = sym c.len-windows.ensures.left ∙ c.len-windows.ensures.all ∙ all;
+        right = sym c.len-windows.ensures.right ∙ c.len-windows.ensures.all ∙ all;
+      };
+    } in
+    let scanned : IsScanned pairs m a c.args.into.now c.scan_tile.new.into =
+    subst (λ (g : Grid). IsScanned pairs g.m (series_of g.rows.now) c.args.into.now c.scan_tile.new.into)
+    c.of-plan.ensures.grid c.scan_tile.ensures.scanned in
+    let stay = (each_to_other.still_fits m a a pairs _ _ (places, refl) scanned).0 in
+    record {
+      all = scanned.all;
+      left = scanned.sides.left;
+      right = scanned.sides.right;
+      places = stay.all ∙ sym all;
+      is_value = profile_has_columns _ _ stay;
+      spare = scanned.spare;
+    }
