@@ -20,7 +20,7 @@ use Rattle.mp_scans.specs.Blocks.{residue_in, AreAbove, in_strip}
 use Rattle.mp_scans.specs.Lanes.{IsAbove}
 use Rattle.mp_scans.specs.Limiting.{IsRowLimit, IsColumnLimit, AreLimits, IsKnown, IsQuiet, AreQuiet, AreKept}
 use Rattle.mp_scans.specs.Limiting.{first_row, first_on}
-use Rattle.mp_scans.specs.Offering.{only, in_row, in_block, IsOffering, IsLimiting, TellsNothing}
+use Rattle.mp_scans.specs.Offering.{only, in_row, in_block, IsOffering, IsLimiting}
 use Rattle.mp_scans.specs.Windows.{FitIn, AreScannedIn}
 use Rattle.mp_scans.proofs.FillLemmas.{set_at}
 use Rattle.mp_scans.proofs.StripLemmas.{scanned_next, more_columns}
@@ -30,26 +30,6 @@ use Rattle.mp_scans.proofs.StripLemmas.{scanned_next, more_columns}
 -- what is handed on is the same
 pub handed_on : (P : ℤ → Type 0) (r : ℤ) → FitsSigned w32 r → P r → P (to_z w32 (of_z w32 r))
 handed_on P r fits h = subst P (sym (to_z-of_z w32 r fits)) h
-
--- a bound of what keeps the nearest windows is one of the block's rows and columns
-pub is_row_limit : (block : Block) (keeps : ℕ → ℕ → ℕ → Type 0) (first p start : ℕ) (bound : ℤ) → FitsSigned w32 bound
-    → start ≡ block.column + first
-    → TellsNothing block.rounding.m block.rounding.shift start (keeps (block.row + p)) bound
-    → IsRowLimit block keeps first p bound
-is_row_limit block keeps first p start bound fits s h = record {
-  fits = fits;
-  above = λ c le above _ d is. (rw block.same_length at h).above (series_of block.grid.rows.now) (block.row + p)
-      (series_of block.grid.columns.now) (block.column + c) d is above (block.column + c) (omega (arith, s, le));
-}
-
-pub is_column_limit : (block : Block) (keeps : ℕ → ℕ → ℕ → Type 0) (first c : ℕ) (bound : ℤ) → FitsSigned w32 bound
-    → TellsNothing block.rounding.m block.rounding.shift (block.row + first) (keeps (block.column + c)) bound
-    → IsColumnLimit block keeps first c bound
-is_column_limit block keeps first c bound fits h = record {
-  fits = fits;
-  above = λ p le above _ d is. (rw block.same_length at h).above (series_of block.grid.rows.now) (block.row + p)
-      (series_of block.grid.columns.now) (block.column + c) d is above (block.row + p) (omega (arith, le));
-}
 
 -- a pair of windows of which one has a missing sample has no distance
 no_distance : (grid : Grid) (i j d : ℕ) → distance_in grid i j ≡ Some d

@@ -12,7 +12,11 @@ use Rattle.mp_defs.specs.Window.{is_free}
 use Rattle.mp_scans.specs.Free.{IsClear}
 use Rattle.mp_scans.proofs.FillLemmas.{last_or_before}
 
-both_true : (x y : Bool) → x ≡ true → y ≡ true → (x && y) ≡ true
+pub both_hold : (x y : Bool) → (x && y) ≡ true → (x ≡ true) × (y ≡ true)
+both_hold true y e = (refl, e)
+both_hold false y e = absurd (cc)
+
+pub both_true : (x y : Bool) → x ≡ true → y ≡ true → (x && y) ≡ true
 both_true true y e f = f
 both_true false y e f = e
 

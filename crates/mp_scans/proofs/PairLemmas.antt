@@ -1,11 +1,10 @@
 -- Pairs of windows, and whether they have a distance.
-use Rattle.std.proofs.Common.{◌≡◌, ℕ, ◌+◌, ◌^◌, ◌<◌, ◌≤◌, ℤ, List, length, true, refl, sym, ap, ◌∙◌, arith}
-use Rattle.std.specs.Prelude.{Option, Some, None, IsTrue, IsSome}
+use Rattle.std.proofs.Common.{◌≡◌, ℕ, ◌+◌, ◌^◌, ◌<◌, ◌≤◌, ℤ, List, length, Bool, sym, ap, ◌∙◌, arith}
+use Rattle.std.specs.Prelude.{Some, IsTrue, IsSome, ◌&&◌, ◌↔◌}
 use Rattle.std.proofs.lemmas.List.{length-map}
 use Rattle.mp_nums.specs.declared.samples.Sample.{Sample}
-use Rattle.mp_defs.specs.Series.{Series, reading_of, series_of}
+use Rattle.mp_defs.specs.Series.{reading_of, series_of}
 use Rattle.mp_defs.specs.Window.{is_free}
-use Rattle.mp_defs.specs.Distance.{distance}
 use Rattle.mp_defs.specs.Profile.{windows_of}
 use Rattle.mp_defs.specs.DistanceLaws.{of_free_windows}
 use Rattle.mp_sums.specs.declared.distances.Grid.{Grid}
@@ -13,36 +12,21 @@ use Rattle.mp_sums.specs.Grids.{distance_in}
 use Rattle.mp_sums.specs.Residues.{residue, rounded_residue}
 use Rattle.mp_sums.specs.ResidueLaws.{residues_tell}
 use Rattle.mp_scans.specs.Distances.{AreDistances}
+use Rattle.mp_scans.proofs.MarkLemmas.{both_true, both_hold}
 
 -- a window lies in its series
 pub window_within : (m : ℕ) (samples : List Sample) (i : ℕ) → 1 ≤ m → i < windows_of m (series_of samples)
     → i + m ≤ length samples
 window_within m samples i some lt = omega (arith, lt, length-map samples reading_of)
 
--- what a distance may be
-record IsThere (d : Option ℕ) : Type 0 where
-  dist : ℕ
-  is : d ≡ Some dist
-
-there : (d : Option ℕ) → IsSome d → IsThere d
-there None h = absurd (cc)
-there (Some x) h = record { dist = x; is = refl }
-
-pub free_distance : (m : ℕ) (a b : Series) (i j d : ℕ) → is_free m a i ≡ true → is_free m b j ≡ true
-    → ((x : ℕ) → distance m a i b j ≡ Some x → d ≡ x) → distance m a i b j ≡ Some d
-free_distance m a b i j d e f h =
-    let t = there (distance m a i b j) ((of_free_windows m a i b j).1 (e, f)) in
-    t.is ∙ ap Some (sym (h t.dist t.is))
-
-none_of : (d : Option ℕ) (P : Type 0) → (IsSome d → P) → (P → ⊥) → d ≡ None
-none_of None P h k = refl
-none_of (Some x) P h k = absurd (k (h refl))
-
-pub no_distance : (m : ℕ) (a b : Series) (i j : ℕ)
-    → (is_free m a i ≡ true → is_free m b j ≡ true → ⊥) → distance m a i b j ≡ None
-no_distance m a b i j h =
-    none_of (distance m a i b j) (IsTrue (is_free m a i) × IsTrue (is_free m b j)) (of_free_windows m a i b j).0
-    (λ both. h both.0 both.1)
+-- windows without missing samples have a distance
+pub both_free : (grid : Grid) (i j : ℕ) (s t : Bool) → s ≡ is_free grid.m (series_of grid.rows.now) i
+    → t ≡ is_free grid.m (series_of grid.columns.now) j → IsTrue (s && t) ↔ IsSome (distance_in grid i j)
+both_free grid i j s t e f =
+    let both = of_free_windows grid.m (series_of grid.rows.now) i (series_of grid.columns.now) j in (
+      λ is. let h = both_hold s t is in both.1 (sym e ∙ h.0, sym f ∙ h.1),
+      λ is. let h = both.0 is in both_true s t (e ∙ h.0) (f ∙ h.1),
+    )
 
 -- ---- residues that are distances
 

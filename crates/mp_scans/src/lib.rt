@@ -9,7 +9,6 @@ mod limits;
 mod marks;
 mod offers;
 mod pairs;
-mod passes;
 mod plans;
 mod runs;
 mod scans;

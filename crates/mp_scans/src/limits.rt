@@ -1,8 +1,6 @@
 //! The limits of a block's rows and columns, as residues.
 
 ghost use Rattle.std.specs.Prelude.{◌≡◌, ℕ, ◌+◌, ◌<◌, ◌≤◌, length, false};
-ghost use Rattle.mp_defs.specs.Series.{series_of};
-ghost use Rattle.mp_defs.specs.Window.{is_free};
 ghost use Rattle.mp_sums.specs.Limits.{IsBeyond};
 ghost use Rattle.mp_sums.specs.Residues.{item};
 ghost use Rattle.mp_scans.specs.Limiting.{IsRowLimit, IsColumnLimit, first_on};
@@ -11,31 +9,13 @@ use crate::blocks::Block;
 use crate::offers::Offers;
 use mp_sums::{Limit, NEVER};
 
-/// Whether no sample of a row is missing.
-#[inline]
-pub(crate) fn is_row_free(block: &Block, p: usize) -> bool
-    requires { p < length block.now.rows.differences.now }
-    ensures { result ≡ is_free block.now.grid.m (series_of block.now.grid.rows.now) (block.now.row + p) }
-{
-    block.free_rows[p]
-}
-
-/// Whether no sample of a column is missing.
-#[inline]
-pub(crate) fn is_column_free(block: &Block, c: usize) -> bool
-    requires { c < length block.now.columns.differences.now }
-    ensures { result ≡ is_free block.now.grid.m (series_of block.now.grid.columns.now) (block.now.column + c) }
-{
-    block.free_columns[c]
-}
-
 /// The limit of a row. Where a sample of it is missing, no pair passes.
 #[inline]
 pub(crate) fn row_limit<O: Offers>(block: &Block, p: usize, into: &O::Into) -> i32
     requires row { p < length block.now.rows.differences.now }
     ensures { IsRowLimit block.now (O.keeps_row into.now) p p result }
 {
-    if is_row_free(block, p) {
+    if block.free_rows[p] {
         let (row, first) = (block.row + p, block.column + p);
         O::row_bound(into, &block.rounding, row as u64, first as u64)
     } else {
@@ -50,7 +30,7 @@ pub(crate) fn column_limit<O: Offers>(block: &Block, first: usize, c: usize, int
     requires first { first ≤ c + 1 }
     ensures { IsColumnLimit block.now (O.keeps_column into.now) first c result }
 {
-    if is_column_free(block, c) {
+    if block.free_columns[c] {
         let (column, row) = (block.column + c, block.row + first);
         O::column_bound(into, &block.rounding, column as u64, row as u64)
     } else {

@@ -1,14 +1,10 @@
 //! Pairs of windows that are offered to each other.
 
-ghost use Rattle.std.specs.Prelude.{◌≡◌, ◌≢◌, ℕ, ◌+◌, ◌^◌, ◌<◌, ◌≤◌, length, true, false, Some};
-ghost use Rattle.std.specs.Int.{bit_at};
-ghost use Rattle.mp_defs.specs.Series.{series_of};
-ghost use Rattle.mp_defs.specs.Window.{is_free};
+ghost use Rattle.std.specs.Prelude.{◌≡◌, ◌≢◌, ℕ, ◌+◌, ◌^◌, ◌<◌, ◌≤◌, length, true, false, Some, IsTrue, IsSome, ◌↔◌};
 ghost use Rattle.mp_sums.specs.Grids.{distance_in};
-ghost use Rattle.mp_scans.specs.Blocks.{IsColumn, IsPairOf, IsRowOf, in_pair, in_columns};
+ghost use Rattle.mp_scans.specs.Blocks.{IsPairOf, IsRowOf, in_pair, in_columns};
 ghost use Rattle.mp_scans.specs.Exacts.{AreExactsIn};
 ghost use Rattle.mp_scans.specs.Limiting.{IsRowLimit, IsColumnLimit, IsKnownAt, AreKept};
-ghost use Rattle.mp_scans.specs.Offering.{only};
 ghost use Rattle.mp_scans.specs.Windows.{FitIn, AreScannedIn};
 
 use crate::blocks::{Block, Known, Pair, Row, Strip};
@@ -19,40 +15,14 @@ use crate::vectors::{LANES, lanes_above, least_lane, next_clear};
 use mp_nums::Sq;
 use mp_sums::{passes, sum_of};
 
-/// Whether no sample of a row and of a column is missing.
+/// Whether a row and a column have a distance: no sample of either is missing.
 #[inline]
 fn are_free(block: &Block, p: usize, c: usize) -> bool
     requires row { p < length block.now.rows.differences.now }
     requires column { c < length block.now.columns.differences.now }
-    ensures row { result ≡ true
-        → is_free block.now.grid.m (series_of block.now.grid.rows.now) (block.now.row + p) ≡ true }
-    ensures column { result ≡ true
-        → is_free block.now.grid.m (series_of block.now.grid.columns.now) (block.now.column + c) ≡ true }
-    ensures both { is_free block.now.grid.m (series_of block.now.grid.rows.now) (block.now.row + p) ≡ true
-        → is_free block.now.grid.m (series_of block.now.grid.columns.now) (block.now.column + c) ≡ true
-        → result ≡ true }
+    ensures { IsTrue result ↔ IsSome (distance_in block.now.grid (block.now.row + p) (block.now.column + c)) }
 {
     block.free_rows[p] & block.free_columns[c]
-}
-
-/// Offers a row and a column at a distance to each other, where that may give one of them something, and tells whether it
-/// may. Mostly it doesn't where rounding hides the distance, or where its sum wraps.
-#[inline]
-fn offer_at<O: Offers>(block: &Block, p: usize, c: usize, dist: u128, into: &mut O::Into) -> bool
-    requires row { p < length block.now.rows.differences.now }
-    requires is_column { IsColumn block.now c }
-    requires apart { block.now.row + p + O.least ≤ block.now.column + c }
-    requires dist { distance_in block.now.grid (block.now.row + p) (block.now.column + c) ≡ Some dist }
-    requires fits { FitIn O.fits block.now.grid into.old }
-    ensures { AreScannedIn O.is_scanned block.now.grid (only (block.now.row + p) (block.now.column + c)) into.old into.new }
-{
-    let (row, column) = ((block.row + p) as u64, (block.column + c) as u64);
-    if may_give::<O>(row, column, dist, into) {
-        O::offer(into, row, column, Sq(dist));
-        true
-    } else {
-        false
-    }
 }
 
 /// The distance of a row and a column: that of their residue, where this tells it.
@@ -73,8 +43,8 @@ fn distance_at(strip: &Strip, pair: Pair, exacts: &mut [Option<Exact>]) -> u128
     }
 }
 
-/// Offers a row and a column to each other, where no sample of either is missing and their distance may give one of them
-/// something, and tells whether it is so.
+/// Offers a row and a column to each other, where they have a distance that may give one of them something, and tells
+/// whether it may. Mostly it doesn't where rounding hides the distance, or where its sum wraps.
 fn offer_pair<O: Offers>(
     strip: &Strip,
     pair: Pair,
@@ -88,13 +58,17 @@ fn offer_pair<O: Offers>(
     ensures scanned { AreScannedIn O.is_scanned strip.now.block.grid (in_pair strip.now.block pair) into.old into.new }
     ensures exacts { AreExactsIn strip.now.block exacts.new }
 {
-    let (p, c) = (pair.row, pair.column);
-    if are_free(&strip.block, p, c) {
-        let dist = distance_at(strip, pair, exacts);
-        offer_at::<O>(&strip.block, p, c, dist, into)
-    } else {
-        false
+    if !are_free(&strip.block, pair.row, pair.column) {
+        return false;
     }
+    let dist = distance_at(strip, pair, exacts);
+    let row = (strip.block.row + pair.row) as u64;
+    let column = (strip.block.column + pair.column) as u64;
+    if may_give::<O>(row, column, dist, into) {
+        O::offer(into, row, column, Sq(dist));
+        return true;
+    }
+    false
 }
 
 /// The limit of a pair's row behind the pair, where one from before is known. It is made anew where the pair was within
@@ -202,18 +176,6 @@ fn columns_above<O: Offers>(strip: &Strip, row: &Row, known: &Known, into: &O::I
     lanes_above(row.residues, &known.rows[row.place], limits)
 }
 
-/// The first of a row's columns from one on whose bit isn't set.
-#[inline]
-fn next_column(row: &Row, above: u64, from: usize) -> usize
-    requires above { above < 2 ^ 32 }
-    requires from { from ≤ row.now.width }
-    ensures behind { from ≤ result }
-    ensures within { result ≤ row.now.width }
-    ensures set { (t : ℕ) → from ≤ t → t < result → bit_at above t ≡ 1 }
-{
-    next_clear(above, from).min(row.width)
-}
-
 /// Takes a row and the strip's first columns. The one that seems nearest comes first, since it may bring the limits
 /// below the others.
 #[inline(never)]
@@ -229,9 +191,9 @@ pub(crate) fn take_row<O: Offers>(strip: &Strip, row: &Row, known: &mut Known, i
     let first = pair_at(strip, row, nearest);
     take_pair::<O>(strip, first, known, into);
     let above = columns_above::<O>(strip, row, known, into);
-    let mut t = next_column(row, above, 0);
+    let mut t = next_clear(above, 0, row.width);
     while t < row.width {
-        let next = next_column(row, above, t + 1);
+        let next = next_clear(above, t + 1, row.width);
         if is_other(t, nearest) {
             let pair = pair_at(strip, row, t);
             take_pair::<O>(strip, pair, known, into);

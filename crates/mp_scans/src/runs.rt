@@ -3,9 +3,12 @@
 ghost use Rattle.std.specs.Prelude.{ℕ, ◌+◌, ◌<◌, ◌≤◌, length, FitsSigned};
 ghost use Rattle.std.specs.Int.{w32};
 ghost use Rattle.mp_sums.specs.Residues.{item};
-ghost use Rattle.mp_scans.specs.Blocks.{AreResiduesAt, AreResiduesOf, AreAbove};
+ghost use Rattle.mp_scans.specs.Blocks.{AreResiduesAt, AreResiduesOf, AreAbove, in_strip};
+ghost use Rattle.mp_scans.specs.Limiting.{IsKnownAt};
+ghost use Rattle.mp_scans.specs.Windows.{AreScannedIn};
 
 use crate::blocks::{Block, Known, Strip};
+use crate::offers::Offers;
 use crate::vectors::{LANES, is_within, step};
 use std::simd::prelude::*;
 
@@ -53,4 +56,26 @@ pub(crate) fn run(strip: &Strip, from: usize, known: &Known, residues: &mut i32x
     }
     *residues = next;
     strip.end
+}
+
+/// Passes over the rows from one on in which no pair is within a limit. Such pairs give what keeps the nearest windows
+/// nothing.
+#[inline]
+pub(crate) fn pass_over<O: Offers>(
+    strip: &Strip,
+    from: usize,
+    known: &Known,
+    residues: &mut i32x32,
+    into: &O::Into,
+) -> usize
+    requires ordered { from ≤ strip.now.end }
+    requires apart { strip.now.block.row + O.least ≤ strip.now.block.column + strip.now.offset }
+    requires known { IsKnownAt O.fits O.keeps_row O.keeps_column strip.now from known.now into.now }
+    requires residues { AreResiduesOf strip.now from residues.old }
+    ensures behind { from ≤ result }
+    ensures within { result ≤ strip.now.end }
+    ensures residues { AreResiduesOf strip.now result residues.new }
+    ensures scanned { AreScannedIn O.is_scanned strip.now.block.grid (in_strip strip.now from result) into.now into.now }
+{
+    run(strip, from, known, residues)
 }

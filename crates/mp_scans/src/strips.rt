@@ -9,9 +9,8 @@ ghost use Rattle.mp_scans.specs.Windows.{column_windows, AreScannedIn};
 use crate::blocks::{Known, Row, Strip};
 use crate::offers::Offers;
 use crate::pairs::take_row;
-use crate::passes::pass_over;
 use crate::plans::count_columns;
-use crate::runs::advance;
+use crate::runs::{advance, pass_over};
 use crate::vectors::{load, store};
 use std::simd::prelude::*;
 

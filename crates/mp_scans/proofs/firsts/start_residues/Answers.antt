@@ -6,23 +6,6 @@ use Rattle.mp_sums.specs.Grids.{row_numbers, column_numbers}
 use Rattle.mp_sums.specs.Rounding.{rounded}
 use Rattle.mp_scans.proofs.firsts.start_residues.Goals as goal
 
-pub loop-taken-init : goal.loop-taken-init
-loop-taken-init c =
-    let plan = c.args.plan.now in
-    record {
-      places = c.clear_residues.ensures.places;
-      within = omega arith;
-      residues = c.clear_residues.ensures.residues (rounded plan.rounding.shift (row_numbers plan.grid)) c.args.row
-          (rounded plan.rounding.shift (column_numbers plan.grid)) c.args.column;
-    }
-
-pub loop-taken-preserved : goal.loop-taken-preserved
-loop-taken-preserved c = record {
-  places = c.add_samples-taken.ensures.places ∙ c.loop-taken.invariant.places;
-  within = omega (arith, c.add_samples-taken.ensures.taken);
-  residues = c.add_samples-taken.ensures.residues;
-}
-
 pub returns-clause-residues : goal.returns-clause-residues
 returns-clause-residues c =
     let plan = c.args.plan.now in

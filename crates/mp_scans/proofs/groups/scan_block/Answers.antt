@@ -93,8 +93,3 @@ returns-clause-scanned g c =
     g.met.O.Offers.laws.same _ _ _ _ _ _ _ c.requires.known.places c.loop-strips.invariant.scanned
     (λ i j _ _. all_strips (b.column - b.row) b.width (c.loop-strips.strips * 32) b.row
     (b.row + length b.rows.differences.now) i j (omega (arith, c.loop-strips-test.false)))
-
-pub returns-clause-residues : goal.returns-clause-residues
-returns-clause-residues g c = record {
-  each = λ s t. c.loop-strips.invariant.done s t (omega (arith, c.loop-strips-test.false));
-}

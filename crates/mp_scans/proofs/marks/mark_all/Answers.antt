@@ -8,13 +8,3 @@ loop-k-preserved c = record {
   places = length-set _ _ _ ∙ c.loop-k.invariant.places;
   done = set_next (λ q mark. mark ≡ true) false c.loop-k.marks c.loop-k.k _ (omega arith) c.loop-k.invariant.done refl;
 }
-
-pub returns-clause-marks : goal.returns-clause-marks
-returns-clause-marks c = λ k lt.
-    c.loop-k.invariant.done k (omega (
-      arith,
-      lt,
-      c.loop-k.auto.k-end,
-      c.loop-k-test.false,
-      c.loop-k.invariant.places,
-    ))

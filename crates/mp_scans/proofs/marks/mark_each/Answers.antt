@@ -1,20 +1,10 @@
-use Rattle.std.proofs.Common.{◌≡◌, ◌+◌, ◌-◌, ◌∙◌, arith, refl, false}
+use Rattle.std.proofs.Common.{◌≡◌, ◌+◌, ◌-◌, ◌∙◌, arith, false}
 use Rattle.std.proofs.lemmas.List.{length-set}
 use Rattle.mp_defs.specs.Series.{series_of}
 use Rattle.mp_defs.specs.Window.{is_free}
 use Rattle.mp_scans.proofs.FillLemmas.{set_next}
 use Rattle.mp_scans.proofs.MarkLemmas.{mark_is, clear_at}
 use Rattle.mp_scans.proofs.marks.mark_each.Goals as goal
-
-pub loop-k-init : goal.loop-k-init
-loop-k-init c =
-    let end = c.args.start + c.args.m - 1 in
-    record {
-      clear =
-          clear_at (series_of c.args.samples.now) c.args.start _ end (end + 0) (omega arith) c.find_clear-clear.ensures;
-      places = refl;
-      done = λ q lt. absurd (omega (arith, lt));
-    }
 
 pub loop-k-preserved : goal.loop-k-preserved
 loop-k-preserved c =
@@ -30,15 +20,3 @@ loop-k-preserved c =
           ∙ mark_is c.args.m a c.args.start c.clear_after-clear.result (c.args.start + k) (end + k + 1)
           c.clear_after-clear.ensures (omega (arith, c.requires.some)) (omega arith));
     }
-
-pub returns-clause-marks : goal.returns-clause-marks
-returns-clause-marks c = record {
-  each = λ k lt.
-      c.loop-k.invariant.done k (omega (
-        arith,
-        lt,
-        c.loop-k.auto.k-end,
-        c.loop-k-test.false,
-        c.loop-k.invariant.places,
-      ));
-}

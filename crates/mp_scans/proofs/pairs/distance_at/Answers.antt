@@ -3,19 +3,6 @@ use Rattle.std.proofs.lemmas.Int.{to_z-of_z}
 use Rattle.mp_scans.proofs.PairLemmas.{window_within, residue_tells}
 use Rattle.mp_scans.proofs.pairs.distance_at.Goals as goal
 
-pub distance_by-requires-clause-row : goal.distance_by-requires-clause-row
-distance_by-requires-clause-row c =
-    window_within c.args.strip.now.block.grid.m c.args.strip.now.block.grid.rows.now (c.args.strip.now.block.row +
-    c.args.pair.row)
-    c.args.strip.now.block.some_samples
-    (omega (arith, c.requires.pair.row, c.args.strip.now.rows, c.args.strip.now.block.are_rows))
-
-pub distance_by-requires-clause-column : goal.distance_by-requires-clause-column
-distance_by-requires-clause-column c =
-    window_within c.args.strip.now.block.grid.m c.args.strip.now.block.grid.columns.now (c.args.strip.now.block.column
-    + c.args.pair.column)
-    c.args.strip.now.block.some_samples c.requires.pair.is_column
-
 pub returns-then-block-clause-distance : goal.returns-then-block-clause-distance
 returns-then-block-clause-distance c = λ d there.
     let b = c.args.strip.now.block in

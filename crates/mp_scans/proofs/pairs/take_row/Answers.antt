@@ -12,12 +12,12 @@ loop-t-init g c =
     let first = b.column + (place + strip.offset) in
     let best = c.least_lane-nearest.result in
     let is = c.pair_at-first.ensures in
-    let next = c.next_column-t.ensures in
+    let next = c.next_clear-t.ensures in
     let known = rw is.row at c.take_pair.ensures.known in
     record {
       within = next.within;
       scanned = columns_on g.met.O.Offers.limits g.met.O.Offers.laws b place (place + strip.offset)
-          c.columns_above-above.result (first + best) 0 c.next_column-t.result _ _ (omega (arith, c.requires.apart))
+          c.columns_above-above.result (first + best) 0 c.next_clear-t.result _ _ (omega (arith, c.requires.apart))
           (omega arith) (omega (arith, next.within, c.args.row.now.narrow)) c.requires.known.places known.places
           c.columns_above-above.ensures.kept next.set
           (g.met.O.Offers.laws.same _ _ _ _ _ _ _ c.requires.known.places c.take_pair.ensures.scanned
@@ -36,7 +36,7 @@ loop-t-preserved-then-is_other g c =
     let first = b.column + (place + strip.offset) in
     let best = c.least_lane-nearest.result in
     let t = c.loop-t.t in
-    let next = c.next_column-next.ensures in
+    let next = c.next_clear-next.ensures in
     let one = c.take_pair-then-is_other.ensures in
     let pair = c.pair_at-pair.result in
     let is = c.pair_at-pair.ensures in
@@ -46,7 +46,7 @@ loop-t-preserved-then-is_other g c =
     record {
       within = next.within;
       scanned = columns_on g.met.O.Offers.limits g.met.O.Offers.laws b place (place + strip.offset)
-          c.columns_above-above.result (first + best) (t + 1) c.next_column-next.result _ _
+          c.columns_above-above.result (first + best) (t + 1) c.next_clear-next.result _ _
           (omega (arith, c.requires.apart)) next.behind (omega (arith, next.within, c.args.row.now.narrow))
           c.requires.known.places known.places kept next.set
           (scanned_next g.met.O.Offers.laws b.grid _ _ _ _ _ _ c.requires.known.places before.scanned one.scanned
@@ -64,11 +64,11 @@ loop-t-preserved g c =
     let place = c.args.row.now.place in
     let first = b.column + (place + strip.offset) in
     let best = c.least_lane-nearest.result in
-    let next = c.next_column-next.ensures in
+    let next = c.next_clear-next.ensures in
     record {
       within = next.within;
       scanned = columns_on g.met.O.Offers.limits g.met.O.Offers.laws b place (place + strip.offset)
-          c.columns_above-above.result (first + best) (c.loop-t.t + 1) c.next_column-next.result _ _
+          c.columns_above-above.result (first + best) (c.loop-t.t + 1) c.next_clear-next.result _ _
           (omega (arith, c.requires.apart)) next.behind (omega (arith, next.within, c.args.row.now.narrow))
           c.requires.known.places before.known.places before.kept next.set
           (g.met.O.Offers.laws.same _ _ _ _ _ _ _ c.requires.known.places before.scanned

@@ -1,4 +1,4 @@
-use Rattle.std.proofs.Common.{◌≡◌, ◌+◌, ◌-◌, inr, refl, arith}
+use Rattle.std.proofs.Common.{◌+◌, ◌-◌, inr, refl, arith}
 use Rattle.mp_scans.specs.Blocks.{in_strip}
 use Rattle.mp_scans.specs.Windows.{column_windows}
 use Rattle.mp_scans.proofs.RunLemmas.{residues_as}
@@ -17,13 +17,6 @@ loop-done-init g c =
           (λ i j. no_pairs d (d + strip.width) (strip.block.row + 0) (strip.block.row + 0) i j (inr (omega arith)));
       known = c.requires.known;
     }
-
-pub take_row-requires-clause-row : goal.take_row-requires-clause-row
-take_row-requires-clause-row g c = record {
-  place = c.if-done-strip.true;
-  are_columns = omega (arith, c.lanes_at.ensures, c.args.strip.now.are_columns (omega arith));
-  residues = c.pass_over-done.ensures.residues;
-}
 
 pub loop-done-preserved-then-done-strip : goal.loop-done-preserved-then-done-strip
 loop-done-preserved-then-done-strip g c =
@@ -66,14 +59,4 @@ loop-done-preserved g c =
       known = known_later b _ _ _ _
           (λ q. rows_go_on strip.offset c.loop-done.done c.pass_over-done.result q passes.behind)
           c.loop-done.invariant.known;
-    }
-
-pub returns : goal.returns
-returns g c =
-    let all : c.loop-done.done ≡ c.args.strip.now.end =
-    omega (arith, c.loop-done.invariant.within, c.loop-done-test.false) in
-    record {
-      residues = rw all at c.loop-done.invariant.residues;
-      known = rw all at c.loop-done.invariant.known;
-      scanned = rw all at c.loop-done.invariant.scanned;
     }

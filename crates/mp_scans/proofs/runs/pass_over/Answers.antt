@@ -1,9 +1,6 @@
 use Rattle.std.proofs.Common.{◌+◌, ◌-◌, arith}
 use Rattle.mp_scans.proofs.LimitLemmas.{inside, quiet_strip, quiet_scanned}
-use Rattle.mp_scans.proofs.passes.pass_over.Goals as goal
-
-pub run-requires-clause-fit : goal.run-requires-clause-fit
-run-requires-clause-fit g c = λ q lt. (c.requires.known.limits.of_columns q lt).fits
+use Rattle.mp_scans.proofs.runs.pass_over.Goals as goal
 
 pub returns-clause-scanned : goal.returns-clause-scanned
 returns-clause-scanned g c =
