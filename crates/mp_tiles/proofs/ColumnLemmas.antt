@@ -1,7 +1,7 @@
 -- Columns of nearest windows that are cleared or merged place by place, and what residues tell of them.
 use Rattle.std.proofs.Common.{◌≡◌, ◌≢◌, ℕ, ◌+◌, ◌<◌, ◌≤◌, inl, inr, List, length, get_or, set, refl, sym, ap, ◌∙◌}
 use Rattle.std.proofs.Common.{arith, subst, replicate, ℤ, pos}
-use Rattle.std.specs.Prelude.{Option, Some, None, nat_lt, if◌then◌else◌}
+use Rattle.std.specs.Prelude.{Option, Some, None}
 use Rattle.std.proofs.lemmas.Bool.{cases_eq}
 use Rattle.std.proofs.lemmas.Bool.Decides.{nat_tests}
 use Rattle.std.proofs.lemmas.List.{ext_get_or, length-set, get_or-set_same, get_or-set_other, get_or-replicate}
@@ -19,55 +19,44 @@ use Rattle.mp_tiles.specs.Compact.{AreBounds, slot_bound}
 
 -- ---- lists
 
--- a place is merged where it comes before i
-abbrev merged_before : ℕ → Column → Column → ℕ → Option Near
-merged_before i old others k =
-    if nat_lt k i then nearer_of (get_or old k None) (get_or others k None) else get_or old k None
+set_at : {X : Type 0} (P : ℕ → X → Type 0) (d : X) (v : List X) (n : ℕ) (z : X) → n < length v → P n z → (k : ℕ)
+    → (k ≢ n → P k (get_or v k d)) → P k (get_or (set v n z) k d)
+set_at P d v n z lt here k before = elim (cases_eq k n) [
+  | inl same ↦ subst (λ q. P q (get_or (set v n z) q d)) (sym same)
+      (subst (P n) (sym (get_or-set_same v n z d lt)) here)
+  | inr other ↦ subst (P k) (sym (get_or-set_other v n k z d other)) (before other)
+]
 
+-- places before i are merged
 pub record AreMergedBelow (i : ℕ) (old others new : Column) : Type 0 where
   pub places : length new ≡ length old
-  pub each : (k : ℕ) → k < length old → get_or new k None ≡ merged_before i old others k
+  pub done : (k : ℕ) → k < i → get_or new k None ≡ nearer_of (get_or old k None) (get_or others k None)
+  pub left : (k : ℕ) → i ≤ k → get_or new k None ≡ get_or old k None
 
 pub none_merged : (old others : Column) → AreMergedBelow 0 old others old
 none_merged old others = record {
   places = refl;
-  each = λ k lt. grind (arith, nat_tests);
+  done = λ k lt. absurd (omega (arith, lt));
+  left = λ _ _. refl;
 }
-
--- whether a place comes before the next one, where it is this one or another
-this_one : (i : ℕ) (x y : Option Near) → (if nat_lt i (i + 1) then x else y) ≡ x
-this_one i x y = grind (arith, nat_tests)
-
-not_yet : (i : ℕ) (x y : Option Near) → (if nat_lt i i then x else y) ≡ y
-not_yet i x y = grind (arith, nat_tests)
-
-another : (i k : ℕ) (x y : Option Near) → k ≢ i → (if nat_lt k i then x else y) ≡ (if nat_lt k (i + 1) then x else y)
-another i k x y ne = grind (arith, nat_tests)
-
-before_all : (i k : ℕ) (x y : Option Near) → k < i → (if nat_lt k i then x else y) ≡ x
-before_all i k x y lt = grind (arith, nat_tests)
 
 pub merged_next : (i : ℕ) (old others new : Column) (slot : Option Near) → i < length old
     → AreMergedBelow i old others new → slot ≡ nearer_of (get_or new i None) (get_or others i None)
     → AreMergedBelow (i + 1) old others (set new i slot)
 merged_next i old others new slot lt h e = record {
   places = length-set new i slot ∙ h.places;
-  each = λ k below. elim (cases_eq k i) [
-    | inl same ↦ subst (λ j. get_or (set new i slot) j None ≡ merged_before (i + 1) old others j) (sym same)
-        (get_or-set_same new i slot None (omega (arith, h.places, lt)) ∙ e
-        ∙ ap (λ x. nearer_of x (get_or others i None)) (h.each i lt ∙ not_yet i _ (get_or old i None))
-        ∙ sym (this_one i (nearer_of (get_or old i None) (get_or others i None)) (get_or old i None)))
-    | inr ne ↦ get_or-set_other new i k slot None ne ∙ h.each k below
-        ∙ another i k (nearer_of (get_or old k None) (get_or others k None)) (get_or old k None) ne
-  ];
+  done = λ k below. set_at (λ j s. s ≡ nearer_of (get_or old j None) (get_or others j None)) None new i slot
+      (omega (arith, h.places, lt)) (e ∙ ap (λ x. nearer_of x (get_or others i None)) (h.left i (omega arith))) k
+      (λ ne. h.done k (omega (arith, below, ne)));
+  left = λ k behind. get_or-set_other new i k slot None (λ same. omega (arith, same, behind))
+      ∙ h.left k (omega (arith, behind));
 }
 
 pub all_merged : (i : ℕ) (old others new : Column) → length others ≡ length old → length old ≤ i
     → AreMergedBelow i old others new → new ≡ merged_column old others
 all_merged i old others new long all h =
     ext_get_or None new (merged_column old others) (h.places ∙ sym (length-zip2 nearer_of old others (sym long)))
-    (λ k lt. h.each k (omega (arith, lt, h.places))
-    ∙ before_all i k _ (get_or old k None) (omega (arith, lt, all, h.places))
+    (λ k lt. h.done k (omega (arith, lt, all, h.places))
     ∙ sym (get_or-zip2 nearer_of old others k None None None (omega (arith, lt, h.places))
     (omega (arith, lt, long, h.places))))
 
@@ -87,11 +76,8 @@ pub cleared_next : (i : ℕ) (old new : Column) (slot : Option Near) → i < len
     → slot ≡ None → AreClearBelow (i + 1) old (set new i slot)
 cleared_next i old new slot lt h e = record {
   places = length-set new i slot ∙ h.places;
-  each = λ k below. elim (cases_eq k i) [
-    | inl same ↦ subst (λ j. get_or (set new i slot) j None ≡ None) (sym same)
-        (get_or-set_same new i slot None (omega (arith, h.places, lt)) ∙ e)
-    | inr ne ↦ get_or-set_other new i k slot None ne ∙ h.each k (omega (arith, below, ne))
-  ];
+  each = λ k below. set_at (λ _ s. s ≡ None) None new i slot (omega (arith, h.places, lt)) e k
+      (λ ne. h.each k (omega (arith, below, ne)));
 }
 
 pub all_cleared : (i : ℕ) (old new : Column) → length old ≤ i → AreClearBelow i old new
@@ -114,11 +100,8 @@ pub bounds_next : (i m shift : ℕ) (slots : Column) (bounds there : List ℤ) (
 bounds_next i m shift slots bounds there bound lt same h e =
     subst (λ v. AreBoundsBelow (i + 1) m shift slots (set v i bound)) (sym same) (record {
       places = length-set bounds i bound ∙ h.places;
-      each = λ k below. elim (cases_eq k i) [
-        | inl here ↦ subst (λ j. item (set bounds i bound) j ≡ slot_bound m shift (get_or slots j None)) (sym here)
-            (get_or-set_same bounds i bound (pos 0) (omega (arith, h.places, lt)) ∙ e)
-        | inr ne ↦ get_or-set_other bounds i k bound (pos 0) ne ∙ h.each k (omega (arith, below, ne))
-      ];
+      each = λ k below. set_at (λ j z. z ≡ slot_bound m shift (get_or slots j None)) (pos 0) bounds i bound
+          (omega (arith, h.places, lt)) e k (λ ne. h.each k (omega (arith, below, ne)));
     })
 
 pub bounds_all : (i m shift : ℕ) (slots : Column) (bounds : List ℤ) → length slots ≤ i
@@ -136,15 +119,10 @@ bounds_set i m shift slots slots' bounds bounds' slot bound e f lt h is =
     subst (λ v. AreBounds m shift (set v i slot) (set bounds' i bound)) (sym e)
     (subst (λ v. AreBounds m shift (set slots i slot) (set v i bound)) (sym f) (record {
       places = length-set bounds i bound ∙ h.places ∙ sym (length-set slots i slot);
-      each = λ k below. elim (cases_eq k i) [
-        | inl here ↦
-            subst (λ j. item (set bounds i bound) j ≡ slot_bound m shift (get_or (set slots i slot) j None)) (sym here)
-            (get_or-set_same bounds i bound (pos 0) (omega (arith, h.places, lt)) ∙ is
-            ∙ ap (slot_bound m shift) (sym (get_or-set_same slots i slot None lt)))
-        | inr ne ↦ get_or-set_other bounds i k bound (pos 0) ne
-            ∙ h.each k (omega (arith, below, length-set slots i slot))
-            ∙ ap (slot_bound m shift) (sym (get_or-set_other slots i k slot None ne))
-      ];
+      each = λ k below. set_at (λ j z. z ≡ slot_bound m shift (get_or (set slots i slot) j None)) (pos 0) bounds i bound
+          (omega (arith, h.places, lt)) (is ∙ ap (slot_bound m shift) (sym (get_or-set_same slots i slot None lt))) k
+          (λ ne. h.each k (omega (arith, below, length-set slots i slot))
+          ∙ ap (slot_bound m shift) (sym (get_or-set_other slots i k slot None ne)));
     }))
 
 far : (near : Near) (index d : ℕ) → near.dist.0 < d → Covers (Some near) index d

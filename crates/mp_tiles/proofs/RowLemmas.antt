@@ -1,7 +1,7 @@
 -- The rows of a tile as the windows of a series that has no others.
 use Rattle.std.proofs.Common.{◌≡◌, ℕ, zero, suc, ◌+◌, ◌-◌, ◌<◌, ◌≤◌, ◌⊎◌, inl, inr, List, length, get_or, take, drop}
 use Rattle.std.proofs.Common.{◌++◌}
-use Rattle.std.proofs.Common.{Bool, false, refl, sym, ap, ◌∙◌, subst, arith, length-take, length-drop}
+use Rattle.std.proofs.Common.{Bool, false, refl, sym, ap, ◌∙◌, arith, length-take, length-drop}
 use Rattle.std.specs.Prelude.{Option, None, if◌then◌else◌}
 use Rattle.std.specs.List.{between}
 use Rattle.std.proofs.Math.ListN.{get_or-append}
@@ -148,9 +148,7 @@ module _ (tile : Tile) (m w top k e : ℕ) (a : List Sample) (b : Series) (slots
       | inr from ↦ elim (either_below i (top + k)) [
         | inl before ↦
             let back : top + (i - top) ≡ i = omega (arith, from) in
-            subst (λ n. get_or (put_mid top k slots part) n None
-            ≡ nearer_of (get_or slots n None) (nearest m (has_pair (w - 1) tile n) (series_of a) n b)) back
-            (inside (i - top) (omega (arith, from, before)))
+            rw back at (inside (i - top) (omega (arith, from, before)))
         | inr behind ↦ outside i lt (inr (omega (arith, behind, rows)))
             (behind_part slots part top k i (omega (arith, within, places)) part_places behind)
       ]

@@ -3,7 +3,6 @@ pub mod Plans
 pub mod Among
 pub mod Sides
 pub mod Scanning
-pub mod PatchScanning
 pub mod TakenLaws
 pub mod OfferingLaws
 pub mod LimitLaws
@@ -11,4 +10,5 @@ pub mod Laws
 pub mod SideLaws
 pub mod Pieces
 pub mod Near
+pub mod PatchScanning
 pub mod PatchLaws

@@ -1,5 +1,5 @@
 -- Why a patch keeps to the laws of offering windows, and why limits hold of it.
-use Rattle.std.proofs.Common.{◌≡◌, ℕ, ◌+◌, ◌-◌, ◌<◌, length, get_or, Bool, true, false, refl, sym, ap, ◌∙◌, arith}
+use Rattle.std.proofs.Common.{◌≡◌, ℕ, ◌+◌, ◌-◌, ◌<◌, length, get_or, Bool, true, false, refl, sym, ◌∙◌, arith}
 use Rattle.std.proofs.Common.{subst}
 use Rattle.std.specs.Prelude.{Some, None, ◌&&◌, ◌||◌, nat_lt}
 use Rattle.std.proofs.lemmas.Bool.Decides.{nat_tests}
@@ -127,13 +127,9 @@ rows_alone pairs m a first old new order h =
     (λ i j _ _. is_right (pairs i j) (pairs j i) i j (order i j) (order j i))
 
 is_left : (t u : Bool) (i j : ℕ) → (t ≡ true → i < j) → (u ≡ true → j < i) → u ≡ ((t || u) && nat_lt j i)
-is_left t u i j h k = is_right u t j i k h ∙ ap (λ x. x && nat_lt j i) (or_turned u t)
-  where
-    or_turned : (x y : Bool) → (x || y) ≡ (y || x)
-    or_turned true true = refl
-    or_turned true false = refl
-    or_turned false true = refl
-    or_turned false false = refl
+is_left true true i j h k = absurd (omega (arith, h refl, k refl))
+is_left true false i j h k = grind (arith, nat_tests)
+is_left false u i j h k = grind (arith, nat_tests)
 
 -- and the columns what is nearest on the left
 pub columns_alone : (pairs : ℕ → ℕ → Bool) (m : ℕ) (a : Series) (first : ℕ) (old new : Column)

@@ -1,10 +1,9 @@
-use Rattle.std.proofs.Common.{refl, sym, subst, ◌∙◌}
+use Rattle.std.proofs.Common.{refl, sym, ◌∙◌}
 use Rattle.mp_defs.specs.Series.{series_of}
 use Rattle.mp_defs.specs.Profile.{windows_of}
 use Rattle.mp_defs.specs.SeriesLaws.{series_are_of_samples}
 use Rattle.mp_cuts.specs.Pairs.{has_pair}
-use Rattle.mp_sums.specs.declared.distances.Grid.{Grid}
-use Rattle.mp_tiles.specs.Scanning.{HasPlaces, IsScanned}
+use Rattle.mp_tiles.specs.Scanning.{HasPlaces}
 use Rattle.mp_tiles.specs.OfferingLaws.{each_to_other}
 use Rattle.mp_tiles.specs.Pieces.{profile_has_columns}
 use Rattle.mp_tiles.proofs.scans.scan_own.Goals as goal
@@ -22,9 +21,7 @@ returns c =
         right = sym c.len-windows.ensures.right ∙ c.len-windows.ensures.all ∙ all;
       };
     } in
-    let scanned : IsScanned pairs m a c.args.into.now c.scan_tile.new.into =
-    subst (λ (g : Grid). IsScanned pairs g.m (series_of g.rows.now) c.args.into.now c.scan_tile.new.into)
-    c.of-plan.ensures.grid c.scan_tile.ensures.scanned in
+    let scanned = rw c.of-plan.ensures.grid at c.scan_tile.ensures.scanned in
     let stay = (each_to_other.still_fits m a a pairs _ _ (places, refl) scanned).0 in
     record {
       all = scanned.all;

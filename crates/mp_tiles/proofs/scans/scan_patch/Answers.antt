@@ -1,8 +1,6 @@
-use Rattle.std.proofs.Common.{subst, arith}
+use Rattle.std.proofs.Common.{arith}
 use Rattle.mp_defs.specs.Series.{series_of}
 use Rattle.mp_cuts.specs.Pairs.{has_pair}
-use Rattle.mp_sums.specs.declared.distances.Grid.{Grid}
-use Rattle.mp_tiles.specs.PatchScanning.{IsPatched}
 use Rattle.mp_tiles.specs.PatchLaws.{rows_alone, columns_alone}
 use Rattle.mp_tiles.proofs.BlockLemmas.{row_first}
 use Rattle.mp_tiles.proofs.scans.scan_patch.Goals as goal
@@ -13,9 +11,7 @@ returns c =
     let a = series_of c.args.samples.now in
     let pairs = has_pair 0 c.args.tile.now in
     let order = row_first c.args.tile.now (omega (arith, c.requires.tile.after)) in
-    let scanned : IsPatched pairs m a a c.args.into.now c.scan_tile.new.into =
-    subst (λ (g : Grid). IsPatched pairs g.m (series_of g.rows.now) (series_of g.columns.now) c.args.into.now
-    c.scan_tile.new.into) c.of-plan.ensures.grid c.scan_tile.ensures.scanned in
+    let scanned = rw c.of-plan.ensures.grid at c.scan_tile.ensures.scanned in
     record {
       first_row = scanned.first_row;
       rows = rows_alone pairs m a _ _ _ order scanned.rows;

@@ -1,12 +1,6 @@
 use Rattle.std.proofs.Common.{arith}
-use Rattle.mp_tiles.proofs.ColumnLemmas.{none_cleared, cleared_next, all_cleared}
+use Rattle.mp_tiles.proofs.ColumnLemmas.{cleared_next, all_cleared}
 use Rattle.mp_tiles.proofs.columns.Column.clear.Goals as goal
-
-pub loop-k-init : goal.loop-k-init
-loop-k-init c = none_cleared c.args.self.now
-
-pub set-requires : goal.set-requires
-set-requires c = omega (arith, c.loop-k.invariant.places)
 
 pub loop-k-preserved : goal.loop-k-preserved
 loop-k-preserved c =

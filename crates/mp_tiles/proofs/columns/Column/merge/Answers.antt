@@ -1,14 +1,8 @@
 use Rattle.std.proofs.Common.{ap, arith, get_or}
 use Rattle.std.specs.Prelude.{None}
 use Rattle.mp_nums.specs.Near.{nearer_of}
-use Rattle.mp_tiles.proofs.ColumnLemmas.{none_merged, merged_next, all_merged}
+use Rattle.mp_tiles.proofs.ColumnLemmas.{merged_next, all_merged}
 use Rattle.mp_tiles.proofs.columns.Column.merge.Goals as goal
-
-pub loop-k-init : goal.loop-k-init
-loop-k-init c = none_merged c.args.self.now c.args.other.now
-
-pub take-requires-clause-place : goal.take-requires-clause-place
-take-requires-clause-place c = omega (arith, c.loop-k.invariant.places)
 
 pub loop-k-preserved : goal.loop-k-preserved
 loop-k-preserved c =

@@ -7,15 +7,6 @@ use Rattle.mp_tiles.specs.Compact.{slot_bound}
 use Rattle.mp_tiles.proofs.ColumnLemmas.{AreBoundsBelow, bounds_next, bounds_all}
 use Rattle.mp_tiles.proofs.columns.Column.round_by.Goals as goal
 
-pub loop-k-init : goal.loop-k-init
-loop-k-init c = record {
-  slots = c.self.view_is;
-  bounds = record {
-    places = c.self.invariant.places;
-    each = λ k lt. absurd (omega (arith, lt));
-  };
-}
-
 pub loop-k-preserved : goal.loop-k-preserved
 loop-k-preserved c =
     let rounding = c.args.rounding.now in
@@ -42,6 +33,3 @@ invariant_of-self c =
     bounds_all c.loop-k.k c.args.rounding.now.m c.args.rounding.now.shift c.loop-k.self-inside.slots.items
     c.loop-k.self-inside.bounds.items
     (omega (arith, ap length c.loop-k.invariant.slots, ap length c.self.view_is)) c.loop-k.invariant.bounds
-
-pub returns : goal.returns
-returns c = c.loop-k.invariant.slots

@@ -1,13 +1,11 @@
-use Rattle.std.proofs.Common.{◌≡◌, ◌-◌, [], ◌∷◌, length, get_or, sym, ap, subst, ◌∙◌, arith}
+use Rattle.std.proofs.Common.{◌-◌, [], ◌∷◌, length, get_or, sym, ap, ◌∙◌, arith}
 use Rattle.mp_defs.specs.Series.{series_of}
-use Rattle.mp_defs.specs.Profile.{nearest_column, ab_join, windows_of}
+use Rattle.mp_defs.specs.Profile.{nearest_column, windows_of}
 use Rattle.mp_defs.specs.SeriesLaws.{series_are_of_samples}
 use Rattle.mp_partial.specs.Values.{merged_columns, empty_columns, merged_below}
-use Rattle.mp_sums.specs.declared.distances.Grid.{Grid}
 use Rattle.mp_cuts.specs.Pairs.{has_pair, no_tile}
 use Rattle.mp_cuts.specs.Cutting.{both_tiles}
 use Rattle.mp_tiles.specs.Laws.{join_tiles_value}
-use Rattle.mp_tiles.specs.Pieces.{join_together}
 use Rattle.mp_tiles.proofs.JoinLaws.{make_the_join}
 use Rattle.mp_tiles.proofs.joins.JoinTiles.new.Goals as goal
 
@@ -19,8 +17,7 @@ returns-clause-together c =
     let tiles = c.cut_both.result in
     let first = series_are_of_samples.windows_are m c.args.a.now in
     let second = series_are_of_samples.windows_are m c.args.b.now in
-    subst (λ (g : Grid). join_together (record { a = g.rows.now; b = g.columns.now; m = g.m; tiles = tiles })
-    ≡ ab_join m a b ∷ []) (sym c.between-plan.ensures.grid)
+    rw c.between-plan.ensures.grid
     (ap (λ w. merged_below merged_columns (empty_columns 1 w)
     (λ k. nearest_column (has_pair (w - 1) (get_or tiles k no_tile)) m a b ∷ []) (length tiles)) (sym first)
     ∙ ap (join_tiles_value m a b)
