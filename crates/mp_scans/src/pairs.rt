@@ -2,9 +2,10 @@
 
 ghost use Rattle.std.specs.Prelude.{◌≡◌, ◌≢◌, ℕ, ◌+◌, ◌^◌, ◌<◌, ◌≤◌, length, true, false, Some, IsTrue, IsSome, ◌↔◌};
 ghost use Rattle.mp_sums.specs.Grids.{distance_in};
-ghost use Rattle.mp_scans.specs.Blocks.{IsPairOf, IsRowOf, in_pair, in_columns};
+ghost use Rattle.mp_scans.specs.Blocks.{IsColumn, IsPairOf, IsRowOf, in_pair, in_columns};
 ghost use Rattle.mp_scans.specs.Exacts.{AreExactsIn};
 ghost use Rattle.mp_scans.specs.Limiting.{IsRowLimit, IsColumnLimit, IsKnownAt, AreKept};
+ghost use Rattle.mp_scans.specs.Offering.{only};
 ghost use Rattle.mp_scans.specs.Windows.{FitIn, AreScannedIn};
 
 use crate::blocks::{Block, Known, Pair, Row, Strip};
@@ -43,8 +44,28 @@ fn distance_at(strip: &Strip, pair: Pair, exacts: &mut [Option<Exact>]) -> u128
     }
 }
 
-/// Offers a row and a column to each other, where they have a distance that may give one of them something, and tells
-/// whether it may. Mostly it doesn't where rounding hides the distance, or where its sum wraps.
+/// Offers a row and a column at a distance to each other, where that may give one of them something, and tells whether it
+/// may. Mostly it doesn't where rounding hides the distance, or where its sum wraps.
+#[inline]
+fn offer_at<O: Offers>(block: &Block, p: usize, c: usize, dist: u128, into: &mut O::Into) -> bool
+    requires row { p < length block.now.rows.differences.now }
+    requires is_column { IsColumn block.now c }
+    requires apart { block.now.row + p + O.least ≤ block.now.column + c }
+    requires dist { distance_in block.now.grid (block.now.row + p) (block.now.column + c) ≡ Some dist }
+    requires fits { FitIn O.fits block.now.grid into.old }
+    ensures { AreScannedIn O.is_scanned block.now.grid (only (block.now.row + p) (block.now.column + c)) into.old into.new }
+{
+    let (row, column) = ((block.row + p) as u64, (block.column + c) as u64);
+    if may_give::<O>(row, column, dist, into) {
+        O::offer(into, row, column, Sq(dist));
+        true
+    } else {
+        false
+    }
+}
+
+/// Offers a row and a column to each other, where no sample of either is missing and their distance may give one of them
+/// something, and tells whether it is so.
 fn offer_pair<O: Offers>(
     strip: &Strip,
     pair: Pair,
@@ -58,17 +79,13 @@ fn offer_pair<O: Offers>(
     ensures scanned { AreScannedIn O.is_scanned strip.now.block.grid (in_pair strip.now.block pair) into.old into.new }
     ensures exacts { AreExactsIn strip.now.block exacts.new }
 {
-    if !are_free(&strip.block, pair.row, pair.column) {
-        return false;
+    let (p, c) = (pair.row, pair.column);
+    if are_free(&strip.block, p, c) {
+        let dist = distance_at(strip, pair, exacts);
+        offer_at::<O>(&strip.block, p, c, dist, into)
+    } else {
+        false
     }
-    let dist = distance_at(strip, pair, exacts);
-    let row = (strip.block.row + pair.row) as u64;
-    let column = (strip.block.column + pair.column) as u64;
-    if may_give::<O>(row, column, dist, into) {
-        O::offer(into, row, column, Sq(dist));
-        return true;
-    }
-    false
 }
 
 /// The limit of a pair's row behind the pair, where one from before is known. It is made anew where the pair was within

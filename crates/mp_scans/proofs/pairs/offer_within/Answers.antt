@@ -45,3 +45,12 @@ returns-then-offer_pair-clause-known g c =
           c.next_column_limit.result) (row_is_first strip.offset pair.row pair.column is.first is.last)
           c.next_column_limit.ensures);
     }
+
+pub returns-else-offer_pair-clause-known : goal.returns-else-offer_pair-clause-known
+returns-else-offer_pair-clause-known g c = record {
+  places = g.met.O.Offers.laws.still_fits _ _ _ (in_pair c.args.strip.now.block c.args.pair) _ _
+      c.requires.known.places c.offer_pair.ensures.scanned;
+  exacts = c.offer_pair.ensures.exacts;
+  limits = limits_stay g.met.O.Offers.limits c.args.strip.now.block _ _ _ _ _ _ c.requires.known.places
+      c.offer_pair.ensures.scanned c.requires.known.limits;
+}
