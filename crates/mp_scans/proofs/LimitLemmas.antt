@@ -131,8 +131,8 @@ pub quiet_pair : (strip : Strip) (keeps_row keeps_column : ℕ → ℕ → ℕ �
     → IsAbove (item rows p) (item columns c) (residue_in strip.block p c)
     → IsQuiet strip.block.grid keeps_row keeps_column (strip.block.row + p) (strip.block.column + c)
 quiet_pair strip keeps_row keeps_column rows columns from p c le lt first last limits above =
-    quiet_above strip.block keeps_row keeps_column p c (first_row strip.offset from c) _ _ (omega (arith, le, first, last))
-    (omega (arith, first)) (limits.of_rows p (omega (arith, lt, strip.rows)))
+    quiet_above strip.block keeps_row keeps_column p c (first_row strip.offset from c) _ _
+    (omega (arith, le, first, last)) (omega (arith, first)) (limits.of_rows p (omega (arith, lt, strip.rows)))
     (limits.of_columns c (omega (arith, lt, last, strip.columns))) above
 
 -- what the test of a block's pairs tells
@@ -218,7 +218,8 @@ module _ {Into : Type 0} {least : ℕ} {fits : ℕ → Series → Series → Int
   only_scanned grid i j into fit apart quiet =
       quiet_scanned grid (only i j) into fit
       (λ r c e. omega (arith, row_is i j r c e, column_is i j r c e, apart))
-      (λ r c e. subst₂ (IsQuiet grid (keeps_row into) (keeps_column into)) (row_is i j r c e) (column_is i j r c e) quiet)
+      (λ r c e. subst₂ (IsQuiet grid (keeps_row into) (keeps_column into)) (row_is i j r c e) (column_is i j r c e)
+      quiet)
 
   -- so is one pair, at a distance that gives neither its row nor its column something
   pub quiet_at : (grid : Grid) (i j dist : ℕ) (into : Into) → FitIn fits grid into → i + least ≤ j
@@ -257,10 +258,12 @@ module _ {Into : Type 0} {least : ℕ} {fits : ℕ → Series → Series → Int
       → AreKept block (keeps_row new) (keeps_column new) p c bits
   kept_stays block pairs old new p c bits fit scanned kept = λ t small set wi wj d is.
       let h = kept t small set wi wj d is in
+      let i = block.row + p in
+      let j = block.column + (c + t) in
       let rows = series_of block.grid.rows.now in
       let columns = series_of block.grid.columns.now in (
-        laws.row_stays block.grid.m rows columns pairs old new fit scanned (block.row + p) (block.column + (c + t)) d wi h.0,
-        laws.column_stays block.grid.m rows columns pairs old new fit scanned (block.column + (c + t)) (block.row + p) d wj h.1,
+        laws.row_stays block.grid.m rows columns pairs old new fit scanned i j d wi h.0,
+        laws.column_stays block.grid.m rows columns pairs old new fit scanned j i d wj h.1,
       )
 
   -- of a row's columns so many are scanned, and the next ones give nothing
@@ -281,5 +284,5 @@ module _ {Into : Type 0} {least : ℕ} {fits : ℕ → Series → Series → Int
       let h = within_row (block.row + p) (block.column + c + from) (block.column + c + end) i j is in
       omega (arith, h.same, h.left, apart))
       (quiet_columns block (keeps_row into) (keeps_column into) p c bits from end few kept set))
-      (λ i j _ _. more_columns (block.row + p) (block.column + c) (block.column + c + from) (block.column + c + end) best
-      i j (omega arith) (omega (arith, le)))
+      (λ i j _ _. more_columns (block.row + p) (block.column + c) (block.column + c + from) (block.column + c + end)
+      best i j (omega arith) (omega (arith, le)))

@@ -91,8 +91,8 @@ pub above_none : (strip : Strip) (rows columns : List ℤ) (from : ℕ) → AreA
 above_none strip rows columns from = record { each = λ p t le lt. absurd (omega (arith, le, lt)) }
 
 -- with one row more
-pub above_more : (strip : Strip) (rows columns : List ℤ) (from q n : ℕ) (v : List ℤ) → n ≡ 32 → AreAbove strip rows columns from q
-    → AreResiduesOf strip q v
+pub above_more : (strip : Strip) (rows columns : List ℤ) (from q n : ℕ) (v : List ℤ) → n ≡ 32
+    → AreAbove strip rows columns from q → AreResiduesOf strip q v
     → ((t : ℕ) → t < 32
     → IsAbove (item rows q) (item (take n (drop (q + strip.offset) columns)) t) (item v t))
     → AreAbove strip rows columns from (q + 1)

@@ -35,7 +35,8 @@ pub first_columns : (r c best r' best' i j : ℕ) → r' ≡ r → best' ≡ bes
 first_columns r c best r' best' i j e f = grind (arith, nat_tests)
 
 pub next_column : (r c t best r' d' i j : ℕ) → r' ≡ r → d' ≡ c + t
-    → ((only r best i j || in_row r c (c + t) i j) || only r' d' i j) ≡ (only r best i j || in_row r c (c + (t + 1)) i j)
+    → ((only r best i j || in_row r c (c + t) i j) || only r' d' i j)
+    ≡ (only r best i j || in_row r c (c + (t + 1)) i j)
 next_column r c t best r' d' i j e f = grind (arith, nat_tests)
 
 pub taken_column : (r c t best i j : ℕ) → best ≡ c + t

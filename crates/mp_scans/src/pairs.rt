@@ -53,7 +53,8 @@ fn offer_at<O: Offers>(block: &Block, p: usize, c: usize, dist: u128, into: &mut
     requires apart { block.now.row + p + O.least ≤ block.now.column + c }
     requires dist { distance_in block.now.grid (block.now.row + p) (block.now.column + c) ≡ Some dist }
     requires fits { FitIn O.fits block.now.grid into.old }
-    ensures { AreScannedIn O.is_scanned block.now.grid (only (block.now.row + p) (block.now.column + c)) into.old into.new }
+    ensures { AreScannedIn O.is_scanned block.now.grid (only (block.now.row + p) (block.now.column + c)) into.old
+        into.new }
 {
     let (row, column) = ((block.row + p) as u64, (block.column + c) as u64);
     if may_give::<O>(row, column, dist, into) {

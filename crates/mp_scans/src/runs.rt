@@ -75,7 +75,8 @@ pub(crate) fn pass_over<O: Offers>(
     ensures behind { from ≤ result }
     ensures within { result ≤ strip.now.end }
     ensures residues { AreResiduesOf strip.now result residues.new }
-    ensures scanned { AreScannedIn O.is_scanned strip.now.block.grid (in_strip strip.now from result) into.now into.now }
+    ensures scanned { AreScannedIn O.is_scanned strip.now.block.grid (in_strip strip.now from result) into.now
+        into.now }
 {
     run(strip, from, known, residues)
 }

@@ -1,6 +1,6 @@
 -- What more pairs make of slots of nearest windows: of windows from one on, and of all windows.
-use Rattle.std.proofs.Common.{◌≡◌, ◌≢◌, ℕ, zero, suc, ◌+◌, ◌-◌, ◌<◌, ◌≤◌, inl, inr, length, get_or, set, Bool, true, false}
-use Rattle.std.proofs.Common.{refl, sym, ap, ◌∙◌, arith, subst}
+use Rattle.std.proofs.Common.{◌≡◌, ◌≢◌, ℕ, zero, suc, ◌+◌, ◌-◌, ◌<◌, ◌≤◌, inl, inr, length, get_or, set, Bool, true}
+use Rattle.std.proofs.Common.{false, refl, sym, ap, ◌∙◌, arith, subst}
 use Rattle.std.specs.Prelude.{Option, Some, None, ◌||◌, if◌then◌else◌}
 use Rattle.std.proofs.Math.ListN.{get_or-eq_default}
 use Rattle.std.proofs.lemmas.Bool.{cases_eq}
@@ -142,7 +142,8 @@ taken_then_from p q m a b first old mid new h k =
     let l : length mid ≡ length old = same_places p m a b first old mid h in
     are_taken_from (λ i j. p i j || q i j) m a b first old new (same_places q m a b first mid new k ∙ l)
     (λ n lt. at_taken_from q m a b first mid new n (omega (arith, lt, l)) k
-    ∙ ap (λ s. nearer_of s (get_or (nearest_column q m a b) (first + n) None)) (at_taken_from p m a b first old mid n lt h)
+    ∙ ap (λ s. nearer_of s (get_or (nearest_column q m a b) (first + n) None))
+    (at_taken_from p m a b first old mid n lt h)
     ∙ nearer_associates (get_or old n None) (get_or (nearest_column p m a b) (first + n) None)
     (get_or (nearest_column q m a b) (first + n) None)
     ∙ ap (nearer_of (get_or old n None)) (at_either p q m a b (first + n)))

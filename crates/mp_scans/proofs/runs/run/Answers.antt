@@ -25,6 +25,6 @@ loop-q-preserved c =
     record {
       residues = residues_as c.args.strip.now.block (q + 1) (q + 1) (q + o + 1) (q + 1 + o) _ refl (omega arith)
           (passed_residues _ _ _ _ c.advance.ensures);
-      above = above_more c.args.strip.now _ _ c.args.from q (q + o + 32 - (q + o)) _ (omega arith) c.loop-q.invariant.above
-          c.loop-q.invariant.residues (c.is_within.ensures c.if-is_within.false);
+      above = above_more c.args.strip.now _ _ c.args.from q (q + o + 32 - (q + o)) _ (omega arith)
+          c.loop-q.invariant.above c.loop-q.invariant.residues (c.is_within.ensures c.if-is_within.false);
     }
