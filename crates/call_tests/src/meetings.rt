@@ -30,7 +30,7 @@ fn two_workers_of_a_profile_meet(rt: HostRuntime) -> Result<(), Fail> {
     Ok(())
 }
 
-/// Lets the pieces of a profile's near windows pass, of which two workers have one each, and is a meeting from then on.
+/// Lets the pieces of a profile's near windows pass, sixteen by two workers, and is a meeting from then on.
 #[derive(Drop)]
 struct LateGate {
     meeting: MeetGate,
@@ -38,7 +38,7 @@ struct LateGate {
 
 impl Gate for LateGate {
     fn pass(&self, worker: u32, piece: u64) {
-        if piece >= 2 {
+        if piece >= 16 {
             self.meeting.pass(worker, piece);
         }
     }

@@ -17,6 +17,9 @@ use std::thread::Threads;
 /// For how many pairs of windows a worker is started. Fewer pairs take less time than the start of a thread.
 const PAIRS_FOR_A_WORKER: u64 = 262_144;
 
+/// How many bands of near windows there are for each worker, so that a slow one leaves some to others.
+const BANDS_FOR_A_WORKER: u32 = 8;
+
 /// How many of the workers so many pairs of windows are worth, at least one.
 fn worth(pairs: u64, workers: u32) -> u32
     requires { 1 ≤ workers }
@@ -52,7 +55,8 @@ fn both_sides<R: Threads + Sync, G: Gate>(
     if workers == 1 {
         return run_all(rt, alloc, tiles, tiles.pieces(), workers, gate);
     }
-    run_one_after_another(rt, alloc, &tiles.near(workers), tiles, workers, gate)
+    let near = tiles.near(BANDS_FOR_A_WORKER * workers);
+    run_one_after_another(rt, alloc, &near, tiles, workers, gate)
 }
 
 /// The matrix profile of the samples at window length `m`, computed in tiles of at most `tile` diagonals by so many
