@@ -62,15 +62,15 @@ struct WideColumn {
 };
 
 struct WideScan {
-    const std::vector<int32_t> &x;
+    const std::vector<int64_t> &x;
     size_t m, windows;
     WideColumn left, right;
 
-    WideScan(const std::vector<int32_t> &x, size_t m)
+    WideScan(const std::vector<int64_t> &x, size_t m)
         : x(x), m(m), windows(x.size() + 1 - m), left(windows), right(windows) {}
 
     Wide square(size_t i, size_t j) const {
-        int64_t gap = int64_t(x[i]) - x[j];
+        int64_t gap = x[i] - x[j];
         return Wide(uint64_t(gap < 0 ? -gap : gap)) * uint64_t(gap < 0 ? -gap : gap);
     }
 
@@ -95,25 +95,25 @@ struct WideScan {
 };
 
 struct Scan {
-    const std::vector<int32_t> &x;
+    const std::vector<int64_t> &x;
     size_t m, windows;
     // what comes in and what goes where a window moves on by one: the difference and the sum
     std::vector<int64_t> differences, sums;
     Column left, right;
 
-    Scan(const std::vector<int32_t> &x, size_t m)
+    Scan(const std::vector<int64_t> &x, size_t m)
         : x(x), m(m), windows(x.size() + 1 - m), differences(windows + LANES), sums(windows + LANES), left(windows),
           right(windows) {
         for (size_t i = 0; i + m < x.size(); i++) {
-            differences[i] = int64_t(x[i + m]) - x[i];
-            sums[i] = int64_t(x[i + m]) + x[i];
+            differences[i] = x[i + m] - x[i];
+            sums[i] = x[i + m] + x[i];
         }
     }
 
     int64_t distance(size_t i, size_t j) const {
         int64_t sum = 0;
         for (size_t k = 0; k < m; k++) {
-            int64_t gap = int64_t(x[i + k]) - x[j + k];
+            int64_t gap = x[i + k] - x[j + k];
             sum += gap * gap;
         }
         return sum;
@@ -174,8 +174,8 @@ template <class Body> void time(size_t windows, Body body) {
 
 int main(int count, char **words) {
     if (count != 2 && (count != 3 || std::string(words[2]) != "wide")) return 1;
-    std::vector<int32_t> samples;
-    for (int32_t number; std::cin >> number;) samples.push_back(number);
+    std::vector<int64_t> samples;
+    for (int64_t number; std::cin >> number;) samples.push_back(number);
     size_t m = std::stoul(words[1]);
     if (samples.size() < m) return 1;
     size_t windows = samples.size() + 1 - m, first = (m + 3) / 4 + 1;

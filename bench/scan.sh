@@ -27,6 +27,7 @@ made() {
 tr -d '\r' < "$here/../crates/stored_runs/data/series/ecg.csv" | awk -F, 'NR > 1 { print $2 }' > "$work/ecg"
 awk "$random { print (\$1 - 1000) * 32 + int(32 * random()) }" "$work/ecg" > "$work/ecg16"
 awk "$random { printf \"%.0f\\n\", (\$1 - 1203) * 2097152 + int(2097152 * random()) }" "$work/ecg" > "$work/ecg32"
+awk "$random { printf \"%.0f\\n\", (\$1 - 1203) * 137438953472 + int(137438953472 * random()) }" "$work/ecg" > "$work/ecg48"
 awk '{ print NR % 1000 == 500 ? "?" : $1 }' "$work/ecg" > "$work/gaps"
 made 20000 'x = int(4 * random())' > "$work/levels"
 made 20000 'x = 1000' > "$work/constant"
@@ -85,7 +86,7 @@ line() {
 }
 
 echo "series    window ns/pair  by64 by128"
-for series in ecg ecg16 ecg32; do
+for series in ecg ecg16 ecg32 ecg48; do
     for window in 16 128 1024; do
         line "$series" "$window" ecg
     done

@@ -1,7 +1,7 @@
 //! Lookers that share the least radius that some window is known to have.
 
+use crate::numbers::samples;
 use mp_consensus::{Bound, consensus};
-use mp_nums::Sample::Value;
 use mp_nums::Sq;
 use mp_outside::OpenGate;
 use mp_series::Bundle;
@@ -10,9 +10,9 @@ use std::test::Fail;
 #[test]
 fn two_lookers_see_one_radius(rt: HostRuntime) -> Result<(), Fail> {
     let mut list = Bundle::new(rt.alloc());
-    list.add(&[Value(1), Value(2), Value(3), Value(4)])?;
-    list.add(&[Value(9), Value(1), Value(2), Value(3)])?;
-    list.add(&[Value(2), Value(3), Value(4), Value(9)])?;
+    list.add(samples(rt.alloc(), &[Some(1), Some(2), Some(3), Some(4)])?.as_slice())?;
+    list.add(samples(rt.alloc(), &[Some(9), Some(1), Some(2), Some(3)])?.as_slice())?;
+    list.add(samples(rt.alloc(), &[Some(2), Some(3), Some(4), Some(9)])?.as_slice())?;
     let (bound, mut looker) = Bound::new(rt.alloc(), &list, 3)?;
     assert!(rt; bound.read(&mut looker).is_none());
     let mut other = bound.split(&mut looker);

@@ -5,9 +5,9 @@ ghost use Rattle.mp_series.specs.declared.limits.TheConstants.{MAX_SAMPLES};
 
 use crate::expected::{expect_slots, expect_windows};
 use crate::marks::{Marks, expect_marks};
+use crate::numbers::{GREATEST, LEAST, sample, samples, wide_samples};
 use mp_consensus::consensus;
 use mp_multi::multi;
-use mp_nums::Sample::{Missing, Value};
 use mp_nums::{Centre, Sample};
 use mp_outside::{MeetGate, OpenGate};
 use mp_partial::{Kernel, Profile};
@@ -35,9 +35,9 @@ fn no_pieces_are_the_unit(rt: HostRuntime) -> Result<(), Fail> {
     Ok(())
 }
 
-const RISING: [Sample; 4] = [Value(1), Value(2), Value(3), Value(4)];
+const RISING: [Option<i32>; 4] = [Some(1), Some(2), Some(3), Some(4)];
 
-const TWICE: [Sample; 6] = [Value(1), Value(2), Value(3), Value(1), Value(2), Value(3)];
+const TWICE: [Option<i32>; 6] = [Some(1), Some(2), Some(3), Some(1), Some(2), Some(3)];
 
 /// The distances and starts of a column.
 type Column = [Option<(u128, u64)>; 4];
@@ -56,7 +56,9 @@ fn expect_columns(rt: &impl Abort, profile: &Profile) {
 
 #[test]
 fn a_series_has_a_profile(rt: HostRuntime) -> Result<(), Fail> {
-    let found = self_join(&rt, rt.alloc(), &TWICE, 3, 256, 4, &OpenGate)?;
+    let twice = samples(rt.alloc(), &TWICE)?;
+    assert!(rt; twice.len() as u64 <= MAX_SAMPLES);
+    let found = self_join(&rt, rt.alloc(), twice.as_slice(), 3, 256, 4, &OpenGate)?;
     expect_columns(&rt, &found);
     Ok(())
 }
@@ -70,13 +72,12 @@ fn no_samples_have_an_empty_profile(rt: HostRuntime) -> Result<(), Fail> {
 
 /// So many samples of a few numbers, so that many distances are equal, some of them missing.
 fn ties(alloc: Global, count: u64, seed: u64) -> Result<Vec<Sample>, AllocError> {
-    const CHOICES: [Sample; 4] = [Missing, Value(-1), Value(0), Value(2)];
+    const CHOICES: [Option<i32>; 4] = [None, Some(-1), Some(0), Some(2)];
     let mut samples = Vec::new(alloc);
     for i in 0..count {
         let number = seed.wrapping_add(i).wrapping_mul(0x9E37_79B9_7F4A_7C15);
-        samples.push(
-            CHOICES[((number ^ (number >> 29)).wrapping_mul(0xBF58_476D_1CE4_E5B9) >> 62) as usize],
-        )?;
+        let choice = (number ^ (number >> 29)).wrapping_mul(0xBF58_476D_1CE4_E5B9) >> 62;
+        samples.push(sample(CHOICES[choice as usize]))?;
     }
     Ok(samples)
 }
@@ -132,37 +133,32 @@ fn joins_have_no_zone(rt: HostRuntime) -> Result<(), Fail> {
         (RISING.as_slice(), [Some((0, 0)), Some((0, 1))]),
         (&[], [None, None]),
     ] {
-        let found = ab_join(&rt, rt.alloc(), &RISING, b, 3, 256, 4, &OpenGate)?;
+        let (a, b) = (samples(rt.alloc(), &RISING)?, samples(rt.alloc(), b)?);
+        assert!(rt; a.len() as u64 <= MAX_SAMPLES && b.len() as u64 <= MAX_SAMPLES);
+        let (a, b) = (a.as_slice(), b.as_slice());
+        let found = ab_join(&rt, rt.alloc(), a, b, 3, 256, 4, &OpenGate)?;
         expect_slots(&rt, found.as_slice(), &expected);
     }
     Ok(())
 }
 
-const WHOLE: [Sample; 7] = [
-    Value(1),
-    Value(2),
-    Value(3),
-    Value(1),
-    Value(2),
-    Value(3),
-    Value(1),
+const WHOLE: [Option<i32>; 7] = [
+    Some(1),
+    Some(2),
+    Some(3),
+    Some(1),
+    Some(2),
+    Some(3),
+    Some(1),
 ];
 
-const GAPPED: [Sample; 7] = [
-    Value(1),
-    Missing,
-    Value(3),
-    Value(1),
-    Value(2),
-    Value(3),
-    Value(1),
-];
+const GAPPED: [Option<i32>; 7] = [Some(1), None, Some(3), Some(1), Some(2), Some(3), Some(1)];
 
 #[test]
 fn two_channels_have_a_profile(rt: HostRuntime) -> Result<(), Fail> {
     let mut channels = Bundle::new(rt.alloc());
-    channels.add(&WHOLE)?;
-    channels.add(&GAPPED)?;
+    channels.add(samples(rt.alloc(), &WHOLE)?.as_slice())?;
+    channels.add(samples(rt.alloc(), &GAPPED)?.as_slice())?;
     for (k, expected) in [
         (
             1,
@@ -182,6 +178,36 @@ fn two_channels_have_a_profile(rt: HostRuntime) -> Result<(), Fail> {
     Ok(())
 }
 
+/// The ends of 48 bits.
+const ENDS: [i64; 6] = [LEAST, LEAST, LEAST, GREATEST, GREATEST, GREATEST];
+
+/// The nearest windows are two differences of both ends away, in each of so many channels.
+fn far_in(channels: u128) -> Column
+    requires { channels ≤ 8 }
+{
+    let far = channels * 158_456_325_028_527_549_287_181_058_050;
+    [
+        Some((far, 2)),
+        Some((far, 3)),
+        Some((far, 0)),
+        Some((far, 1)),
+    ]
+}
+
+#[test]
+fn the_ends_of_48_bits_have_entries(rt: HostRuntime) -> Result<(), Fail> {
+    let ends = wide_samples(rt.alloc(), &ENDS)?;
+    assert!(rt; ends.len() as u64 <= MAX_SAMPLES);
+    let found = self_join(&rt, rt.alloc(), ends.as_slice(), 3, 256, 4, &OpenGate)?;
+    expect_slots(&rt, found.all(), &far_in(1));
+    let mut channels = Bundle::new(rt.alloc());
+    channels.add(ends.as_slice())?;
+    channels.add(ends.as_slice())?;
+    let found = multi(&rt, rt.alloc(), &channels, 3, 2, 256, 4, &OpenGate)?;
+    expect_slots(&rt, found.as_slice(), &far_in(2));
+    Ok(())
+}
+
 fn expect_centre(rt: &impl Abort, centre: &Centre) {
     assert_eq!(rt; (centre.radius.0, centre.series, centre.start), (3, 0, 0));
     expect_windows(rt, centre.nearest.as_slice(), &[(0, 0), (0, 1), (3, 0)]);
@@ -190,9 +216,9 @@ fn expect_centre(rt: &impl Abort, centre: &Centre) {
 #[test]
 fn three_series_have_a_centre(rt: HostRuntime) -> Result<(), Fail> {
     let mut list = Bundle::new(rt.alloc());
-    list.add(&RISING)?;
-    list.add(&[Value(9), Value(1), Value(2), Value(3)])?;
-    list.add(&[Value(2), Value(3), Value(4), Value(9)])?;
+    list.add(samples(rt.alloc(), &RISING)?.as_slice())?;
+    list.add(samples(rt.alloc(), &[Some(9), Some(1), Some(2), Some(3)])?.as_slice())?;
+    list.add(samples(rt.alloc(), &[Some(2), Some(3), Some(4), Some(9)])?.as_slice())?;
     let found = consensus(&rt, rt.alloc(), &list, 3, 4, &OpenGate)?;
     assert!(rt; found.is_some());
     if let Some(centre) = &found {
@@ -204,7 +230,7 @@ fn three_series_have_a_centre(rt: HostRuntime) -> Result<(), Fail> {
 #[test]
 fn no_window_of_a_series_is_in_one_without_samples(rt: HostRuntime) -> Result<(), Fail> {
     let mut list = Bundle::new(rt.alloc());
-    list.add(&RISING)?;
+    list.add(samples(rt.alloc(), &RISING)?.as_slice())?;
     list.add(&[])?;
     assert!(rt; consensus(&rt, rt.alloc(), &list, 3, 4, &OpenGate)?.is_none());
     Ok(())

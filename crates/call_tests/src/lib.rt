@@ -20,6 +20,8 @@ mod marks;
 #[cfg(test)]
 mod meetings;
 #[cfg(test)]
+mod numbers;
+#[cfg(test)]
 mod queries;
 #[cfg(test)]
 mod series;

@@ -1,8 +1,8 @@
 //! Two workers that meet at a gate, through each call that starts workers.
 
+use crate::numbers::sample;
 use mp_consensus::consensus;
 use mp_nums::Sample;
-use mp_nums::Sample::Value;
 use mp_outside::{Gate, MeetGate};
 use mp_series::{Bundle, MAX_SAMPLES};
 use mp_tiles::profile;
@@ -14,7 +14,7 @@ use std::test::Fail;
 fn long(alloc: Global) -> Result<Vec<Sample>, AllocError> {
     let mut samples = Vec::new(alloc);
     for i in 0..2_000 {
-        samples.push(Value(i % 97))?;
+        samples.push(sample(Some(i % 97)))?;
     }
     Ok(samples)
 }

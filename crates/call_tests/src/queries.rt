@@ -1,42 +1,66 @@
 //! What is found by a pattern: distances, matches, motifs, and discords.
 
 use crate::expected::expect_windows;
+use crate::numbers::{GREATEST, LEAST, samples, wide_samples};
 use mp_motifs::{discords, matches, motifs};
-use mp_nums::Sample::{Missing, Value};
-use mp_nums::{Near, Sample, Slot, Sq};
-use mp_plain::profile;
+use mp_nums::{Near, Slot, Sq};
+use mp_plain::{distance, profile};
+use mp_series::MAX_SAMPLES;
 use mp_slide::{SlideRefusal, distances};
 use std::test::Fail;
 
-const SERIES: [Sample; 6] = [Value(1), Value(2), Value(3), Value(1), Value(2), Value(3)];
+const SERIES: [Option<i32>; 6] = [Some(1), Some(2), Some(3), Some(1), Some(2), Some(3)];
 
-const PATTERN: [Sample; 3] = [Value(1), Value(2), Value(3)];
+const PATTERN: [Option<i32>; 3] = [Some(1), Some(2), Some(3)];
 
 const SUMS: [Option<Sq>; 4] = [Some(Sq(0)), Some(Sq(6)), Some(Sq(6)), Some(Sq(0))];
 
 #[test]
 fn distances_to_a_pattern_that_comes_twice(rt: HostRuntime) -> Result<(), Fail> {
     for (series, sums) in [(SERIES.as_slice(), SUMS.as_slice()), (&SERIES[..2], &[])] {
-        let list = distances(&rt, rt.alloc(), &PATTERN, series)?;
+        let pattern = samples(rt.alloc(), &PATTERN)?;
+        let series = samples(rt.alloc(), series)?;
+        let list = distances(&rt, rt.alloc(), pattern.as_slice(), series.as_slice())?;
         assert_eq!(rt; list.as_slice(), sums);
     }
     Ok(())
 }
 
-static REFUSED: [(&[Sample], SlideRefusal); 3] = [
-    (&[Value(1), Value(2)], SlideRefusal::Length),
-    (&[Missing, Missing], SlideRefusal::Length),
-    (&[Value(1), Missing, Value(3)], SlideRefusal::Missing),
+/// The distances of a pattern to windows of the numbers of 48 bits that lie farthest apart.
+#[test]
+fn distances_of_numbers_of_48_bits(rt: HostRuntime) -> Result<(), Fail> {
+    let numbers = [
+        LEAST, GREATEST, 3, LEAST, GREATEST, LEAST, 7, GREATEST, LEAST,
+    ];
+    let series = wide_samples(rt.alloc(), &numbers)?;
+    let (pattern, _) = series.as_slice().split_at(3);
+    let list = distances(&rt, rt.alloc(), pattern, series.as_slice())?;
+    assert_eq!(rt; list.as_slice().len(), 7);
+    for (i, found) in list.as_slice().iter().enumerate() {
+        assert!(rt; i < 7);
+        let expected = distance(pattern, 0, series.as_slice(), i as u64, 3);
+        assert_eq!(rt; *found, expected);
+    }
+    Ok(())
+}
+
+static REFUSED: [(&[Option<i32>], SlideRefusal); 3] = [
+    (&[Some(1), Some(2)], SlideRefusal::Length),
+    (&[None, None], SlideRefusal::Length),
+    (&[Some(1), None, Some(3)], SlideRefusal::Missing),
 ];
 
 #[test]
-fn patterns_that_are_refused(rt: HostRuntime) {
+fn patterns_that_are_refused(rt: HostRuntime) -> Result<(), Fail> {
+    let series = samples(rt.alloc(), &SERIES)?;
     for (pattern, refusal) in &REFUSED {
+        let pattern = samples(rt.alloc(), pattern)?;
         assert_eq!(rt;
-            distances(&rt, rt.alloc(), pattern, &SERIES).err(),
+            distances(&rt, rt.alloc(), pattern.as_slice(), series.as_slice()).err(),
             Some(*refusal)
         );
     }
+    Ok(())
 }
 
 #[test]
@@ -82,14 +106,16 @@ fn discords_among_four_windows(rt: HostRuntime) -> Result<(), Fail> {
 
 #[test]
 fn motif_that_comes_twice(rt: HostRuntime) -> Result<(), Fail> {
-    let columns = profile(rt.alloc(), &SERIES, 3)?;
+    let series = samples(rt.alloc(), &SERIES)?;
+    assert!(rt; series.len() as u64 <= MAX_SAMPLES);
+    let columns = profile(rt.alloc(), series.as_slice(), 3)?;
     let entries = columns.all.as_slice();
     assert_eq!(rt; entries, ENTRIES.as_slice());
     for (neighbours, count) in [(1, 1), (2, 0)] {
         let found = motifs(
             &rt,
             rt.alloc(),
-            &SERIES,
+            series.as_slice(),
             entries,
             3,
             Sq(6),

@@ -3,8 +3,8 @@
 ghost use Rattle.std.specs.Prelude.{◌≡◌};
 ghost use Rattle.mp_bytes.specs.Digits.{number_of};
 
-/// The number that a text of decimal digits spells, where there are at most so many `digits`, leading zeros counted, and
-/// the number is at most `most`. A text without a digit, or with any other byte, spells none.
+/// The number that a text of decimal digits spells, where there are at most so many `digits`, leading zeros counted,
+/// and the number is at most `most`. A text without a digit, or with any other byte, spells none.
 pub fn read_number(text: &[u8], digits: usize, most: u128) -> Option<u128>
     ensures { result ≡ number_of digits most text.now }
 {

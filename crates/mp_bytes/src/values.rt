@@ -4,8 +4,8 @@ ghost use Rattle.std.specs.Prelude.{◌≡◌, position, Some, option_map};
 ghost use Rattle.std.specs.Iterator.{YieldsFirstRef, item_count};
 ghost use Rattle.mp_bytes.specs.Values.{is_comma, values_left};
 
-/// The values of a field: what stands between its commas, before the first and behind the last. A value may be empty, and
-/// a field has at least one.
+/// The values of a field: what stands between its commas, before the first and behind the last. A value may be empty,
+/// and a field has at least one.
 #[derive(Clone, Copy, Debug)]
 pub struct Values<'a> {
     /// The text of the values that are left, none behind the last one.

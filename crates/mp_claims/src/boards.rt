@@ -1,7 +1,8 @@
 //! A board: which worker has which piece.
 
 ghost use Rattle.std.specs.Prelude.{◌≡◌, ◌+◌, ◌<◌, ◌≤◌, ◌↔◌, length, map, slice_get, IsTrue, IfOk, Some, None};
-ghost use Rattle.mp_claims.specs.Cores.{EachOnce, IsComplete, claimed_by, delivered_by, finished_by, handed_over, held_by, refusal, start};
+ghost use Rattle.mp_claims.specs.Cores.{EachOnce, IsComplete, claimed_by, delivered_by, finished_by, handed_over};
+ghost use Rattle.mp_claims.specs.Cores.{held_by, refusal, start};
 
 use crate::events::{CoreRefusal, Event};
 use crate::states::{PieceState, WorkerState};

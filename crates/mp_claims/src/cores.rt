@@ -1,8 +1,10 @@
 //! A core: workers that claim pieces, finish and deliver them, and the total of what was delivered.
 
-ghost use Rattle.std.specs.Prelude.{◌≡◌, ℕ, ◌<◌, ◌≤◌, ◌↔◌, [], length, slice_get, slice_index_or, slice_set, IsTrue, IfOk, OnErr, OnOk, MatchResult, Some, None};
+ghost use Rattle.std.specs.Prelude.{◌≡◌, ℕ, ◌<◌, ◌≤◌, ◌↔◌, [], length, slice_get, slice_index_or, slice_set, IsTrue};
+ghost use Rattle.std.specs.Prelude.{IfOk, OnErr, OnOk, MatchResult, Some, None};
 ghost use Rattle.mp_partial.specs.Values.{Value, merged_below, merged_over};
-ghost use Rattle.mp_claims.specs.Cores.{EachOnce, IsComplete, accepted, after, claimed_by, delivered_by, delivered_pieces, held_by, refusal, start};
+ghost use Rattle.mp_claims.specs.Cores.{EachOnce, IsComplete, accepted, after, claimed_by, delivered_by};
+ghost use Rattle.mp_claims.specs.Cores.{delivered_pieces, held_by, refusal, start};
 ghost use Rattle.mp_claims.specs.Standing.{MovesValues, StandsFor, TakesIn};
 
 use crate::boards::Board;

@@ -17,14 +17,14 @@ pub fn refused_events_change_nothing()
         → after state event ≡ state }
 {}
 
-/// After any events, each piece below the next number is held by one worker, finished by one, or delivered, and no other
-/// piece is.
+/// After any events, each piece below the next number is held by one worker, finished by one, or delivered, and no
+/// other piece is.
 pub fn pieces_are_once()
     ensures { (pieces workers : ℕ) (events : List Event) → EachOnce (run events (start pieces workers)) }
 {}
 
-/// Whichever worker claims and finishes which piece, and in whichever order all of them deliver then, no event is refused,
-/// and the total is the merge of the values of all pieces.
+/// Whichever worker claims and finishes which piece, and in whichever order all of them deliver then, no event is
+/// refused, and the total is the merge of the values of all pieces.
 pub fn any_shares_make_the_whole()
     ensures { AnySharesMakeTheWhole }
 {}

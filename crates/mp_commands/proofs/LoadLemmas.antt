@@ -13,7 +13,7 @@ use Rattle.mp_defs.specs.Limits.{max_samples}
 use Rattle.mp_defs.specs.Series.{Series, reading_of, series_of}
 use Rattle.mp_nums.specs.declared.samples.Sample.{Sample}
 use Rattle.mp_text.specs.Rows.{Row, columns_of, onto}
-use Rattle.mp_text.specs.Table.{Fault, TooManyRows, Fields, row_of, rows_of, table_of}
+use Rattle.mp_text.specs.Table.{Reader, Fault, TooManyRows, Fields, row_of, rows_of, table_of}
 use Rattle.mp_replies.specs.declared.causes.Cause.{Cause}
 use Rattle.mp_replies.specs.declared.causes.Cause.TheVariants as cause
 use Rattle.mp_replies.specs.Command.{LoadReport}
@@ -127,28 +127,31 @@ few_columns field cols h =
     let by = columns_by field cols (nat_le (length (values_in field)) max_channels) refl h in
     omega (arith, by.0, by.1)
 
-rows_few_by : (scale number : ℕ) (cols : List ℕ) (fields : Fields) (recs : List Fields) (rows : List Row) (over : Bool)
+rows_few_by : (reader : Reader) (number : ℕ) (cols : List ℕ) (fields : Fields) (recs : List Fields) (rows : List Row)
+    (over : Bool)
     → number == max_samples + 1 ≡ over
     → number ≤ max_samples + 1
-    → (if over then Err TooManyRows else onto (row_of scale number fields cols) (rows_of scale cols (number + 1) recs))
+    → (if over then Err TooManyRows else onto (row_of reader number fields cols)
+    (rows_of reader cols (number + 1) recs))
     ≡ Ok rows
-    → ((rest : List Row) → number + 1 ≤ max_samples + 1 → rows_of scale cols (number + 1) recs ≡ Ok rest
+    → ((rest : List Row) → number + 1 ≤ max_samples + 1 → rows_of reader cols (number + 1) recs ≡ Ok rest
     → number + 1 + length rest ≤ max_samples + 1)
     → number + length rows ≤ max_samples + 1
-rows_few_by scale number cols fields recs rows true is low h more = absurd (cc h)
-rows_few_by scale number cols fields recs rows false is low h more =
-    let joined = joined_by (row_of scale number fields cols) (rows_of scale cols (number + 1) recs) rows h in
+rows_few_by reader number cols fields recs rows true is low h more = absurd (cc h)
+rows_few_by reader number cols fields recs rows false is low h more =
+    let joined = joined_by (row_of reader number fields cols) (rows_of reader cols (number + 1) recs) rows h in
     let below : number + 1 ≤ max_samples + 1 = grind (arith, nat_tests) in
     let rest = more joined.rest below joined.rest_are in
     omega (arith, ap length joined.whole, rest)
 
-rows_few : (scale number : ℕ) (cols : List ℕ) (recs : List Fields) (rows : List Row) → number ≤ max_samples + 1
-    → rows_of scale cols number recs ≡ Ok rows → number + length rows ≤ max_samples + 1
-rows_few scale number cols [] [] low h = omega (arith, low)
-rows_few scale number cols [] (row ∷ rows) low h = absurd (cc h)
-rows_few scale number cols (fields ∷ recs) rows low h =
-    rows_few_by scale number cols fields recs rows (number == max_samples + 1) refl low h
-    (λ rest below is. rows_few scale (number + 1) cols recs rest below is)
+rows_few : (reader : Reader) (number : ℕ) (cols : List ℕ) (recs : List Fields) (rows : List Row)
+    → number ≤ max_samples + 1
+    → rows_of reader cols number recs ≡ Ok rows → number + length rows ≤ max_samples + 1
+rows_few reader number cols [] [] low h = omega (arith, low)
+rows_few reader number cols [] (row ∷ rows) low h = absurd (cc h)
+rows_few reader number cols (fields ∷ recs) rows low h =
+    rows_few_by reader number cols fields recs rows (number == max_samples + 1) refl low h
+    (λ rest below is. rows_few reader (number + 1) cols recs rest below is)
 
 -- the columns of at most 262,144 rows
 pub record IsTable (cols : List ℕ) (series : List Series) : Type 0 where
@@ -156,17 +159,18 @@ pub record IsTable (cols : List ℕ) (series : List Series) : Type 0 where
   pub few : length rows ≤ max_samples
   pub series_are : series ≡ columns_of (length cols) rows
 
-table_by : (scale : ℕ) (cols : List ℕ) (recs : List Fields) (series : List Series) (read : Result (List Row) Fault)
-    → rows_of scale cols 1 recs ≡ read
-    → table_of scale cols recs ≡ Ok series → IsTable cols series
-table_by scale cols recs series (Ok rows) is h =
+table_by : (reader : Reader) (cols : List ℕ) (recs : List Fields) (series : List Series)
+    (read : Result (List Row) Fault)
+    → rows_of reader cols 1 recs ≡ read
+    → table_of reader cols recs ≡ Ok series → IsTable cols series
+table_by reader cols recs series (Ok rows) is h =
     let whole : Ok (columns_of (length cols) rows) ≡ Ok series = rw is at h in
-    record { rows = rows; few = omega (arith, rows_few scale 1 cols recs rows (omega arith) is); series_are = cc }
-table_by scale cols recs series (Err fault) is h = let none : Err fault ≡ Ok series = rw is at h in absurd (cc none)
+    record { rows = rows; few = omega (arith, rows_few reader 1 cols recs rows (omega arith) is); series_are = cc }
+table_by reader cols recs series (Err fault) is h = let none : Err fault ≡ Ok series = rw is at h in absurd (cc none)
 
-pub table_is : (scale : ℕ) (cols : List ℕ) (recs : List Fields) (series : List Series)
-    → table_of scale cols recs ≡ Ok series → IsTable cols series
-table_is scale cols recs series h = table_by scale cols recs series (rows_of scale cols 1 recs) refl h
+pub table_is : (reader : Reader) (cols : List ℕ) (recs : List Fields) (series : List Series)
+    → table_of reader cols recs ≡ Ok series → IsTable cols series
+table_is reader cols recs series h = table_by reader cols recs series (rows_of reader cols 1 recs) refl h
 
 pub even_table : (cols : List ℕ) (bundle : List (List Sample)) (t : IsTable cols (map series_of bundle))
     → All (λ samples. length samples ≡ length t.rows) bundle

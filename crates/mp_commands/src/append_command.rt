@@ -20,7 +20,7 @@ ghost use Rattle.mp_text.specs.Rows.{Row, columns_of};
 use crate::prepared::{Change, Prepared};
 use crate::requests::Appending;
 use mp_bytes::{Fields, Values};
-use mp_nums::{Memory, Sample};
+use mp_nums::{Memory, Sample, Width};
 use mp_replies::Cause;
 use mp_requests::{Answer, Context, Report, Stop};
 use mp_series::MAX_SAMPLES;
@@ -126,7 +126,7 @@ fn is_good(item: &[u8], form: Form) -> bool
 {
     let mut count = 0;
     for value in Values::of(item) {
-        if read_sample(value, form.scale).is_err() {
+        if read_sample(value, form.scale, Width::Narrow).is_err() {
             return false;
         }
         count += 1;
@@ -174,7 +174,7 @@ fn read_item(added: &mut [Vec<Sample>], item: &[u8], form: Form) -> Result<(), M
         ≡ extended (map series_of (lists_in added.old)) (columns_of form.channels (row ∷ []))) }
 {
     for (k, value) in Values::of(item).enumerate() {
-        added[k].push(read_sample(value, form.scale).unwrap())?;
+        added[k].push(read_sample(value, form.scale, Width::Narrow).unwrap())?;
     }
     Ok(())
 }

@@ -18,7 +18,7 @@ ghost use Rattle.mp_stores.specs.Stores.{HaveWindow, StandFor, items_in, streams
 use crate::prepared::{Change, Prepared};
 use crate::requests::Load;
 use mp_lines::Columns;
-use mp_nums::Memory;
+use mp_nums::{Memory, Width};
 use mp_outside::{Gate, Shelf, ShelfAnswer};
 use mp_replies::Cause;
 use mp_requests::{Answer, Context, Report, Stop};
@@ -117,7 +117,14 @@ fn prepare_table<R: Threads + Sync, G: Gate>(
     let alloc = context.alloc;
     let columns = load.columns.read(alloc)?;
     let scale = context.settings.scale();
-    let bundle = match read_table(alloc, bytes, columns.as_slice(), load.header, scale) {
+    let bundle = match read_table(
+        alloc,
+        bytes,
+        columns.as_slice(),
+        load.header,
+        scale,
+        Width::Narrow,
+    ) {
         Ok(bundle) => bundle,
         Err(fault) => {
             return match table_cause(fault) {

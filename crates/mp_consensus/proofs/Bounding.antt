@@ -1,5 +1,6 @@
 -- What the steps of lookers keep.
-use Rattle.std.proofs.Common.{◌≡◌, ℕ, zero, suc, ◌<◌, ◌≤◌, inl, inr, min, List, [], ◌∷◌, ◌++◌, length, refl, sym, ap, subst}
+use Rattle.std.proofs.Common.{◌≡◌, ℕ, zero, suc, ◌<◌, ◌≤◌, inl, inr, min, List, [], ◌∷◌, ◌++◌, length, refl, sym, ap}
+use Rattle.std.proofs.Common.{subst}
 use Rattle.std.proofs.Common.{◌∙◌, arith, get_or-set_same}
 use Rattle.std.specs.Prelude.{◌⊎◌, slice_index, Option, Some}
 use Rattle.std.proofs.Math.ListN.{set, length-set}

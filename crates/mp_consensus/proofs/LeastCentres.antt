@@ -16,7 +16,8 @@ use Rattle.mp_defs.specs.Least.{near_at, at_distance}
 use Rattle.mp_defs.specs.Profile.{windows_of}
 use Rattle.mp_defs.specs.Laws.{IsLeast}
 use Rattle.mp_defs.specs.LeastLaws.{near_is_first}
-use Rattle.mp_results.specs.Consensus.{Central, series_at, counterpart, radius_of, those_there, listed, least_at, central_at, lesser, centre_among, centre_of}
+use Rattle.mp_results.specs.Consensus.{Central, series_at, counterpart, radius_of, those_there, listed, least_at}
+use Rattle.mp_results.specs.Consensus.{central_at, lesser, centre_among, centre_of}
 use Rattle.mp_consensus.specs.Laws.{IsCentre, CentreIsLeast}
 use Rattle.mp_consensus.proofs.Radii.{IsFarthest, FarthestIs, farthest_is}
 

@@ -13,7 +13,8 @@ use Rattle.mp_defs.specs.Series.{Series}
 use Rattle.mp_defs.specs.Least.{near, at_distance}
 use Rattle.mp_defs.specs.LeastLaws.{grows_by_one_candidate}
 use Rattle.mp_defs.specs.Profile.{column}
-use Rattle.mp_results.specs.Consensus.{farther, farthest, listed, those_there, lesser, centre_among, central_at, least_at}
+use Rattle.mp_results.specs.Consensus.{farther, farthest, listed, those_there, lesser, centre_among, central_at}
+use Rattle.mp_results.specs.Consensus.{least_at}
 use Rattle.mp_consensus.specs.Columns.{as_square}
 
 -- ---- the farthest

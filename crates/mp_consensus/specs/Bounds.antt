@@ -59,7 +59,8 @@ pub record IsShared (bound : State (Unit {0}) LookerView) : Type 0 where
 
 -- ---- what the steps do
 
--- the number found is no bound or no less than the least radius, and no greater than what was seen. It is what is seen now
+-- the number found is no bound or no less than the least radius, and no greater than what was seen. It is what is seen
+-- now
 pub record Reads (step : Step (Unit {0})) (before : Me (Unit {0}) LookerView) (found : ℕ)
     (after : Me (Unit {0}) LookerView) : Type 0 where
   pub view : after.0 ≡ looker_view found before.0.least

@@ -14,9 +14,9 @@ use std::marker::Model;
 /// The word of a bound that is none.
 const NO_BOUND: u64 = u64::MAX;
 
-/// The least radius that some window of a list of series is known to have, shared by any number of threads, of which each
-/// has a looker of its own. A window whose distance to some other series is greater can't be the centre. Two threads of a
-/// caller's own share one so:
+/// The least radius that some window of a list of series is known to have, shared by any number of threads, of which
+/// each has a looker of its own. A window whose distance to some other series is greater can't be the centre. Two
+/// threads of a caller's own share one so:
 ///
 /// ```
 /// let (bound, mut looker) = Bound::new(alloc, &list, m)?;
@@ -67,8 +67,8 @@ impl<'a> Bound<'a> {
         }
     }
 
-    /// The least radius that was told so far, no greater than what the looker saw before. It waits for nobody, and takes
-    /// no memory.
+    /// The least radius that was told so far, no greater than what the looker saw before. It waits for nobody, and
+    /// takes no memory.
     pub fn read(&self, looker: &mut Looker) -> Option<Sq>
         requires { looker.old.bound ≡ self.now }
         ensures bound { looker.new.bound ≡ looker.old.bound }
@@ -85,8 +85,8 @@ impl<'a> Bound<'a> {
         }
     }
 
-    /// Tells a radius that some window has. One that doesn't fit the word is left out. It waits for nobody, and takes no
-    /// memory.
+    /// Tells a radius that some window has. One that doesn't fit the word is left out. It waits for nobody, and takes
+    /// no memory.
     pub fn lower(&self, looker: &mut Looker, radius: Sq)
         requires bound { looker.old.bound ≡ self.now }
         requires radius { HasLeast looker.old.least radius.0 }

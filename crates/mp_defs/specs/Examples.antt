@@ -1,6 +1,7 @@
 -- Entries that were computed by hand, at window length 3.
 use Rattle.std.specs.Prelude.{◌≡◌, ℕ, ℤ, pos, negsuc, [], ◌∷◌, Option, Some, None}
 use Rattle.mp_nums.specs.declared.nearest.Near.{Near}
+use Rattle.mp_nums.specs.Whole.{least_whole, greatest_whole}
 use Rattle.mp_defs.specs.Series.{Series}
 use Rattle.mp_defs.specs.Least.{near_at}
 use Rattle.mp_defs.specs.Profile.{Columns, matrix_profile, ab_join}
@@ -53,6 +54,23 @@ ExtremeEntries = matrix_profile 3 extreme ≡ record {
   all = found far 2 ∷ found far 3 ∷ found far 0 ∷ found far 1 ∷ [];
   left = None ∷ None ∷ found far 0 ∷ found far 1 ∷ [];
   right = found far 2 ∷ found far 3 ∷ None ∷ None ∷ [];
+}
+
+-- three times the least number of 48 bits, and three times the greatest
+abbrev pub widest : Series
+widest =
+    Some least_whole ∷ Some least_whole ∷ Some least_whole ∷ Some greatest_whole ∷ Some greatest_whole
+    ∷ Some greatest_whole ∷ []
+
+-- twice the square of their difference
+abbrev pub farthest : ℕ
+farthest = 158456325028527549287181058050
+
+abbrev pub WidestEntries : Type 0
+WidestEntries = matrix_profile 3 widest ≡ record {
+  all = found farthest 2 ∷ found farthest 3 ∷ found farthest 0 ∷ found farthest 1 ∷ [];
+  left = None ∷ None ∷ found farthest 0 ∷ found farthest 1 ∷ [];
+  right = found farthest 2 ∷ found farthest 3 ∷ None ∷ None ∷ [];
 }
 
 -- 1 2 ? 1 2 3 1 2 3

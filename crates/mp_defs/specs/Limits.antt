@@ -1,5 +1,8 @@
 -- The limits of what is computed.
 use Rattle.std.specs.Prelude.{ℕ, ℤ, pos, negsuc}
+use Rattle.mp_nums.specs.declared.widths.Width.{Width}
+use Rattle.mp_nums.specs.declared.widths.Width.TheVariants.{Narrow, Wide}
+use Rattle.mp_nums.specs.Whole.{least_whole, greatest_whole}
 
 -- the most samples of a series
 abbrev pub max_samples : ℕ
@@ -13,9 +16,11 @@ min_window = 3
 abbrev pub max_window : ℕ
 max_window = 16384
 
--- the least number of a sample: 32 bits with sign
-abbrev pub least_sample : ℤ
-least_sample = negsuc 2147483647
+-- the least number that is read as a sample: of 32 bits with sign, or of 48
+abbrev pub least_sample : Width → ℤ
+least_sample Narrow = negsuc 2147483647
+least_sample Wide = least_whole
 
-abbrev pub greatest_sample : ℤ
-greatest_sample = pos 2147483647
+abbrev pub greatest_sample : Width → ℤ
+greatest_sample Narrow = pos 2147483647
+greatest_sample Wide = greatest_whole

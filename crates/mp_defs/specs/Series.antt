@@ -1,4 +1,4 @@
--- A series: a list of samples, each missing or a whole number.
+-- A series: a list of samples, each missing or a whole number of 48 bits with sign.
 use Rattle.std.specs.Prelude.{ℕ, ℤ, List, map, slice_get, Option, Some, None}
 use Rattle.mp_nums.specs.declared.samples.Sample.{Sample}
 use Rattle.mp_nums.specs.declared.samples.Sample.TheVariants.{Missing, Value}

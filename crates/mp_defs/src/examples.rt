@@ -4,6 +4,7 @@ ghost use Rattle.mp_defs.specs.Examples.{
   PlainEntries,
   TiedEntries,
   ExtremeEntries,
+  WidestEntries,
   MissingEntries,
   ShortSeries,
   JoinedEntries,
@@ -22,6 +23,11 @@ pub fn tied_entries()
 /// The ends of 32 bits.
 pub fn extreme_entries()
     ensures { ExtremeEntries }
+{}
+
+/// The ends of 48 bits.
+pub fn widest_entries()
+    ensures { WidestEntries }
 {}
 
 /// Windows with a missing sample have no entry, and are no entry's.

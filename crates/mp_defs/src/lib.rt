@@ -8,7 +8,7 @@ mod laws;
 
 pub use examples::{
     extreme_entries, joined_entries, missing_entries, plain_entries, short_series_has_no_windows,
-    tied_entries,
+    tied_entries, widest_entries,
 };
 pub use laws::{
     columns_are_by_choice, columns_have_places, distance_grows_by_one_sample,

@@ -1,6 +1,7 @@
 //! The lines of an input that comes in pieces.
 
-ghost use Rattle.std.specs.Prelude.{◌≡◌, ◌≢◌, ◌+◌, ◌<◌, ◌≤◌, ◌↔◌, ◌++◌, [], All, IsTrue, IfOk, length, take, vec_capacity};
+ghost use Rattle.std.specs.Prelude.{◌≡◌, ◌≢◌, ◌+◌, ◌<◌, ◌≤◌, ◌↔◌, ◌++◌, [], All, IsTrue, IfOk, length, take};
+ghost use Rattle.std.specs.Prelude.{vec_capacity};
 
 use memchr::memchr;
 use mp_nums::Memory;

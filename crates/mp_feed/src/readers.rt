@@ -1,6 +1,7 @@
 //! A reader of lines: the bytes of a source, up to a limit, cut into lines.
 
-ghost use Rattle.std.specs.Prelude.{◌≡◌, ◌⊎◌, ℕ, ◌+◌, ◌-◌, ◌^◌, ◌<◌, ◌≤◌, min, List, [], length, drop, Option, Some, IfOk, OnOk, OnErr, IsTrue, vec_len, true, false};
+ghost use Rattle.std.specs.Prelude.{◌≡◌, ◌⊎◌, ℕ, ◌+◌, ◌-◌, ◌^◌, ◌<◌, ◌≤◌, min, List, [], length, drop, Option, Some};
+ghost use Rattle.std.specs.Prelude.{IfOk, OnOk, OnErr, IsTrue, vec_len, true, false};
 ghost use Rattle.mp_outside.specs.Counts.{Rose};
 ghost use Rattle.mp_feed.specs.Feeding.{nothing, IsCutLine, has_lf, used_of, fed};
 ghost use Rattle.mp_feed.specs.Reading.{Reading, at_start, after_line, bit, IsReadOf, Gave, IsDry, IsNext, IsFailed};
@@ -58,8 +59,8 @@ impl Model for LineReader {
 }
 
 impl LineReader {
-    /// A reader that takes up to `limit` bytes of a source, and one more that shows that there are more. It takes all the
-    /// room that it needs.
+    /// A reader that takes up to `limit` bytes of a source, and one more that shows that there are more. It takes all
+    /// the room that it needs.
     pub fn new(alloc: Global, limit: u64) -> Result<LineReader, Memory>
         requires { limit < 2 ^ 64 - 1 }
         ensures { IfOk result (λ reader. reader ≡ at_start limit) }

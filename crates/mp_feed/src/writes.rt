@@ -1,6 +1,7 @@
 //! Reports, written whole.
 
-ghost use Rattle.std.specs.Prelude.{◌≡◌, ◌≢◌, ℕ, ◌+◌, ◌-◌, ◌^◌, ◌<◌, ◌≤◌, min, List, ◌++◌, length, Some, OnOk, OnErr, false};
+ghost use Rattle.std.specs.Prelude.{◌≡◌, ◌≢◌, ℕ, ◌+◌, ◌-◌, ◌^◌, ◌<◌, ◌≤◌, min, List, ◌++◌, length, Some, OnOk, OnErr};
+ghost use Rattle.std.specs.Prelude.{false};
 ghost use Rattle.mp_outside.specs.Counts.{Rose};
 ghost use Rattle.mp_feed.specs.Writing.{TellsPrefix, WroteReport, WroteFront};
 

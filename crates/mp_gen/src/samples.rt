@@ -1,7 +1,7 @@
 ghost use Rattle.std.specs.Prelude.{◌≡◌, ◌≤◌};
 ghost use Rattle.mp_results.specs.Generator.{drawn, folded, period, sample_of, wave};
 
-use mp_nums::Sample;
+use mp_nums::{Sample, Whole};
 
 /// What SplitMix64 adds from one place to the next.
 const STEP: u64 = 0x9e37_79b9_7f4a_7c15;
@@ -18,7 +18,7 @@ pub fn sample_at(number: u64, i: u64) -> Sample
         return Sample::Missing;
     }
     let chance = drawn(number, i) % 41;
-    Sample::Value((wave(i) + chance) as i32 - 20)
+    Sample::Value(Whole::from((wave(i) + chance) as i32 - 20))
 }
 
 /// The wave without chance.

@@ -1,6 +1,7 @@
 //! Numbers, refs and lists of columns.
 
-ghost use Rattle.std.specs.Prelude.{◌≡◌, ◌+◌, ◌^◌, ◌<◌, ◌≤◌, [], length, drop, position, is_some, unwrap_or, Some, true, IfOk, IfSome};
+ghost use Rattle.std.specs.Prelude.{◌≡◌, ◌+◌, ◌^◌, ◌<◌, ◌≤◌, [], length, drop, position, is_some, unwrap_or, Some};
+ghost use Rattle.std.specs.Prelude.{true, IfOk, IfSome};
 ghost use Rattle.mp_bytes.specs.Digits.{number_of};
 ghost use Rattle.mp_replies.specs.Limits.{max_digits};
 ghost use Rattle.mp_replies.specs.Numbers.{

@@ -10,7 +10,8 @@ use Rattle.mp_nums.specs.declared.nearest.Near.{Near}
 use Rattle.mp_defs.specs.Series.{Series}
 use Rattle.mp_defs.specs.Profile.{entry, matrix_profile, windows_of}
 use Rattle.mp_defs.specs.Window.{excl, is_allowed}
-use Rattle.mp_results.specs.Motifs.{HasEntryDistance, MotifQuery, Repeated, entry_within, matches_of, motifs, motifs_among, within_cutoff}
+use Rattle.mp_results.specs.Motifs.{HasEntryDistance, MotifQuery, Repeated, entry_within, matches_of, motifs}
+use Rattle.mp_results.specs.Motifs.{motifs_among, within_cutoff}
 use Rattle.mp_motifs.proofs.Alone.{at_place}
 use Rattle.mp_motifs.proofs.Listed.{ComesFrom, source}
 

@@ -4,3 +4,4 @@ pub mod Listed
 pub mod Lending
 pub mod Ratio
 pub mod RatioLaws
+pub mod Whole

@@ -8,6 +8,7 @@ mod nearest;
 mod ratios;
 mod refusal;
 mod samples;
+mod widths;
 
 pub use finds::{Centre, Discord, Motif};
 pub use laws::{
@@ -17,4 +18,5 @@ pub use lists::{Items, NearList, Places, Slots, SqList, Text};
 pub use nearest::{Near, Slot, Sq, nearer};
 pub use ratios::Ratio;
 pub use refusal::Memory;
-pub use samples::Sample;
+pub use samples::{Sample, Whole};
+pub use widths::Width;

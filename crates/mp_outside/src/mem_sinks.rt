@@ -1,4 +1,5 @@
-ghost use Rattle.std.specs.Prelude.{◌≡◌, ◌-◌, ◌^◌, ◌≤◌, min, [], length, take, Some, IfOk, OnOk, OnErr, is_err, true, unwrap_or};
+ghost use Rattle.std.specs.Prelude.{◌≡◌, ◌-◌, ◌^◌, ◌≤◌, min, [], length, take, Some, IfOk, OnOk, OnErr, is_err, true};
+ghost use Rattle.std.specs.Prelude.{unwrap_or};
 ghost use Rattle.std.proofs.Common.{rules};
 ghost use Rattle.mp_outside.specs.States.{after_writing};
 ghost use Rattle.mp_outside.specs.Planned.{is_next_to_fail, after_call};

@@ -11,8 +11,8 @@ use crate::profiles::Profile;
 use mp_nums::Memory;
 use std::alloc::Global;
 
-/// A profile, and a patch on which a part of the pairs of windows is compared before the profile absorbs what was found.
-/// As a part it stands for what the profile does.
+/// A profile, and a patch on which a part of the pairs of windows is compared before the profile absorbs what was
+/// found. As a part it stands for what the profile does.
 #[derive(Debug, Drop)]
 pub struct Bench {
     pub profile: Profile,

@@ -10,8 +10,8 @@ pub fn merges_by_pieces<P: Part>()
     ensures { MergesByPieces P.is_value P.unit_of P.merged }
 {}
 
-/// The numbers below a count are those less than it. A list of those that pass a test has just these, and one list behind
-/// another has the pieces of both.
+/// The numbers below a count are those less than it. A list of those that pass a test has just these, and one list
+/// behind another has the pieces of both.
 pub fn pieces_of_lists()
     ensures { ListsOfPieces }
 {}

@@ -1,10 +1,12 @@
 -- One more sample of a distance, and one more window of a least.
-use Rattle.std.proofs.Common.{◌≡◌, ℕ, zero, suc, ◌+◌, ◌-◌, ◌*◌, ◌^◌, ◌<◌, ◌≤◌, List, [], ◌∷◌, ◌++◌, get_or, refl, arith}
+use Rattle.std.proofs.Common.{◌≡◌, ℕ, zero, suc, ◌+◌, ◌-◌, ◌*◌, ◌^◌, ◌<◌, ◌≤◌, List, [], ◌∷◌, ◌++◌, get_or, length}
+use Rattle.std.proofs.Common.{refl, arith}
 use Rattle.std.proofs.Common.{add-one, mul-le-mul, ap, ◌∙◌, sym, Bool, true, false}
 use Rattle.std.specs.Prelude.{Option, Some, None, ℤ, ◌-ℤ◌, unsigned_abs, FitsSigned, if◌then◌else◌}
 use Rattle.std.specs.Int.{w32}
 use Rattle.std.specs.Option.{option_map}
 use Rattle.std.proofs.lemmas.Int.{ints}
+use Rattle.std.proofs.lemmas.List.{get_or_default}
 use Rattle.std.proofs.lemmas.List.FromFn.{map-range_with_len_more}
 use Rattle.mp_nums.specs.declared.samples.Sample.{Sample}
 use Rattle.mp_nums.specs.declared.samples.Sample.TheVariants.{Missing}
@@ -31,10 +33,16 @@ none_some e = cc
 -- ---- samples
 
 -- the squared difference of two samples, by their places
-pub square_at_places : (a : List Sample) (i : ℕ) (b : List Sample) (j : ℕ)
+pub square_at_places : (a : List Sample) (i : ℕ) (b : List Sample) (j : ℕ) (x y : Sample) → i < length a
+    → j < length b → x ≡ get_or a i x → y ≡ get_or b j y
     → square_between (number_at (series_of a) i) (number_at (series_of b) j)
-    ≡ square_between (reading_of (get_or a i Missing)) (reading_of (get_or b j Missing))
-square_at_places a i b j = rw (series_are_of_samples.numbers a i, series_are_of_samples.numbers b j) refl
+    ≡ square_between (reading_of x) (reading_of y)
+square_at_places a i b j x y lt less e f =
+    let first : number_at (series_of a) i ≡ reading_of x =
+    series_are_of_samples.numbers a i ∙ ap reading_of (sym (e ∙ get_or_default a i x Missing lt)) in
+    let second : number_at (series_of b) j ≡ reading_of y =
+    series_are_of_samples.numbers b j ∙ ap reading_of (sym (f ∙ get_or_default b j y Missing less)) in
+    ap (λ p. square_between p (number_at (series_of b) j)) first ∙ ap (square_between (reading_of x)) second
 
 -- ---- distances
 
@@ -70,44 +78,6 @@ distance_found (Some d) found e = let same : found ≡ square d = cc in ap (λ (
 pub distance_missing : (d : Option ℕ) → None ≡ option_map square d → d ≡ None
 distance_missing None e = refl
 distance_missing (Some d) e = cc
-
--- ---- how large distances are
-
--- the numbers of the series have 32 bits with sign
-abbrev pub HasWords : Series → Type 0
-HasWords a = (n : ℕ) (x : ℤ) → number_at a n ≡ Some x → FitsSigned w32 x
-
-gap_small : (x y : ℤ) → FitsSigned w32 x → FitsSigned w32 y → unsigned_abs (x -ℤ y) ≤ 2 ^ 32
-gap_small x y p q = omega (arith, ints)
-
-squared_difference_small : (x y : ℤ) → FitsSigned w32 x → FitsSigned w32 y → squared_difference x y ≤ 2 ^ 64
-squared_difference_small x y p q = mul-le-mul (gap_small x y p q) (gap_small x y p q)
-
-square_small : (p q : Option ℤ) (d : ℕ) → ((x : ℤ) → p ≡ Some x → FitsSigned w32 x)
-    → ((x : ℤ) → q ≡ Some x → FitsSigned w32 x) → square_between p q ≡ Some d → d ≤ 2 ^ 64
-square_small None q d h k e = absurd (none_some e)
-square_small (Some x) None d h k e = absurd (none_some e)
-square_small (Some x) (Some y) d h k e = let same : squared_difference x y ≡ d = cc in
-    rw (← same) (squared_difference_small x y (h x refl) (k y refl))
-
-plus_small : (p q : Option ℕ) (d s t : ℕ) → ((x : ℕ) → p ≡ Some x → x ≤ s) → ((x : ℕ) → q ≡ Some x → x ≤ t)
-    → plus p q ≡ Some d → d ≤ s + t
-plus_small None q d s t h k e = absurd (none_some e)
-plus_small (Some x) None d s t h k e = absurd (none_some e)
-plus_small (Some x) (Some y) d s t h k e = let same : x + y ≡ d = cc in omega (arith, h x refl, k y refl)
-
--- each of the m squares is at most 2 ^ 64
-pub distance_small : (m : ℕ) (a : Series) (i : ℕ) (b : Series) (j : ℕ) (d : ℕ) → HasWords a → HasWords b
-    → distance m a i b j ≡ Some d → d ≤ m * 2 ^ 64
-distance_small zero a i b j d h k e =
-    let same : 0 ≡ d = some_same (sym (grows_by_one_sample.no_samples a i b j) ∙ e) in omega arith
-distance_small (suc m) a i b j d h k e =
-    let sum : plus (distance m a i b j) (square_between (number_at a (i + m)) (number_at b (j + m))) ≡ Some d =
-    sym (grows_by_one_sample.one_more m a i b j) ∙ rw add-one e in
-    let small : d ≤ m * 2 ^ 64 + 2 ^ 64 =
-    plus_small _ _ d (m * 2 ^ 64) (2 ^ 64) (λ x f. distance_small m a i b j x h k f)
-    (λ x f. square_small _ _ x (h (i + m)) (k (j + m)) f) sum in
-    omega arith
 
 -- ---- the nearest window
 

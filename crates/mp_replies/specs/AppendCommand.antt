@@ -2,10 +2,11 @@
 use Rattle.std.specs.Prelude.{ℕ, ℤ, ◌+◌, ◌==◌, nat_lt, not, is_none, unwrap_or, List, [], ◌∷◌, length, if◌then◌else◌}
 use Rattle.std.specs.Prelude.{Option, Some, None, Result, Ok, Err}
 use Rattle.mp_bytes.specs.Values.{values_in}
-use Rattle.mp_defs.specs.Limits.{max_samples, least_sample, greatest_sample}
+use Rattle.mp_nums.specs.declared.widths.Width.TheVariants.{Narrow}
+use Rattle.mp_defs.specs.Limits.{max_samples}
 use Rattle.mp_defs.specs.Series.{Series}
 use Rattle.mp_text.specs.Rows.{Row, columns_of, onto}
-use Rattle.mp_text.specs.SampleText.{sample_of}
+use Rattle.mp_text.specs.SampleText.{reading}
 use Rattle.mp_text.specs.declared.refusal.SampleFault.{SampleFault}
 use Rattle.mp_replies.specs.declared.causes.Cause.TheVariants.{Sample, Full}
 use Rattle.mp_replies.specs.Change.{Change, AddSamples}
@@ -25,7 +26,7 @@ append_by (slot, items) = Append slot items
 -- ---- one item: the values of one moment, with commas between, one for each channel
 
 abbrev pub value_of : ℕ → List ℕ → Result (Option ℤ) SampleFault
-value_of scale text = sample_of least_sample greatest_sample scale text
+value_of scale text = reading Narrow scale text
 
 -- the samples of some values, where each value spells one
 abbrev pub samples_of : ℕ → List (List ℕ) → Result Row SampleFault

@@ -3,7 +3,9 @@ use Rattle.std.specs.Prelude.{ℕ, ◌==◌, Bool, true, false, not, nat_lt, Lis
 use Rattle.std.specs.Prelude.{Option, Some, None, is_none, is_some, unwrap_or, Result, Ok, Err}
 use Rattle.std.specs.FinMap.{get}
 use Rattle.mp_bytes.specs.Bytes.{same_text}
+use Rattle.mp_nums.specs.declared.widths.Width.TheVariants.{Narrow}
 use Rattle.mp_defs.specs.Series.{Series}
+use Rattle.mp_text.specs.SampleText.{reading}
 use Rattle.mp_text.specs.Table.{Fault, BadField, NoField, TooManyRows, data_records, table_of}
 use Rattle.mp_replies.specs.declared.causes.Cause.TheVariants.{Channel, File, FileSize, Record, Rows}
 use Rattle.mp_replies.specs.Change.{Change, PutChannels}
@@ -41,7 +43,7 @@ file_in files file = get files file
 
 -- the series of these columns, or the first fault
 abbrev pub table_in : ℕ → List ℕ → Bool → List ℕ → Result (List Series) Fault
-table_in scale cols header bytes = table_of scale cols (data_records header bytes)
+table_in scale cols header bytes = table_of (reading Narrow scale) cols (data_records header bytes)
 
 -- the number of the record with a fault, where that is the fault
 abbrev pub bad_record : Result (List Series) Fault → Option ℕ

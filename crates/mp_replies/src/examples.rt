@@ -81,8 +81,8 @@ pub fn scaled_output()
     ensures { ScaledOutput }
 {}
 
-/// A refusal by each word from `version` to `channel`. `bad_item_is_named` has `sample`, `full_series_is_refused` `full`,
-/// and `pattern_output` `index` and `missing`.
+/// A refusal by each word from `version` to `channel`. `bad_item_is_named` has `sample`, `full_series_is_refused`
+/// `full`, and `pattern_output` `index` and `missing`.
 pub fn refusals_output()
     ensures { RefusalsOutput }
 {}

@@ -1,4 +1,5 @@
-//! The texts of the reports, each with the bytes that the definitions give. A writer has its name here and in its module.
+//! The texts of the reports, each with the bytes that the definitions give. A writer has its name here and in its
+//! module.
 #![tactic(auto)]
 
 pub mod answers;

@@ -109,7 +109,8 @@ pub record AreSidesOf (columns : Columns) (left right : List (Option Near)) : Ty
   pub right_is : right ≡ columns.right
 
 -- so those of a channel's profile are those of its series in the stores
-pub sides_stand : (held : Stored) (stores : List Store) (at : Ref) (profile : Profiled) (left right : List (Option Near))
+pub sides_stand : (held : Stored) (stores : List Store) (at : Ref) (profile : Profiled)
+    (left right : List (Option Near))
     → StandFor held stores → IsChannel held at → columns_in profile ≡ matrix_profile held.m (channel_series held at)
     → left ≡ profile.left → right ≡ profile.right
     → AreSidesOf (matrix_profile held.m (series_at stores at)) left right

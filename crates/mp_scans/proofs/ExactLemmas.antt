@@ -14,5 +14,6 @@ unknown grid behind = search rules
 pub nothing_known : (grid : Grid) (first : ℕ) → AreExacts grid first (replicate GROUP None)
 nothing_known grid first = record {
   count = length-replicate {A = Option Exact} GROUP None;
-  each = λ t lt. subst (IsExact grid (first + t)) (sym (get_or-replicate GROUP t None None lt)) (unknown grid (first + t));
+  each = λ t lt. subst (IsExact grid (first + t)) (sym (get_or-replicate GROUP t None None lt))
+      (unknown grid (first + t));
 }

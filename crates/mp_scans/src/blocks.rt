@@ -88,7 +88,8 @@ pub(crate) struct Pair {
     pub(crate) residue: i32,
 }
 
-/// A row, counted from a block's first, and the residues of it and of thirty-two columns, of which the first are scanned.
+/// A row, counted from a block's first, and the residues of it and of thirty-two columns, of which the first are
+/// scanned.
 #[derive(Clone, Copy)]
 pub(crate) struct Row<'a> {
     pub(crate) place: usize,

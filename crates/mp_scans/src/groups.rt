@@ -44,8 +44,8 @@ struct Rows<'a> {
     ghost column: { row + group.first < 2 ^ 31 },
 }
 
-/// Takes the pairs of a block, strip by strip. The last strip has a column's first rows, and so comes first: a later row
-/// at the same distance gives the column nothing.
+/// Takes the pairs of a block, strip by strip. The last strip has a column's first rows, and so comes first: a later
+/// row at the same distance gives the column nothing.
 fn scan_block<O: Offers>(block: &Block, residues: &mut [i32], known: &mut Known, into: &mut O::Into)
     requires strips { length residues.old ≡ div_ceil block.now.width 32 * 32 }
     requires apart { block.now.row + O.least ≤ block.now.column }

@@ -54,8 +54,8 @@ fn find_clear(samples: &[Sample], from: usize, end: usize) -> usize
     clear
 }
 
-/// Whether it is seen at once that no sample is missing of those from `from` on and before `end`. It looks at all of them,
-/// many at once.
+/// Whether it is seen at once that no sample is missing of those from `from` on and before `end`. It looks at all of
+/// them, many at once.
 fn are_there(samples: &[Sample], from: usize, end: usize) -> bool
     requires { from ≤ end }
     ensures { result ≡ true → IsClear (series_of samples.now) from from end }

@@ -56,7 +56,8 @@ pub trait Offers {
         rounding.residue_limit(Self::row_limit(into, row, first))
     }
 
-    /// A residue of pairs by a rounding, such that the rows from `first` on that have a greater one give the column nothing.
+    /// A residue of pairs by a rounding, such that the rows from `first` on that have a greater one give the column
+    /// nothing.
     #[inline]
     fn column_bound(into: &Self::Into, rounding: &Rounding, column: u64, first: u64) -> i32
         ensures { TellsNothing rounding.now.m rounding.now.shift first (keeps_column into.now column) result }

@@ -44,8 +44,8 @@ fn distance_at(strip: &Strip, pair: Pair, exacts: &mut [Option<Exact>]) -> u128
     }
 }
 
-/// Offers a row and a column at a distance to each other, where that may give one of them something, and tells whether it
-/// may. Mostly it doesn't where rounding hides the distance, or where its sum wraps.
+/// Offers a row and a column at a distance to each other, where that may give one of them something, and tells whether
+/// it may. Mostly it doesn't where rounding hides the distance, or where its sum wraps.
 #[inline]
 fn offer_at<O: Offers>(block: &Block, p: usize, c: usize, dist: u128, into: &mut O::Into) -> bool
     requires row { p < length block.now.rows.differences.now }
@@ -65,8 +65,8 @@ fn offer_at<O: Offers>(block: &Block, p: usize, c: usize, dist: u128, into: &mut
     }
 }
 
-/// Offers a row and a column to each other, where no sample of either is missing and their distance may give one of them
-/// something, and tells whether it is so.
+/// Offers a row and a column to each other, where no sample of either is missing and their distance may give one of
+/// them something, and tells whether it is so.
 fn offer_pair<O: Offers>(
     strip: &Strip,
     pair: Pair,

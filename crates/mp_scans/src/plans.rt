@@ -15,7 +15,8 @@ pub struct Plan<'a> {
     pub rounding: Rounding,
     /// Whether a residue tells the distance of its row and its column. Else that is computed from their samples.
     pub is_exact: bool,
-    /// Whether the columns are windows of the rows' own series. Near ones are much alike then, and bring limits down first.
+    /// Whether the columns are windows of the rows' own series. Near ones are much alike then, and bring limits down
+    /// first.
     pub is_own: bool,
     pub ghost some_samples: { 1 ≤ grid.m },
     pub ghost same_length: { rounding.m ≡ grid.m },

@@ -14,9 +14,9 @@ use crate::sizes::GROUP;
 /// smooth, since each row is nearer to its column than those before it.
 const NEAREST: usize = 8;
 
-/// How many diagonals are scanned together from one on. Of a series with itself these are as many as lie before it. Near
-/// ones often have the nearest windows, so they bring limits down first; and on the same diagonals only the first tie is
-/// offered to a column.
+/// How many diagonals are scanned together from one on. Of a series with itself these are as many as lie before it.
+/// Near ones often have the nearest windows, so they bring limits down first; and on the same diagonals only the first
+/// tie is offered to a column.
 #[inline]
 fn next_width(plan: &Plan, start: usize) -> usize
     ensures some { 1 ≤ result }

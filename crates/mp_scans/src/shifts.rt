@@ -42,8 +42,9 @@ fn count_far(distances: &[u128], shift: u32) -> usize
     far
 }
 
-/// The least shift at which most sums fit well into thirty-two bits. Any other is as right, but lets more pairs pass: with
-/// a greater one rounding hides more, and with a lesser one more sums wrap. A few samples far from the others don't matter.
+/// The least shift at which most sums fit well into thirty-two bits. Any other is as right, but lets more pairs pass:
+/// with a greater one rounding hides more, and with a lesser one more sums wrap. A few samples far from the others
+/// don't matter.
 pub(crate) fn shift_for(grid: &Grid) -> u32
     ensures { result < NUMBER_BITS }
 {

@@ -1,12 +1,13 @@
 //! A list of samples that counts how often they are read.
 
-ghost use Rattle.std.specs.Prelude.{◌≡◌, ◌+◌, ◌*◌, ◌^◌, ◌<◌, ◌≤◌, ◌↔◌, [], ◌∷◌, ◌++◌, length, take, drop, slice_get, Some, IsOk, IsErrOf, IsTrue, IfOk, OnOk, OnErr};
+ghost use Rattle.std.specs.Prelude.{◌≡◌, ◌+◌, ◌*◌, ◌^◌, ◌<◌, ◌≤◌, ◌↔◌, [], ◌∷◌, ◌++◌, length, take, drop, slice_get};
+ghost use Rattle.std.specs.Prelude.{Some, IsOk, IsErrOf, IsTrue, IfOk, OnOk, OnErr};
 ghost use Rattle.mp_defs.specs.Series.{series_of};
 ghost use Rattle.mp_defs.specs.Window.{is_free};
 ghost use Rattle.mp_series.specs.Samples.{number_in, numbers_in, gap_in, missing_before, after_reads};
 
 use crate::limits::MAX_SAMPLES;
-use mp_nums::{Items, Memory, Sample};
+use mp_nums::{Items, Memory, Sample, Whole};
 use std::alloc::Global;
 use std::marker::Model;
 use thiserror::Error;
@@ -34,18 +35,18 @@ impl From<Memory> for PushRefusal {
 }
 
 /// A sample's number, 0 where it is missing.
-fn number(sample: Sample) -> i32
-    ensures { result ≡ number_in sample }
+fn number(sample: &Sample) -> Whole
+    ensures { result ≡ number_in sample.now }
 {
     match sample {
-        Sample::Value(number) => number,
-        Sample::Missing => 0,
+        Sample::Value(number) => *number,
+        Sample::Missing => Whole::from(0),
     }
 }
 
 /// 1 for a missing sample.
-fn gap(sample: Sample) -> u32
-    ensures { result ≡ gap_in sample }
+fn gap(sample: &Sample) -> u32
+    ensures { result ≡ gap_in sample.now }
 {
     match sample {
         Sample::Value(_) => 0,
@@ -56,12 +57,12 @@ fn gap(sample: Sample) -> u32
 /// The samples of a series, seen as their list, how often they were read, and how many more can be taken without
 /// memory. Reads are counted at the calls that give samples out, and their count stays at its greatest value.
 ///
-/// The samples are kept as they are, for a reader of the whole list, and as plain numbers, for a reader of parts. Beside
-/// them stands how many were missing so far, which tells a free window without a read.
+/// The samples are kept as they are, for a reader of the whole list, and as plain numbers, for a reader of parts.
+/// Beside them stands how many were missing so far, which tells a free window without a read.
 #[derive(Debug, Drop)]
 pub struct Samples {
     stored: Items<Sample>,
-    numbers: Items<i32>,
+    numbers: Items<Whole>,
     missing: Items<u32>,
     reads: u128,
 }
@@ -150,9 +151,10 @@ impl Samples {
         }
         self.numbers.reserve(1)?;
         self.missing.reserve(1)?;
-        let missing = self.missing_before(self.len()) + gap(sample);
+        let missing = self.missing_before(self.len()) + gap(&sample);
+        let number = number(&sample);
         self.stored.push(sample)?;
-        self.numbers.push(number(sample)).unwrap();
+        self.numbers.push(number).unwrap();
         self.missing.push(missing).unwrap();
         Ok(())
     }
@@ -170,7 +172,7 @@ impl Samples {
 
     /// The numbers of `count` samples from `first` on, and those of as many from `second` on. A missing sample's is 0.
     #[inline]
-    pub fn parts(&mut self, first: u64, second: u64, count: u64) -> (&[i32], &[i32])
+    pub fn parts(&mut self, first: u64, second: u64, count: u64) -> (&[Whole], &[Whole])
         requires first { first + count ≤ length self.old.items }
         requires second { second + count ≤ length self.old.items }
         ensures* reads { sem 𝓛 (CountsReads self.entry (2 * count)) }

@@ -1,6 +1,7 @@
 //! Serving an input, from its first byte to its last.
 
-ghost use Rattle.std.specs.Prelude.{◌≡◌, ◌⊎◌, ℕ, ◌+◌, ◌-◌, ◌^◌, ◌<◌, ◌≤◌, List, ◌++◌, length, map, string_bytes, Some, true};
+ghost use Rattle.std.specs.Prelude.{◌≡◌, ◌⊎◌, ℕ, ◌+◌, ◌-◌, ◌^◌, ◌<◌, ◌≤◌, List, ◌++◌, length, map, string_bytes, Some};
+ghost use Rattle.std.specs.Prelude.{true};
 ghost use Rattle.mp_defs.specs.Limits.{max_samples};
 ghost use Rattle.mp_feed.specs.Writing.{TellsPrefix};
 ghost use Rattle.mp_outside.specs.Counts.{Rose};

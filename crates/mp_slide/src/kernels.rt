@@ -4,14 +4,15 @@ ghost use Rattle.std.specs.Prelude.{◌≡◌, ◌-◌, ◌≤◌, length};
 ghost use Rattle.mp_sums.specs.Lists.{list_sum};
 ghost use Rattle.mp_slide.specs.Plain.{IsShort, LieClose};
 
-use mp_sums::{Number, square};
+use mp_nums::Whole;
+use mp_sums::close_square;
 
 /// How many squares are summed in 64 bits, where the numbers lie close enough.
 pub(crate) const PART: usize = 256;
 
 /// The sum over the places from `first` on and before `end`, in 64 bits.
 #[inline]
-fn narrow_sum(pattern: &[Number], window: &[Number], first: usize, end: usize) -> u64
+fn narrow_sum(pattern: &[Whole], window: &[Whole], first: usize, end: usize) -> u64
     requires places { length window.now ≡ length pattern.now }
     requires ordered { first ≤ end }
     requires within { end ≤ length pattern.now }
@@ -21,13 +22,13 @@ fn narrow_sum(pattern: &[Number], window: &[Number], first: usize, end: usize) -
 {
     let mut sum: u64 = 0;
     for k in first..end {
-        sum += square(pattern[k], window[k]);
+        sum += close_square(pattern[k], window[k]);
     }
     sum
 }
 
 /// The sum over all places, in parts of 64 bits.
-pub(crate) fn parted_sum(pattern: &[Number], window: &[Number]) -> u128
+pub(crate) fn parted_sum(pattern: &[Whole], window: &[Whole]) -> u128
     requires places { length window.now ≡ length pattern.now }
     requires short { IsShort pattern.now }
     requires close { LieClose pattern.now window.now }

@@ -4,12 +4,12 @@ ghost use Rattle.std.specs.Prelude.{◌≡◌, IfOk};
 ghost use Rattle.mp_defs.specs.Series.{reading_of, series_of};
 ghost use Rattle.mp_slide.specs.Plain.{gap, AreGaps, plain_numbers};
 
-use mp_nums::Sample;
-use mp_sums::{Number, number_of};
+use mp_nums::{Sample, Whole};
+use mp_sums::number_of;
 use std::alloc::{AllocError, Global};
 
 /// The samples as plain numbers, with 0 in place of the missing ones. No window with a missing sample is compared.
-pub(crate) fn numbers_of(alloc: Global, samples: &[Sample]) -> Result<Vec<Number>, AllocError>
+pub(crate) fn numbers_of(alloc: Global, samples: &[Sample]) -> Result<Vec<Whole>, AllocError>
     ensures { IfOk result (λ numbers. numbers.items ≡ plain_numbers samples.now) }
 {
     samples

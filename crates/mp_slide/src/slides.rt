@@ -13,9 +13,9 @@ ghost use Rattle.mp_slide.specs.Plain.{AreGaps, IsShort, plain_distance, plain_n
 use crate::kernels::{PART, parted_sum};
 use crate::plain::{gaps_of, numbers_of};
 use crate::refusal::SlideRefusal;
-use mp_nums::{Items, Sample, Sq, SqList};
+use mp_nums::{Items, Sample, Sq, SqList, Whole};
 use mp_series::{MAX_WINDOW, MIN_WINDOW, windows};
-use mp_sums::{Number, Range, window_sum};
+use mp_sums::{Range, window_sum};
 use rayon::prelude::*;
 use std::alloc::{AllocError, Global};
 use std::thread::Threads;
@@ -24,8 +24,8 @@ use std::thread::Threads;
 /// place, the range of all numbers, and whether 64 bits hold the sums of its parts.
 #[derive(Drop)]
 struct Slide {
-    pattern: Vec<Number>,
-    numbers: Vec<Number>,
+    pattern: Vec<Whole>,
+    numbers: Vec<Whole>,
     gaps: Vec<usize>,
     range: Range,
     is_narrow: bool,
@@ -102,8 +102,8 @@ fn distances_by_start(
         .collect(rt, alloc)
 }
 
-/// The distance profile of the pattern: its distance to each window of the series at the pattern's length, none where the
-/// window isn't free. The windows are compared by as many threads as there are processors.
+/// The distance profile of the pattern: its distance to each window of the series at the pattern's length, none where
+/// the window isn't free. The windows are compared by as many threads as there are processors.
 pub fn distances(
     rt: &(impl Threads + Sync),
     alloc: Global,

@@ -52,8 +52,10 @@ impl Stores {
     ghost use Rattle.mp_replies.specs.State as states;
     ghost use Rattle.mp_replies.specs.State.{channels_at, is_closed, samples_in, store_at};
     ghost use Rattle.mp_replies.specs.Profiles.{columns_in};
-    ghost use Rattle.mp_stores.specs.Stores.{Closed, Open, AreChannels, AreEven, CanOpen, HaveRoom, HaveWindow, IsChannel};
-    ghost use Rattle.mp_stores.specs.Stores.{StandAsBefore, StandChanged, StandFor, WasRead, channel_at, channel_series};
+    ghost use Rattle.mp_stores.specs.Stores.{Closed, Open, AreChannels, AreEven, CanOpen, HaveRoom, HaveWindow};
+    ghost use Rattle.mp_stores.specs.Stores.{IsChannel};
+    ghost use Rattle.mp_stores.specs.Stores.{StandAsBefore, StandChanged, StandFor, WasRead, channel_at};
+    ghost use Rattle.mp_stores.specs.Stores.{channel_series};
     ghost use Rattle.mp_stores.specs.Stores.{count_in, lent_of, lent_once, lists_in, reads_at, reads_to_add, series_in};
     ghost use Rattle.mp_stores.specs.Stores.{slot_at, streams_at};
 

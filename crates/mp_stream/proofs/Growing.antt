@@ -31,7 +31,8 @@ use Rattle.mp_partial.specs.Values.{Column, merged_column}
 use Rattle.mp_stream.specs.Blocks.{AreKnown, StayKnown}
 use Rattle.mp_series.specs.Samples.{number_in, numbers_in}
 use Rattle.mp_stream.specs.Limits.{limit_by, StartsAtMost, AllStartAtMost, AreLimits}
-use Rattle.mp_stream.specs.Rows.{HavePlaces, IsBefore, IsTaken, row_candidate, sum_at, square_at, offered_before, with_best}
+use Rattle.mp_stream.specs.Rows.{HavePlaces, IsBefore, IsTaken, row_candidate, sum_at, square_at, offered_before}
+use Rattle.mp_stream.specs.Rows.{with_best}
 use Rattle.mp_stream.specs.Rows.{IsRow, last_distance, last_place}
 use Rattle.mp_stream.specs.declared.entries.Entries.{Entries}
 use Rattle.mp_sums.specs.Sums.{filled}
@@ -74,7 +75,8 @@ all_entries m a all left right e f g =
 -- what is known of a profile is known of that of other samples that it became
 pub known_through : (m : ℕ) (front items : List Sample) (old new : GrowingProfile) (known : Column) → IsOf m front old
     → IsOf m items new → old.entries.profile.all ≡ merged_column old.entries.profile.left old.entries.profile.right
-    → new.entries.profile.all ≡ merged_column new.entries.profile.left new.entries.profile.right → StayKnown old.entries.profile new.entries.profile
+    → new.entries.profile.all ≡ merged_column new.entries.profile.left new.entries.profile.right
+    → StayKnown old.entries.profile new.entries.profile
     → AreKnown known (matrix_profile m (series_of front)).all old.entries.profile.changed
     → AreKnown known (matrix_profile m (series_of items)).all new.entries.profile.changed
 known_through m front items old new known h k lesser lesser' stay was =
@@ -145,7 +147,8 @@ sum_front xs ys (suc m) i j le le' =
 
 -- the sums before the last window, in a row that has room for one more
 row_before : (m : ℕ) (items : List Sample) (row grown : List ℕ) → 1 ≤ m → m ≤ length items
-    → length row ≡ last_place m items → IsRow (numbers_in (without_last items)) m (last_place m (without_last items)) row
+    → length row ≡ last_place m items → IsRow (numbers_in (without_last items)) m
+    (last_place m (without_last items)) row
     → grown ≡ row ++ 0 ∷ [] → (i : ℕ) → i < last_place m items
     → get_or grown i 0 ≡ sum_at (numbers_in items) m i (last_place m items - 1)
 row_before m items row grown least long places before e i lt =
@@ -174,7 +177,7 @@ places_wait m items row grown next least long places e more =
       next_are = omega (arith, count, more);
     }
 
-row_waits : (m : ℕ) (items : List Sample) (row grown next : List ℕ) → 1 ≤ m → m ≤ max_window → m ≤ length items
+row_waits : (m : ℕ) (items : List Sample) (row grown next : List ℕ) → 3 ≤ m → m ≤ max_window → m ≤ length items
     → length row ≡ windows (length (without_last items)) m
     → IsRow (numbers_in (without_last items)) m (last_place m (without_last items)) row → grown ≡ row ++ 0 ∷ []
     → length next ≡ windows (length (without_last items)) m + 1 → IsBefore m items grown next
@@ -182,8 +185,9 @@ row_waits m items row grown next least width long places before e more = record 
   least = least;
   width = width;
   long = long;
-  places = places_wait m items row grown next least long places e more;
-  row = row_before m items row grown least long (omega (arith, without_last_long items, places)) before e;
+  places = places_wait m items row grown next (omega (arith, least)) long places e more;
+  row = row_before m items row grown (omega (arith, least)) long (omega (arith, without_last_long items, places))
+      before e;
 }
 
 -- ---- one window more
@@ -353,7 +357,8 @@ left_after m items last_free before grown after h split grown_is offered last =
 
 -- what stands to the right of each window
 rights_found : (m : ℕ) (items : List Sample) (last_free : Bool) (before grown : GrowingProfile)
-    (old new : List (Option Near)) → IsOf m (without_last items) before → IsSplit m items → IsGrown last_free before grown
+    (old new : List (Option Near)) → IsOf m (without_last items) before → IsSplit m items
+    → IsGrown last_free before grown
     → last_free ≡ is_free m (series_of items) (last_place m items)
     → ((i : ℕ) → i < windows_of m (series_of (without_last items))
     → get_or old i None ≡ right_entry (is_allowed m) m (series_of (without_last items)) i)
@@ -464,7 +469,7 @@ rights_start m items w right at e i =
     pushed_from (x ∷ column) (suc i) le = pushed_from column i (omega (arith, le))
 
 -- with a place for the last window
-pub grown_waits : (m : ℕ) (items : List Sample) (last_free : Bool) (before grown : GrowingProfile) → 1 ≤ m
+pub grown_waits : (m : ℕ) (items : List Sample) (last_free : Bool) (before grown : GrowingProfile) → 3 ≤ m
     → m ≤ max_window → m ≤ length items → IsOf m (without_last items) before → IsSplit m items
     → IsGrown last_free before grown → length before.entries.profile.all ≡ length before.entries.profile.right
     → AreWithin before.range (numbers_in items) → IsWaiting m items grown
@@ -480,8 +485,10 @@ grown_waits m items last_free before grown least width long h split grown_is all
           ∙ ap (λ n. n + 1) (h.frees ∙ split.front) ∙ sym split.more;
       range = subst (λ r. AreWithin r (numbers_in items)) (sym grown_is.range) range;
       rows = record {
-        narrow = places_wait m items _ _ _ least long h.rows.narrow.sums_are grown_is.narrow (grown_is.narrow_next ∙ next);
-        wide = places_wait m items _ _ _ least long h.rows.wide.sums_are grown_is.wide (grown_is.wide_next ∙ wide_next);
+        narrow = places_wait m items _ _ _ (omega (arith, least)) long h.rows.narrow.sums_are grown_is.narrow
+            (grown_is.narrow_next ∙ next);
+        wide = places_wait m items _ _ _ (omega (arith, least)) long h.rows.wide.sums_are grown_is.wide
+            (grown_is.wide_next ∙ wide_next);
       };
       ready = record {
         all = grown_is.all ∙ ap (λ n. n + 1) (all ∙ rights);
@@ -489,7 +496,8 @@ grown_waits m items last_free before grown least width long h split grown_is all
         starts = subst (AllStartAtMost w) (sym grown_is.right) (rights_start m front w right split.count h.right);
         limits = subst (λ t. AreLimits (limit_by t) grown.entries.profile.right grown.entries.limits.items)
             (sym grown_is.is_narrow)
-            (subst (λ column. AreLimits (limit_by before.is_narrow) column grown.entries.limits.items) (sym grown_is.right)
+            (subst (λ column. AreLimits (limit_by before.is_narrow) column grown.entries.limits.items)
+            (sym grown_is.right)
             (subst (AreLimits (limit_by before.is_narrow) (right ++ None ∷ [])) (sym grown_is.limits)
             (limits_grow before.is_narrow right before.entries.limits.items h.limits)));
       };
@@ -522,7 +530,8 @@ is_offered t m items last_free end last free best middle grown after kind free_i
       right = subst (IsTaken grown.free.items (last_distance m items) w 0 (offered_to m items last_free) old.right)
           (sym right)
           (subst (λ e. IsTaken grown.free.items (last_distance m items) w 0 e old.right middle.profile.right) to
-          (subst (λ f. IsTaken f (last_distance m items) w 0 end old.right middle.profile.right) free_is offered.right));
+          (subst (λ f. IsTaken f (last_distance m items) w 0 end old.right middle.profile.right) free_is
+          offered.right));
       left = left ∙ ap (λ column. with_best column last best) offered.only.left
           ∙ ap (λ j. with_best old.left j best) last_is
           ∙ ap (with_best old.left w) (best_is ∙ ap (λ f. near (row_candidate f (last_distance m items)) end) free_is
@@ -532,7 +541,8 @@ is_offered t m items last_free end last free best middle grown after kind free_i
       is_narrow = is_narrow;
       limits = subst (λ column. AreLimits (limit_by grown.is_narrow) column after.entries.limits.items) (sym right)
           (subst (λ items. AreLimits (limit_by grown.is_narrow) middle.profile.right items.items) (sym limits)
-          (subst (λ k. AreLimits (limit_by k) middle.profile.right middle.limits.items) (sym kind) offered.ready.limits));
+          (subst (λ k. AreLimits (limit_by k) middle.profile.right middle.limits.items)
+          (sym kind) offered.ready.limits));
       rows = rows;
       narrow = λ is. narrow (sym kind ∙ is);
       wide = λ is. wide (sym kind ∙ is);
@@ -693,7 +703,8 @@ range_grows new front items sample e h last =
     let whole : numbers_in items ≡ numbers_in front ++ number_in sample ∷ [] =
     ap numbers_in e ∙ map-append number_in front (sample ∷ []) in
     subst (AreWithin new) (sym whole)
-    (λ k lt. push_more (pos 0) (λ _ x. (new.least ≤ℤ x) × (x ≤ℤ new.greatest)) (numbers_in front) (length (numbers_in front))
+    (λ k lt. push_more (pos 0) (λ _ x. (new.least ≤ℤ x) × (x ≤ℤ new.greatest)) (numbers_in front)
+    (length (numbers_in front))
     (number_in sample) refl h (last 0 (omega arith)) k
     (omega (arith, lt, length-append (numbers_in front) (number_in sample ∷ []))))
 
@@ -716,7 +727,8 @@ front_within items old new count e wider =
 
 -- ---- a range that is taken
 
-pub in_bits : (m : ℕ) (items : List Sample) (growing : GrowingProfile) → IsOf m items growing → IsOfInBits m items growing
+pub in_bits : (m : ℕ) (items : List Sample) (growing : GrowingProfile) → IsOf m items growing
+    → IsOfInBits m items growing
 in_bits m items growing h = record {
   left = h.left;
   right = h.right;
@@ -734,7 +746,8 @@ only_first : (count long before : ℕ) → count ≡ long → long ≡ before + 
 only_first count long before e f g = grind (arith, nat_tests)
 
 -- with the range of one sample more, the row of those before it has 64 bits exactly where these hold its sums
-pub covered : (m : ℕ) (items : List Sample) (sample : Sample) (before after : GrowingProfile) (range : Range) (count : ℕ)
+pub covered : (m : ℕ) (items : List Sample) (sample : Sample) (before after : GrowingProfile) (range : Range)
+    (count : ℕ)
     → items ≡ without_last items ++ sample ∷ [] → count ≡ length items
     → (nat_eq count 1 ≡ true → range.greatest ≡ range.least) → (nat_eq count 1 ≡ false → Reaches range before.range)
     → after.range ≡ range → (SumsFit m 63 range → after.is_narrow ≡ before.is_narrow)

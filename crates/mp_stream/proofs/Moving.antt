@@ -1,9 +1,9 @@
 -- A row of sums one place on.
 use Rattle.std.proofs.Common.{◌≡◌, ℕ, zero, suc, ◌+◌, ◌-◌, ◌*◌, ◌^◌, ◌<◌, ◌≤◌, ◌%◌, List, length, get_or, ap, ◌∙◌, sym}
 use Rattle.std.proofs.Common.{arith}
-use Rattle.std.proofs.Common.{take, drop, FitsSigned, w32}
+use Rattle.std.proofs.Common.{take, drop, refl, subst}
 use Rattle.std.specs.Prelude.{ℤ, pos}
-use Rattle.std.proofs.lemmas.List.{get_or-take, length-map, length-take-le}
+use Rattle.std.proofs.lemmas.List.{get_or_default, get_or-take, length-map, length-take-le}
 use Rattle.std.proofs.Math.Nat.{mul-le-mul_left}
 use Rattle.mp_nums.specs.declared.samples.Sample.{Sample}
 use Rattle.mp_defs.specs.Distance.{squared_difference}
@@ -13,10 +13,11 @@ use Rattle.mp_series.specs.Samples.{number_in, numbers_in}
 use Rattle.mp_sums.specs.RangeLaws.{squares_in_range, sums_in_range}
 use Rattle.mp_sums.specs.Residues.{item}
 use Rattle.mp_sums.specs.Ranges.{AreWithin, SumsFit}
+use Rattle.mp_sums.specs.Sums.{greatest_square}
 use Rattle.mp_stream.specs.Rows.{IsBefore, IsRow, LieClose, last_distance, last_place, sum_at, square_at, next_of}
-use Rattle.mp_stream.specs.Rows.{last_of, moved, moved_row, CanMove}
+use Rattle.mp_stream.specs.Rows.{last_of, moved, moved_row, AreClose, CanMove, CanStep}
 use Rattle.mp_sums.specs.declared.ranges.Range.{Range}
-use Rattle.mp_stream.proofs.SumLemmas.{ArePassed, at_most, can_move, moves_on, square_fits, greatest_square}
+use Rattle.mp_stream.proofs.SumLemmas.{ArePassed, can_move, moves_on, squares_close}
 
 -- behind the first window
 pub moved_behind : (first : ℕ) (before : List ℕ) (enters leaves : List ℤ) (i : ℕ) → 1 ≤ i
@@ -25,17 +26,66 @@ moved_behind first before enters leaves zero le = absurd (omega arith)
 moved_behind first before enters leaves (suc i) le =
     let same : i ≡ suc i - 1 = omega arith in ap (moved before enters leaves) same
 
--- the numbers that enter and leave the last window
-pub stepped : (before : List ℕ) (enters leaves : List ℤ) (i : ℕ) → length enters ≡ length before
-    → length leaves ≡ length before
-    → next_of (get_or before i 0) (get_or enters i (pos 0)) (get_or leaves i (pos 0))
-    (get_or enters (length before - 1) (pos 0)) (get_or leaves (length before - 1) (pos 0))
-    ≡ moved before enters leaves i
-stepped before enters leaves i e f =
-    ap (λ n. next_of (get_or before i 0) (get_or enters i (pos 0)) (get_or leaves i (pos 0))
-    (get_or enters (n - 1) (pos 0)) (get_or leaves (length before - 1) (pos 0))) (sym e)
-    ∙ ap (λ n. next_of (get_or before i 0) (get_or enters i (pos 0)) (get_or leaves i (pos 0)) (last_of enters)
-    (get_or leaves (n - 1) (pos 0))) (sym f)
+-- the numbers that enter and leave window i and the last one, as they were read
+pub record AreRead (enters leaves : List ℤ) (i : ℕ) (enter leave last_enter last_leave : ℤ) : Type 0 where
+  pub enter_is : enter ≡ item enters i
+  pub leave_is : leave ≡ item leaves i
+  pub last_enter_is : last_enter ≡ last_of enters
+  pub last_leave_is : last_leave ≡ last_of leaves
+
+-- whatever stands for numbers past the end
+pub are_read : (enters leaves : List ℤ) (count i last : ℕ) (enter leave last_enter last_leave a b c d : ℤ)
+    → length enters ≡ count → length leaves ≡ count → last ≡ count - 1 → i < count → enter ≡ get_or enters i a
+    → leave ≡ get_or leaves i b → last_enter ≡ get_or enters last c → last_leave ≡ get_or leaves last d
+    → AreRead enters leaves i enter leave last_enter last_leave
+are_read enters leaves count i last enter leave last_enter last_leave a b c d e f at lt g h p q =
+    let here : last ≡ length enters - 1 = omega (arith, at, e) in
+    let there : last ≡ length leaves - 1 = omega (arith, at, f) in
+    record {
+      enter_is = g ∙ get_or_default enters i a (pos 0) (omega (arith, e, lt));
+      leave_is = h ∙ get_or_default leaves i b (pos 0) (omega (arith, f, lt));
+      last_enter_is =
+          p ∙ get_or_default enters last c (pos 0) (omega (arith, e, at, lt)) ∙ ap (λ n. get_or enters n (pos 0)) here;
+      last_leave_is =
+          q ∙ get_or_default leaves last d (pos 0) (omega (arith, f, at, lt)) ∙ ap (λ n. get_or leaves n (pos 0)) there;
+    }
+
+-- what is said of these numbers
+said_of : (P : ℤ → ℤ → ℤ → ℤ → Type 0) (enters leaves : List ℤ) (i : ℕ) (enter leave last_enter last_leave : ℤ)
+    → AreRead enters leaves i enter leave last_enter last_leave
+    → P (item enters i) (item leaves i) (last_of enters) (last_of leaves) → P enter leave last_enter last_leave
+said_of P enters leaves i enter leave last_enter last_leave read h =
+    subst (λ z. P z leave last_enter last_leave) (sym read.enter_is)
+    (subst (λ z. P (item enters i) z last_enter last_leave) (sym read.leave_is)
+    (subst (λ z. P (item enters i) (item leaves i) z last_leave) (sym read.last_enter_is)
+    (subst (λ z. P (item enters i) (item leaves i) (last_of enters) z) (sym read.last_leave_is) h)))
+
+-- the next sum can be computed of them
+pub can_step_read : (limit sum : ℕ) (enters leaves : List ℤ) (i : ℕ) (enter leave last_enter last_leave : ℤ)
+    → AreRead enters leaves i enter leave last_enter last_leave
+    → CanStep limit sum (item enters i) (item leaves i) (last_of enters) (last_of leaves)
+    → CanStep limit sum enter leave last_enter last_leave
+can_step_read limit sum = said_of (CanStep limit sum)
+
+pub enter_close : (limit : ℕ) (enters leaves : List ℤ) (i : ℕ) (enter leave last_enter last_leave : ℤ)
+    → AreRead enters leaves i enter leave last_enter last_leave
+    → squared_difference (last_of enters) (item enters i) < limit → squared_difference last_enter enter < limit
+enter_close limit = said_of (λ enter leave last_enter last_leave. squared_difference last_enter enter < limit)
+
+pub leave_close : (limit : ℕ) (enters leaves : List ℤ) (i : ℕ) (enter leave last_enter last_leave : ℤ)
+    → AreRead enters leaves i enter leave last_enter last_leave
+    → squared_difference (last_of leaves) (item leaves i) < limit → squared_difference last_leave leave < limit
+leave_close limit = said_of (λ enter leave last_enter last_leave. squared_difference last_leave leave < limit)
+
+-- it is the sum one place on
+pub next_read : (before : List ℕ) (enters leaves : List ℤ) (i : ℕ) (enter leave last_enter last_leave : ℤ) (r : ℕ)
+    → AreRead enters leaves i enter leave last_enter last_leave
+    → r ≡ next_of (get_or before i 0) enter leave last_enter last_leave → r ≡ moved before enters leaves i
+next_read before enters leaves i enter leave last_enter last_leave r read e =
+    e
+    ∙ said_of (λ enter leave last_enter last_leave.
+    next_of (get_or before i 0) enter leave last_enter last_leave ≡ moved before enters leaves i) enters leaves i enter
+    leave last_enter last_leave read refl
 
 -- the top bit of a difference
 pub below_tells : (sum limit : ℕ) → sum < 2 ^ 64 → limit ≤ 2 ^ 63 → (sum + 2 ^ 64 - limit) % 2 ^ 64 < 2 ^ 63
@@ -61,7 +111,7 @@ are_parts m items now last k first sums next before enters leaves h at part same
     record {
       count = count ∙ place;
       passed = record {
-        least = h.least;
+        least = omega (arith, h.least);
         long = omega (arith, length-map items number_in, count, place, h.long);
         sums = λ i lt. ap (λ list. get_or list i 0) part ∙ get_or-take last sums i 0 (omega (arith, lt, count))
             ∙ h.row i (omega (arith, lt, count, place))
@@ -102,6 +152,26 @@ distance_small m items i close least long le =
     sum_small close.range (numbers_in items) m i (last_place m items) close.within close.fits
     (omega (arith, many, long, le)) (omega (arith, many, long, least))
 
+-- numbers of windows of three samples or more, of which 63 bits hold the sums
+pub are_close : (m : ℕ) (items : List Sample) (first : ℕ) (before : List ℕ) (enters leaves : List ℤ) → 3 ≤ m
+    → AreParts m items first before enters leaves → LieClose m (numbers_in items) → AreClose (2 ^ 62) enters leaves
+are_close m items first before enters leaves few h close =
+    let xs = numbers_in items in
+    let bound = squared_difference close.range.greatest close.range.least in
+    let one : bound * 3 ≤ bound * m = mul-le-mul_left bound few in
+    let near : (p q : ℕ) → p < length xs → q < length xs → square_at xs p q < 2 ^ 62 = λ p q lt lt'.
+    omega (arith, one, close.fits, squares_within close.range xs close.within p q lt lt') in
+    squares_close (2 ^ 62) xs m before enters leaves h.passed near
+
+-- numbers in a range whose squares have 64 bits
+pub are_close_wide : (m : ℕ) (items : List Sample) (range : Range) (first : ℕ) (before : List ℕ)
+    (enters leaves : List ℤ)
+    → SumsFit 1 64 range → AreParts m items first before enters leaves → AreWithin range (numbers_in items)
+    → AreClose (2 ^ 64) enters leaves
+are_close_wide m items range first before enters leaves fits h within =
+    squares_close (2 ^ 64) (numbers_in items) m before enters leaves h.passed
+    (λ p q lt lt'. omega (arith, fits, squares_within range (numbers_in items) within p q lt lt'))
+
 pub can_move_narrow : (m : ℕ) (items : List Sample) (first : ℕ) (before : List ℕ) (enters leaves : List ℤ)
     → AreParts m items first before enters leaves → LieClose m (numbers_in items)
     → CanMove (2 ^ 64) before enters leaves
@@ -112,30 +182,24 @@ can_move_narrow m items first before enters leaves h close =
     (squares_within close.range (numbers_in items) close.within) (omega (arith, one, close.fits))
 
 pub can_move_wide : (m : ℕ) (items : List Sample) (range : Range) (first : ℕ) (before : List ℕ) (enters leaves : List ℤ)
-    → FitsSigned w32 range.least → FitsSigned w32 range.greatest → m ≤ max_window
+    → squared_difference range.greatest range.least ≤ greatest_square → m ≤ max_window
     → AreParts m items first before enters leaves → AreWithin range (numbers_in items)
     → CanMove (2 ^ 128) before enters leaves
-can_move_wide m items range first before enters leaves low high width h within =
+can_move_wide m items range first before enters leaves small width h within =
     can_move (2 ^ 128) greatest_square (numbers_in items) m before enters leaves h.passed
-    (λ p q lt lt'. square_fits range.least range.greatest _ _ low high (within p lt).0 (within p lt).1 (within q lt').0
-    (within q lt').1) (omega (arith, width))
+    (λ p q lt lt'. omega (arith, small, squares_within range (numbers_in items) within p q lt lt'))
+    (omega (arith, width))
 
--- the sums of a row in 128 bits
-pub sums_small : (range : Range) (m : ℕ) (items : List Sample) (row : List ℕ) → FitsSigned w32 range.least
-    → FitsSigned w32 range.greatest → 1 ≤ m → m ≤ max_window → m ≤ length items
-    → length row ≡ windows (length items) m → AreWithin range (numbers_in items)
+-- the sums of a row in no more than 79 bits
+pub sums_small : (range : Range) (m : ℕ) (items : List Sample) (row : List ℕ) → SumsFit m 79 range → 1 ≤ m
+    → m ≤ length items → length row ≡ windows (length items) m → AreWithin range (numbers_in items)
     → IsRow (numbers_in items) m (last_place m items) row → (i : ℕ) → i < length row → get_or row i 0 < 2 ^ 79
-sums_small range m items row low high least width long places within is_row i lt =
+sums_small range m items row fits least long places within is_row i lt =
     let xs = numbers_in items in
     let w = last_place m items in
     let many = length-map items number_in in
-    let sum = at_most xs greatest_square m i w (λ k less. square_fits range.least range.greatest _ _ low high
-    (within (i + k) (omega (arith, lt, less, many, places))).0 (within (i + k) (omega (
-      arith,
-      lt,
-      less,
-      many,
-      places,
-    ))).1
-    (within (w + k) (omega (arith, long, less, many))).0 (within (w + k) (omega (arith, long, less, many))).1) in
-    omega (arith, is_row i lt, sum, width)
+    let sum : sum_at xs m i w < 2 ^ 79 =
+    sums_in_range m m 79 range (item xs) i (item xs) w (omega arith) fits
+    (λ k less. within (i + k) (omega (arith, lt, less, many, places)))
+    (λ k less. within (w + k) (omega (arith, long, less, many))) in
+    omega (arith, is_row i lt, sum)

@@ -1,9 +1,7 @@
 -- Sums of squares: one place on, and how large they are.
 use Rattle.std.proofs.Common.{◌≡◌, ℕ, zero, suc, ◌+◌, ◌-◌, ◌*◌, ◌^◌, ◌<◌, ◌≤◌, List, length, get_or, take, drop}
-use Rattle.std.proofs.Common.{refl, sym, ap, ◌∙◌, arith, subst, w32, FitsSigned, to_z, of_z}
-use Rattle.std.proofs.Common.{mul-le-mul}
-use Rattle.std.specs.Prelude.{ℤ, pos, ◌-ℤ◌, ◌≤ℤ◌, unsigned_abs}
-use Rattle.std.proofs.lemmas.Int.{ints, to_z-of_z}
+use Rattle.std.proofs.Common.{refl, sym, ap, ◌∙◌, arith, subst}
+use Rattle.std.specs.Prelude.{ℤ, pos}
 use Rattle.std.proofs.lemmas.List.{get_or-take, get_or-drop, length-take-le, length-drop}
 use Rattle.mp_defs.specs.Distance.{squared_difference}
 use Rattle.mp_sums.specs.Lists.{list_sum}
@@ -11,7 +9,7 @@ use Rattle.mp_sums.specs.Residues.{item}
 use Rattle.mp_sums.specs.SumLaws.{sum_of_none, sum_suc, sum_more as one_more, moved_on, first_of_all, sum_bounded}
 use Rattle.mp_sums.specs.SumLaws.{sum_grows}
 use Rattle.mp_sums.specs.SumLaws.{difference_turned}
-use Rattle.mp_stream.specs.Rows.{square_at, sum_at, next_of, CanStep, moved, CanMove, last_of, IsRow}
+use Rattle.mp_stream.specs.Rows.{square_at, sum_at, next_of, CanStep, moved, AreClose, CanMove, last_of, IsRow}
 
 -- ---- sums in one list
 
@@ -66,22 +64,6 @@ between_parts xs ys zs first second count (suc n) le e f =
     let more = sum_grows n (suc n) (item ys) 0 n (item zs) 0 n (sum_at xs n first second)
     (square_at xs (first + n) (second + n)) (omega arith) (omega arith) (omega arith) (sym before) square in
     sym more ∙ sym (sum_suc n (item xs) first (item xs) second)
-
--- ---- the bounds of squares and sums
-
-difference_within : (low high x y : ℤ) → FitsSigned w32 low → FitsSigned w32 high → low ≤ℤ x → x ≤ℤ high → low ≤ℤ y
-    → y ≤ℤ high
-    → unsigned_abs (x -ℤ y) ≤ 2 ^ 32 - 1
-difference_within low high x y f g a b c d = omega (arith, ints)
-
--- the greatest square of a difference of 32 bits
-abbrev pub greatest_square : ℕ
-greatest_square = (2 ^ 32 - 1) * (2 ^ 32 - 1)
-
-pub square_fits : (low high x y : ℤ) → FitsSigned w32 low → FitsSigned w32 high → low ≤ℤ x → x ≤ℤ high → low ≤ℤ y
-    → y ≤ℤ high → squared_difference x y ≤ greatest_square
-square_fits low high x y f g a b c d =
-    let difference = difference_within low high x y f g a b c d in mul-le-mul difference difference
 
 -- ---- all sums one place on
 
@@ -183,17 +165,25 @@ moves_on xs m before enters leaves h i lt =
     (last_enter xs m before enters leaves h (omega (arith, lt)))
     (last_leave xs m before enters leaves h (omega (arith, lt))) refl)
 
--- ---- signed numbers that are passed on
-
-pub next_passed : (sum : ℕ) (enters leaves last_enters last_leaves : ℤ) (r : ℕ) → FitsSigned w32 enters
-    → FitsSigned w32 leaves → FitsSigned w32 last_enters → FitsSigned w32 last_leaves
-    → r ≡ next_of sum (to_z w32 (of_z w32 enters)) (to_z w32 (of_z w32 leaves)) (to_z w32 (of_z w32 last_enters))
-    (to_z w32 (of_z w32 last_leaves))
-    → r ≡ next_of sum enters leaves last_enters last_leaves
-next_passed sum enters leaves last_enters last_leaves r f g h k e =
-    e ∙ ap (λ z. next_of sum z (to_z w32 (of_z w32 leaves)) (to_z w32 (of_z w32 last_enters))
-    (to_z w32 (of_z w32 last_leaves))) (to_z-of_z w32 enters f)
-    ∙ ap (λ z. next_of sum enters z (to_z w32 (of_z w32 last_enters)) (to_z w32 (of_z w32 last_leaves)))
-    (to_z-of_z w32 leaves g)
-    ∙ ap (λ z. next_of sum enters leaves z (to_z w32 (of_z w32 last_leaves))) (to_z-of_z w32 last_enters h)
-    ∙ ap (λ z. next_of sum enters leaves last_enters z) (to_z-of_z w32 last_leaves k)
+-- where all squares are small, those of what enters and leaves are
+pub squares_close : (limit : ℕ) (xs : List ℤ) (m : ℕ) (before : List ℕ) (enters leaves : List ℤ)
+    → ArePassed xs m before enters leaves
+    → ((p q : ℕ) → p < length xs → q < length xs → square_at xs p q < limit) → AreClose limit enters leaves
+squares_close limit xs m before enters leaves h near = record {
+  entering = λ i lt.
+      let below : i < length before = omega (arith, lt, enter_long xs m before enters leaves h) in
+      let last = length before - 1 + m in
+      subst (λ z. squared_difference z (get_or enters i (pos 0)) < limit)
+      (sym (last_enter xs m before enters leaves h (omega (arith, below))))
+      (subst (λ z. squared_difference (get_or xs last (pos 0)) z < limit)
+      (sym (enter_at xs m before enters leaves h i below))
+      (near last (i + m) (omega (arith, below, h.long)) (omega (arith, below, h.long))));
+  leaving = λ i lt.
+      let below : i < length before = omega (arith, lt, leave_long xs m before enters leaves h) in
+      let last = length before - 1 in
+      subst (λ z. squared_difference z (get_or leaves i (pos 0)) < limit)
+      (sym (last_leave xs m before enters leaves h (omega (arith, below))))
+      (subst (λ z. squared_difference (get_or xs last (pos 0)) z < limit)
+      (sym (leave_at xs m before enters leaves h i below))
+      (near last i (omega (arith, below, h.long)) (omega (arith, below, h.long))));
+}

@@ -1,5 +1,6 @@
 -- What offers of one window make of a column, and of its own best.
-use Rattle.std.proofs.Common.{◌≡◌, ℕ, zero, suc, ◌+◌, ◌-◌, ◌^◌, ◌<◌, ◌≤◌, inl, inr, List, [], ◌∷◌, length, get_or, set, Bool, true}
+use Rattle.std.proofs.Common.{◌≡◌, ℕ, zero, suc, ◌+◌, ◌-◌, ◌^◌, ◌<◌, ◌≤◌, inl, inr, List, [], ◌∷◌, length, get_or, set}
+use Rattle.std.proofs.Common.{Bool, true}
 use Rattle.std.proofs.Common.{false}
 use Rattle.std.proofs.Common.{refl, sym, ap, ◌∙◌, arith, subst}
 use Rattle.std.specs.Prelude.{Option, Some, None, IfSome, nat_lt, if◌then◌else◌}
@@ -234,7 +235,8 @@ only_then a b c h g = record {
 }
 
 -- after one window
-pub ready_one : (limit_by : Option Near → ℕ) (last i d limit : ℕ) (old new : Entries) → i < last → IsReady limit_by last old
+pub ready_one : (limit_by : Option Near → ℕ) (last i d limit : ℕ) (old new : Entries) → i < last
+    → IsReady limit_by last old
     → length new.profile.all ≡ length old.profile.all
     → new.profile.right ≡ offered old.profile.right i (near_at last d)
     → limit ≡ limit_by (get_or new.profile.right i None) → new.limits.items ≡ set old.limits.items i limit

@@ -5,7 +5,7 @@ use Rattle.std.specs.Prelude.{slice_index_or, ℤ, pos, Option, Some, None}
 use Rattle.mp_nums.specs.declared.nearest.Near.{Near}
 use Rattle.mp_nums.specs.Near.{nearer_of}
 use Rattle.mp_nums.specs.declared.samples.Sample.{Sample}
-use Rattle.mp_defs.specs.Limits.{max_window}
+use Rattle.mp_defs.specs.Limits.{min_window, max_window}
 use Rattle.mp_defs.specs.Window.{excl, windows}
 use Rattle.mp_defs.specs.Distance.{squared_difference}
 use Rattle.mp_defs.specs.Least.{near_at}
@@ -53,7 +53,7 @@ pub record HavePlaces (count : ℕ) (sums next : List ℕ) : Type 0 where
 
 -- the last window has its places, and the windows before it have their sums with the window before it
 pub record IsBefore (m : ℕ) (items : List Sample) (sums next : List ℕ) : Type 0 where
-  pub least : 1 ≤ m
+  pub least : min_window ≤ m
   pub width : m ≤ max_window
   pub long : m ≤ length items
   pub places : HavePlaces (windows (length items) m) sums next
@@ -88,6 +88,13 @@ pub record CanMove (limit : ℕ) (before : List ℕ) (enters leaves : List ℤ) 
   pub leave : length leaves ≡ length before
   pub steps : (i : ℕ) → i < length before → CanStep limit (slice_index before i) (slice_index_or enters i (pos 0))
       (slice_index_or leaves i (pos 0)) (last_of enters) (last_of leaves)
+
+-- the squared difference of each number that enters or leaves and of the last one is below a limit
+pub record AreClose (limit : ℕ) (enters leaves : List ℤ) : Type 0 where
+  pub entering : (i : ℕ) → i < length enters
+      → squared_difference (last_of enters) (slice_index_or enters i (pos 0)) < limit
+  pub leaving : (i : ℕ) → i < length leaves
+      → squared_difference (last_of leaves) (slice_index_or leaves i (pos 0)) < limit
 
 -- the sum of window i with the last one: the first is given, and the others are one place on
 abbrev pub moved_row : ℕ → List ℕ → List ℤ → List ℤ → ℕ → ℕ

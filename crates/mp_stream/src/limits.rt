@@ -12,7 +12,10 @@ pub(crate) const GREATEST: u64 = 1 << 63;
 /// How many bits the sums of a row have where they are compared in 64.
 pub(crate) const SUM_BITS: u32 = 63;
 
-/// Sums of 128 bits are compared by how often this goes into them, which 64 bits hold.
+/// How many bits sums of 128 have at most where they are compared by how often `PART` goes into them.
+pub(crate) const COARSE_BITS: u32 = 79;
+
+/// Sums of 128 bits are compared by how often this goes into them, where 64 bits hold that.
 const PART: u128 = 1 << 16;
 
 /// The bits of both.

@@ -1,20 +1,24 @@
 //! Sums of 64 bits that move one place on.
 
 ghost use Rattle.std.specs.Prelude.{◌≡◌, ℕ, ◌+◌, ◌-◌, ◌^◌, ◌<◌, ◌≤◌, length, false, slice_index};
+ghost use Rattle.mp_defs.specs.Distance.{squared_difference};
 ghost use Rattle.mp_stream.specs.Rows.{next_of, CanStep};
 ghost use Rattle.mp_stream.specs.Moves.{moved_by};
 
 use crate::limits::{GREATEST, either};
 use crate::moves::Moves;
-use mp_sums::square;
+use mp_nums::Whole;
+use mp_sums::close_square;
 
 /// The sum of two windows one place on.
 #[inline]
-fn next_sum(sum: u64, enters: i32, leaves: i32, last_enters: i32, last_leaves: i32) -> u64
-    requires { CanStep (2 ^ 64) sum enters leaves last_enters last_leaves }
+fn next_sum(sum: u64, enters: Whole, leaves: Whole, last_enters: Whole, last_leaves: Whole) -> u64
+    requires can { CanStep (2 ^ 64) sum enters leaves last_enters last_leaves }
+    requires enters { squared_difference last_enters enters < 2 ^ 62 }
+    requires leaves { squared_difference last_leaves leaves < 2 ^ 62 }
     ensures { result ≡ next_of sum enters leaves last_enters last_leaves }
 {
-    sum + square(last_enters, enters) - square(last_leaves, leaves)
+    sum + close_square(last_enters, enters) - close_square(last_leaves, leaves)
 }
 
 /// Moves the sums of the windows from `first` on and before `end`. Answers whether one may be below its limit or below

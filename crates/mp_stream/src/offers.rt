@@ -1,6 +1,7 @@
 //! What the distances of the last window make of the entries.
 
-ghost use Rattle.std.specs.Prelude.{◌≡◌, ℕ, ◌-◌, ◌^◌, ◌<◌, ◌≤◌, length, false, if◌then◌else◌, slice_index, Some, IfSome};
+ghost use Rattle.std.specs.Prelude.{◌≡◌, ℕ, ◌-◌, ◌^◌, ◌<◌, ◌≤◌, length, true, false, if◌then◌else◌, slice_index, Some};
+ghost use Rattle.std.specs.Prelude.{IfSome};
 ghost use Rattle.mp_nums.specs.Near.{nearer_of};
 ghost use Rattle.mp_defs.specs.Least.{near, near_at};
 ghost use Rattle.mp_partial.specs.Values.{offered};
@@ -133,8 +134,9 @@ pub(crate) fn offer_best(profile: &mut MarkedProfile, last: usize, best: Slot)
     }
 }
 
-/// Offers the last window to each free window before `end`, on the right. The result is the nearest of these.
-pub(crate) fn offer_row(sums: &[u128], free: &[bool], end: usize, entries: &mut Entries) -> Slot
+/// Offers the last window to each free window before `end`, on the right, where the sums have no more than
+/// `COARSE_BITS`. The result is the nearest of these.
+fn offer_groups(sums: &[u128], free: &[bool], end: usize, entries: &mut Entries) -> Slot
     requires frees { length free.now ≡ length sums.now }
     requires within { end < length sums.now }
     requires small { (i : ℕ) → i < length sums.now → slice_index sums.now i < 2 ^ 79 }
@@ -150,5 +152,30 @@ pub(crate) fn offer_row(sums: &[u128], free: &[bool], end: usize, entries: &mut 
         offer_group(sums, free, first, first + GROUP, entries, &mut best);
     }
     offer_group(sums, free, groups * GROUP, end, entries, &mut best);
+    best
+}
+
+/// Offers the last window to each free window before `end`, on the right: in groups where the sums are known to have no
+/// more than `COARSE_BITS`. The result is the nearest of these.
+pub(crate) fn offer_row(
+    sums: &[u128],
+    free: &[bool],
+    end: usize,
+    is_coarse: bool,
+    entries: &mut Entries,
+) -> Slot
+    requires frees { length free.now ≡ length sums.now }
+    requires within { end < length sums.now }
+    requires small { is_coarse ≡ true → (i : ℕ) → i < length sums.now → slice_index sums.now i < 2 ^ 79 }
+    requires ready { IsReady limit_of (length sums.now - 1) entries.old }
+    ensures offered { AreOffered limit_of free.now (slice_index sums.now) (length sums.now - 1) 0 end entries.old
+        entries.new }
+    ensures best { result ≡ near (row_candidate free.now (slice_index sums.now)) end }
+{
+    if is_coarse {
+        return offer_groups(sums, free, end, entries);
+    }
+    let mut best: Slot = None;
+    offer_each(sums, free, 0, end, entries, &mut best);
     best
 }

@@ -19,7 +19,7 @@ use crate::narrow::Narrow;
 use crate::offers::{offer_best, offer_row};
 use crate::rows::{last_row, next_narrow_row, next_wide_row};
 use crate::wide::{Wide, widen_sums};
-use mp_nums::{Items, Memory, Sample};
+use mp_nums::{Items, Memory, Sample, Whole};
 use mp_partial::Profile;
 use mp_series::{Samples, excl, windows};
 use mp_sums::{Range, number_of};
@@ -111,7 +111,7 @@ fn whole_range(samples: &mut Samples) -> Range
 {
     let count = samples.len();
     if count == 0 {
-        return Range::at(0);
+        return Range::at(Whole::from(0));
     }
     let (numbers, _) = samples.parts(0, 0, count);
     Range::of(numbers)
@@ -290,11 +290,17 @@ impl GrowingProfile {
         ensures known { StayKnown self.old.entries.profile self.new.entries.profile }
         ensures read { OnlyReads (2 * (windows (length samples.old.items) m + m)) samples.old samples.new }
     {
-        next_wide_row(samples, m, self.range, &mut self.wide);
+        let is_coarse = next_wide_row(samples, m, &self.range, &mut self.wide);
         let last = self.entries.profile.len() as usize - 1;
         let end = count_offered(is_free, m, last);
         let sums = self.wide.sums.as_slice();
-        let best = offer_row(sums, self.free.as_slice(), end, &mut self.entries);
+        let best = offer_row(
+            sums,
+            self.free.as_slice(),
+            end,
+            is_coarse,
+            &mut self.entries,
+        );
         offer_best(&mut self.entries.profile, last, best);
     }
 

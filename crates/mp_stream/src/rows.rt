@@ -1,6 +1,6 @@
 //! The row of the last window: its distances to all windows, in which a missing sample counts as 0.
 
-ghost use Rattle.std.specs.Prelude.{◌≡◌, ℕ, ◌+◌, ◌-◌, ◌*◌, ◌^◌, ◌<◌, ◌≤◌, length, slice_index, IfOk};
+ghost use Rattle.std.specs.Prelude.{◌≡◌, ℕ, ◌+◌, ◌-◌, ◌*◌, ◌^◌, ◌<◌, ◌≤◌, length, slice_index, true, IfOk};
 ghost use Rattle.mp_defs.specs.Least.{near};
 ghost use Rattle.mp_defs.specs.Window.{windows};
 ghost use Rattle.mp_series.specs.Samples.{numbers_in};
@@ -14,6 +14,7 @@ ghost use Rattle.mp_stream.specs.Rows.{last_distance, row_candidate};
 ghost use Rattle.mp_stream.specs.Streams.{IsTurned, wide_room};
 
 use crate::entries::Entries;
+use crate::limits::COARSE_BITS;
 use crate::moves::Moves;
 use crate::narrow::Narrow;
 use crate::narrow_rows::take_row;
@@ -37,22 +38,28 @@ fn sum_of(samples: &mut Samples, m: u32, i: u64, j: u64) -> u128
     window_sum(first, second)
 }
 
-/// Makes the row of the last window in 128 bits from the row of the window before it.
-pub(crate) fn next_wide_row(samples: &mut Samples, m: u32, range: Range, wide: &mut Wide)
+/// Makes the row of the last window in 128 bits from the row of the window before it. The result is whether the range
+/// of the samples tells that its sums have no more than `COARSE_BITS`.
+pub(crate) fn next_wide_row(samples: &mut Samples, m: u32, range: &Range, wide: &mut Wide) -> bool
     requires before { IsBefore m samples.old.items wide.old.sums.items wide.old.next.items }
-    requires range { AreWithin range (numbers_in samples.old.items) }
+    requires range { AreWithin range.now (numbers_in samples.old.items) }
     ensures places { HavePlaces (windows (length samples.old.items) m) wide.new.sums.items wide.new.next.items }
     ensures row { IsRow (numbers_in samples.old.items) m (last_place m samples.old.items) wide.new.sums.items }
-    ensures small { (i : ℕ) → i < length wide.new.sums.items → slice_index wide.new.sums.items i < 2 ^ 79 }
+    ensures small { result ≡ true → (i : ℕ) → i < length wide.new.sums.items
+        → slice_index wide.new.sums.items i < 2 ^ 79 }
     ensures room { wide_room wide.new ≡ wide_room wide.old }
     ensures read { OnlyReads (2 * (windows (length samples.old.items) m + m)) samples.old samples.new }
 {
+    let is_coarse = range.sums_fit(m, COARSE_BITS);
+    let is_close = range.sums_fit(1, 64);
     let last = wide.sums.as_slice().len() - 1;
     let first = sum_of(samples, m, 0, last as u64);
     let (leaves, enters) = samples.parts(0, u64::from(m), last as u64);
     let before = &wide.sums.as_slice()[..last];
-    move_sums(first, before, enters, leaves, wide.next.as_mut_slice());
+    let next = wide.next.as_mut_slice();
+    move_sums(first, before, enters, leaves, is_close, next);
     swap(&mut wide.sums, &mut wide.next);
+    is_coarse
 }
 
 /// Makes the row of the last window in 64 bits from the row of the window before it, and offers the last window to each

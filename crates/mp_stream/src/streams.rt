@@ -80,8 +80,8 @@ impl Stream {
     ghost use Rattle.mp_stream.specs.Streams.{IsKnown};
 
     /// The samples at window length `m`, with their profile computed in tiles of at most `tile` diagonals by so many
-    /// workers. It is the same for every tile, number of workers and gate. No block is marked. Where there is no memory,
-    /// the samples are given up.
+    /// workers. It is the same for every tile, number of workers and gate. No block is marked. Where there is no
+    /// memory, the samples are given up.
     pub fn from<R: Threads + Sync, G: Gate>(
         rt: &R,
         alloc: Global,
@@ -145,8 +145,9 @@ impl Stream {
             return Err(AppendRefusal::Full);
         }
         self.reserve(1)?;
-        self.samples.push(sample).unwrap();
-        self.growing.append(&mut self.samples, self.m, sample);
+        let sample = &sample;
+        self.samples.push(*sample).unwrap();
+        self.growing.append(&mut self.samples, self.m, *sample);
         Ok(())
     }
 

@@ -1,10 +1,10 @@
 -- Lists that are filled place by place.
-use Rattle.std.proofs.Common.{◌≡◌, ℕ, ◌+◌, ◌<◌, List, length, set, sym, ap, ◌∙◌, arith, below_more}
+use Rattle.std.proofs.Common.{◌≡◌, ℕ, ◌+◌, ◌%◌, ◌^◌, ◌<◌, List, length, set, refl, sym, ap, ◌∙◌, arith, below_more}
 use Rattle.std.proofs.Common.{w32, FitsSigned, ℤ, pos, ◌+ℤ◌, ◌-ℤ◌, to_z, of_z}
-use Rattle.std.specs.Prelude.{slice_index_or}
-use Rattle.std.specs.Int.{int_shr, int_wrap}
-use Rattle.std.proofs.lemmas.Int.{int_wrap_fits, to_z-of_z}
-use Rattle.std.proofs.lemmas.List.{get_or-set_same, get_or-set_other}
+use Rattle.std.specs.Prelude.{slice_index_or, negsuc, unsigned_abs}
+use Rattle.std.specs.Int.{w64, int_shr, int_wrap, cast_signed, cast_unsigned}
+use Rattle.std.proofs.lemmas.Int.{ints, int_rem_euclid_is, to_z-of_z}
+use Rattle.std.proofs.lemmas.List.{get_or_default, get_or-set_same, get_or-set_other}
 use Rattle.mp_nums.specs.declared.samples.Sample.{Sample}
 use Rattle.mp_nums.specs.declared.samples.Sample.TheVariants.{Missing}
 use Rattle.mp_defs.specs.Series.{reading_of, series_of}
@@ -21,14 +21,33 @@ set_next v k z f lt before here = below_more (λ q. item (set v k z) q ≡ f q) 
     (λ q less. get_or-set_other v k q z (pos 0) (λ e. omega (arith, e, less)) ∙ before q less)
     (get_or-set_same v k z (pos 0) lt ∙ here)
 
+-- the number of a sample that was read
+pub number_there : (samples : List Sample) (place : ℕ) (number : ℤ) (sample : Sample) → place < length samples
+    → sample ≡ slice_index_or samples place sample → number ≡ filled (reading_of sample)
+    → number ≡ numbers_of (series_of samples) place
+number_there samples place number sample lt same e =
+    e ∙ ap (λ s. filled (reading_of s)) (same ∙ get_or_default samples place sample Missing lt)
+    ∙ ap filled (sym (series_are_of_samples.numbers samples place))
+
 -- a sample that was rounded
 pub rounded_is : (samples : List Sample) (place shift : ℕ) (sample : Sample) (r : ℤ)
-    → sample ≡ slice_index_or samples place Missing → r ≡ int_shr (filled (reading_of sample)) shift
-    → FitsSigned w32 r → r ≡ int_wrap w32 (rounded shift (numbers_of (series_of samples)) place)
-rounded_is samples place shift sample r same e fits =
-    sym (int_wrap_fits w32 r fits)
-    ∙ ap (int_wrap w32) (e ∙ ap (λ s. int_shr (filled (reading_of s)) shift) same
+    → sample ≡ slice_index_or samples place Missing → r ≡ int_wrap w32 (int_shr (filled (reading_of sample)) shift)
+    → r ≡ int_wrap w32 (rounded shift (numbers_of (series_of samples)) place)
+rounded_is samples place shift sample r same e =
+    e
+    ∙ ap (int_wrap w32) (ap (λ s. int_shr (filled (reading_of s)) shift) same
     ∙ ap (λ o. int_shr (filled o) shift) (sym (series_are_of_samples.numbers samples place)))
+
+-- the low half of 64 bits
+pub low_half_is : (z : ℤ) → FitsSigned w64 z → cast_signed w32 (cast_unsigned w64 z % 2 ^ 32) ≡ int_wrap w32 z
+unfolding int_wrap
+low_half_is (pos n) fits =
+    sym (ap (λ r. cast_signed w32 (unsigned_abs r))
+    (int_rem_euclid_is (pos n) (pos (2 ^ 32)) (2 ^ 32) 0 n (omega arith) refl (omega (arith, ints))))
+low_half_is (negsuc n) fits =
+    sym (ap (λ r. cast_signed w32 (unsigned_abs r))
+    (int_rem_euclid_is (negsuc n) (pos (2 ^ 32)) (2 ^ 32) (2 ^ 32) (cast_unsigned w64 (negsuc n)) (omega arith) refl
+    (omega (arith, ints, fits))))
 
 -- a change of numbers that were handed on
 pub difference_passed : (r enters leaves : ℤ) → FitsSigned w32 enters → FitsSigned w32 leaves
@@ -64,13 +83,11 @@ sum_is enters leaves m x start q e f =
 
 -- ---- squares
 
--- numbers of samples that were handed on
-pub square_there : (a b : List Sample) (i j square : ℕ) (x y : ℤ) → FitsSigned w32 x → FitsSigned w32 y
-    → x ≡ filled (reading_of (slice_index_or a i Missing)) → y ≡ filled (reading_of (slice_index_or b j Missing))
-    → square ≡ squared_difference (to_z w32 (of_z w32 x)) (to_z w32 (of_z w32 y))
+-- of numbers of samples
+pub square_there : (a b : List Sample) (i j square : ℕ) (x y : ℤ) (d e : Sample) → i < length a → j < length b
+    → x ≡ filled (reading_of (slice_index_or a i d)) → y ≡ filled (reading_of (slice_index_or b j e))
+    → square ≡ squared_difference x y
     → square ≡ squared_difference (numbers_of (series_of a) i) (numbers_of (series_of b) j)
-square_there a b i j square x y f g e h is =
-    is ∙ ap (λ z. squared_difference z (to_z w32 (of_z w32 y)))
-    (to_z-of_z w32 x f ∙ e ∙ ap filled (sym (series_are_of_samples.numbers a i)))
-    ∙ ap (squared_difference (numbers_of (series_of a) i))
-    (to_z-of_z w32 y g ∙ h ∙ ap filled (sym (series_are_of_samples.numbers b j)))
+square_there a b i j square x y d e lt less f g is =
+    is ∙ ap (λ z. squared_difference z y) (number_there a i x _ lt (get_or_default a i d _ lt) f)
+    ∙ ap (squared_difference (numbers_of (series_of a) i)) (number_there b j y _ less (get_or_default b j e _ less) g)

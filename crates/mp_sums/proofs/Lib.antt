@@ -4,3 +4,4 @@ pub mod FillLemmas
 pub mod StopLemmas
 pub mod RangeLemmas
 pub mod RowLemmas
+pub mod CloseLemmas

@@ -1,12 +1,14 @@
 -- Why the laws of sums hold, and those of distances by them.
 use Rattle.std.proofs.Common.{◌≡◌, ℕ, zero, suc, ◌+◌, ◌-◌, ◌*◌, ◌<◌, ◌≤◌, refl, sym, ap, ◌∙◌, arith, add-one, subst}
-use Rattle.std.proofs.Common.{below_more, w32, FitsSigned, to_z, of_z}
-use Rattle.std.specs.Prelude.{ℤ, ◌-ℤ◌, unsigned_abs, Option, Some, None}
-use Rattle.std.proofs.lemmas.Int.{ints, to_z-of_z}
+use Rattle.std.proofs.Common.{below_more}
+use Rattle.std.specs.Prelude.{ℤ, pos, ◌-ℤ◌, unsigned_abs, Option, Some, None, List, length, slice_index_or}
+use Rattle.std.proofs.lemmas.Int.{ints}
+use Rattle.std.proofs.lemmas.List.{get_or_default}
 use Rattle.mp_defs.specs.Series.{number_at}
 use Rattle.mp_defs.specs.Distance.{squared_difference, square_between, plus, distance}
 use Rattle.mp_defs.specs.DistanceLaws.{grows_by_one_sample}
 use Rattle.mp_sums.specs.Sums.{filled, numbers_of, square_sum, greatest_square, IsSum}
+use Rattle.mp_sums.specs.Residues.{item}
 use Rattle.mp_sums.specs.Laws.{SumsRunOn, DistancesAreSums}
 
 pub sum_of_none : (x : ℕ → ℤ) (i : ℕ) (y : ℕ → ℤ) (j : ℕ) → square_sum 0 x i y j ≡ 0
@@ -124,12 +126,13 @@ sum_bounded bound (suc m) x i y j h =
       sum_bounded bound m x i y j (λ k lt. h k (omega (arith, lt))),
     )
 
--- the square of numbers that were handed on
-pub square_passed : (x y : ℤ) (square : ℕ) → FitsSigned w32 x → FitsSigned w32 y
-    → square ≡ squared_difference (to_z w32 (of_z w32 x)) (to_z w32 (of_z w32 y)) → square ≡ squared_difference x y
-square_passed x y square f g e =
-    e ∙ ap (λ z. squared_difference z (to_z w32 (of_z w32 y))) (to_z-of_z w32 x f)
-    ∙ ap (squared_difference x) (to_z-of_z w32 y g)
+-- the square of numbers that were read from two lists
+pub square_read : (xs ys : List ℤ) (i j square : ℕ) (x y : ℤ) → i < length xs → j < length ys
+    → x ≡ slice_index_or xs i x → y ≡ slice_index_or ys j y → square ≡ squared_difference x y
+    → square ≡ squared_difference (item xs i) (item ys j)
+square_read xs ys i j square x y lt less e f g =
+    g ∙ ap (λ z. squared_difference z y) (e ∙ get_or_default xs i x (pos 0) lt)
+    ∙ ap (squared_difference (item xs i)) (f ∙ get_or_default ys j y (pos 0) less)
 
 pub difference_turned : (x y : ℤ) → squared_difference x y ≡ squared_difference y x
 difference_turned x y = let e : unsigned_abs (x -ℤ y) ≡ unsigned_abs (y -ℤ x) = omega (arith, ints) in rw e refl

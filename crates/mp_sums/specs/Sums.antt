@@ -1,5 +1,6 @@
 -- Sums of squared differences, in which a missing sample counts as 0.
-use Rattle.std.specs.Prelude.{◌≡◌, ℕ, zero, suc, ◌+◌, ◌^◌, ◌<◌, ◌≤◌, if◌then◌else◌, nat_le, ℤ, pos, Option, Some, None}
+use Rattle.std.specs.Prelude.{◌≡◌, ℕ, zero, suc, ◌+◌, ◌-◌, ◌*◌, ◌^◌, ◌<◌, ◌≤◌, if◌then◌else◌, nat_le, ℤ, pos, Option}
+use Rattle.std.specs.Prelude.{Some, None}
 use Rattle.mp_defs.specs.Series.{Series, number_at}
 use Rattle.mp_defs.specs.Distance.{squared_difference}
 
@@ -18,7 +19,7 @@ square_sum (suc m) x i y j = square_sum m x i y j + squared_difference (x (i + m
 
 -- the most that the squared difference of two samples can be
 abbrev pub greatest_square : ℕ
-greatest_square = 2 ^ 64
+greatest_square = (2 ^ 48 - 1) * (2 ^ 48 - 1)
 
 -- this is the sum, and no square in it is greater than that of two samples
 pub record IsSum (m : ℕ) (x : ℕ → ℤ) (i : ℕ) (y : ℕ → ℤ) (j sum : ℕ) : Type 0 where

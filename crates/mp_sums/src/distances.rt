@@ -19,7 +19,7 @@ pub struct Grid<'a> {
 }
 
 impl<'a> Grid<'a> {
-    ghost use Rattle.std.specs.Prelude.{◌≡◌, ℕ, ◌+◌, ◌<◌, ◌↔◌, length, true, IsTrue, IfSome, IfNone, Some};
+    ghost use Rattle.std.specs.Prelude.{◌≡◌, ℕ, ◌+◌, ◌^◌, ◌<◌, ◌↔◌, length, true, IsTrue, IfSome, IfNone, Some};
     ghost use Rattle.mp_sums.specs.Sums.{at_most, greatest_square};
     ghost use Rattle.mp_sums.specs.Grids.{square_in, first_sum_in, IsFirstSumIn, sum_in, IsSumIn, distance_in};
     ghost use Rattle.mp_sums.specs.Grids.{DistancesFit};
@@ -34,7 +34,7 @@ impl<'a> Grid<'a> {
         ensures square { result ≡ square_in self.now row column }
         ensures small { result ≤ greatest_square }
     {
-        u128::from(square(number_of(self.rows[row]), number_of(self.columns[column])))
+        square(number_of(self.rows[row]), number_of(self.columns[column]))
     }
 
     /// The squared distance of a row and a column. A missing sample counts as 0.
@@ -42,6 +42,7 @@ impl<'a> Grid<'a> {
         requires row { row + self.now.m ≤ length self.now.rows.now }
         requires column { column + self.now.m ≤ length self.now.columns.now }
         ensures sum { IsSumIn self.now row column result }
+        ensures small { result < 2 ^ 110 }
         ensures distance { (d : ℕ) → distance_in self.now row column ≡ Some d → result ≡ d }
     {
         let mut sum: u128 = 0;
@@ -76,6 +77,7 @@ impl<'a> Grid<'a> {
         requires row { row + self.now.m ≤ length self.now.rows.now }
         requires column { column + self.now.m ≤ length self.now.columns.now }
         ensures found { IfSome result (λ sum. IsSumIn self.now row column sum) }
+        ensures small { IfSome result (λ sum. sum < 2 ^ 110) }
         ensures none { IfNone result (limit < sum_in self.now row column) }
         ensures distance { (d : ℕ) → distance_in self.now row column ≡ Some d → result ≡ at_most limit d }
     {
@@ -100,6 +102,7 @@ impl<'a> Grid<'a> {
         requires column { column + self.now.m < length self.now.columns.now }
         requires sum { IsSumIn self.now row column sum }
         ensures sum { IsSumIn self.now (row + 1) (column + 1) result }
+        ensures small { result < 2 ^ 110 }
         ensures distance { (d : ℕ) → distance_in self.now (row + 1) (column + 1) ≡ Some d → result ≡ d }
     {
         let enters = self.square(row + self.m, column + self.m);
@@ -114,6 +117,7 @@ impl<'a> Grid<'a> {
         requires column { column + steps + self.now.m ≤ length self.now.columns.now }
         requires sum { IsSumIn self.now row column sum }
         ensures sum { IsSumIn self.now (row + steps) (column + steps) result }
+        ensures small { result < 2 ^ 110 }
         ensures distance { (d : ℕ) → distance_in self.now (row + steps) (column + steps) ≡ Some d → result ≡ d }
     {
         let mut sum = sum;

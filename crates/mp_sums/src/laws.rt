@@ -3,8 +3,8 @@
 ghost use Rattle.mp_sums.specs.Laws.{SumsRunOn, DistancesAreSums, RangesBoundSums, RoundedSumsAreNear};
 ghost use Rattle.mp_sums.specs.Laws.{ResiduesMoveOn, ResiduesTell};
 
-/// With one number more a sum grows by one square. One place on, one square goes and one comes in. The sums of two parts
-/// are together the sum of both. It is the same from either side. The first squares alone are no more than all.
+/// With one number more a sum grows by one square. One place on, one square goes and one comes in. The sums of two
+/// parts are together the sum of both. It is the same from either side. The first squares alone are no more than all.
 pub fn sums_run_on()
     ensures { SumsRunOn }
 {}
@@ -14,8 +14,8 @@ pub fn distances_are_sums()
     ensures { DistancesAreSums }
 {}
 
-/// Two numbers in a range differ by no more than its ends. Where it holds the sums of so many squares in so many bits, the
-/// sums of windows in it have these bits.
+/// Two numbers in a range differ by no more than its ends. Where it holds the sums of so many squares in so many bits,
+/// the sums of windows in it have these bits.
 pub fn ranges_bound_sums()
     ensures { RangesBoundSums }
 {}

@@ -19,7 +19,7 @@ pub use laws::{
 };
 pub use limits::Limit;
 pub use lists::window_sum;
-pub use numbers::{NUMBER_BITS, Number, Square, number_of, sample_at, square};
+pub use numbers::{NUMBER_BITS, close_square, narrow_square, number_of, sample_at, square};
 pub use ranges::Range;
 pub use residues::{
     ALWAYS, Change, NEVER, ZERO, change_of, fill_changes, first_residue, next_residue, passes,

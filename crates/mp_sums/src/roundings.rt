@@ -1,6 +1,7 @@
 //! Samples rounded down to multiples of a power of two.
 
 ghost use Rattle.std.specs.Prelude.{◌≡◌, ◌<◌};
+ghost use Rattle.std.specs.Int.{w32, int_wrap};
 ghost use Rattle.mp_sums.specs.Residues.{residue_up_to as residue_limit_up_to};
 ghost use Rattle.mp_sums.specs.declared.numbers.TheConstants.{NUMBER_BITS};
 
@@ -17,6 +18,14 @@ pub struct Rounding {
     pub ghost small: { shift < NUMBER_BITS },
 }
 
+/// A number, as far as 32 bits hold it.
+#[inline]
+fn low_half(number: i64) -> i32
+    ensures { result ≡ int_wrap w32 number }
+{
+    ((number.cast_unsigned() % (1 << 32)) as u32).cast_signed()
+}
+
 /// The greatest residue of the sums up to one.
 #[inline]
 fn residue_up_to(sum: u128) -> i32
@@ -27,22 +36,22 @@ fn residue_up_to(sum: u128) -> i32
 
 impl Rounding {
     ghost use Rattle.std.specs.Prelude.{◌≡◌, ℕ, ◌+◌, ◌*◌, ◌/◌, ◌^◌, ◌≤◌, length};
-    ghost use Rattle.std.specs.Int.{int_shr};
+    ghost use Rattle.std.specs.Int.{w32, int_shr, int_wrap};
     ghost use Rattle.mp_defs.specs.Series.{reading_of, series_of};
     ghost use Rattle.mp_sums.specs.Sums.{filled, numbers_of};
     ghost use Rattle.mp_sums.specs.Rounding.{rounded, weight, widened_least, threshold};
     ghost use Rattle.mp_sums.specs.Residues.{limit_within, limit_below, residue_limit, AreNumbers, IsLimitOf};
     ghost use Rattle.mp_sums.specs.declared.limits.Limit.TheVariants.{Below};
 
-    /// A sample, rounded. A missing one counts as 0.
+    /// A sample, rounded, as far as 32 bits hold it. A missing one counts as 0.
     #[inline]
     pub fn round(&self, sample: Sample) -> i32
-        ensures { result ≡ int_shr (filled (reading_of sample)) self.now.shift }
+        ensures { result ≡ int_wrap w32 (int_shr (filled (reading_of sample)) self.now.shift) }
     {
-        number_of(sample) >> self.shift
+        low_half(number_of(sample).get() >> self.shift)
     }
 
-    /// The samples from `start` on, rounded. Past the last sample stands 0.
+    /// The samples from `start` on, rounded, as far as 32 bits hold them. Past the last sample stands 0.
     pub fn fill(&self, samples: &[Sample], start: usize, numbers: &mut [i32])
         requires { start + length numbers.old < 2 ^ 63 }
         ensures numbers { AreNumbers (rounded self.now.shift (numbers_of (series_of samples.now))) start numbers.new }
@@ -106,7 +115,8 @@ impl Rounding {
         }
     }
 
-    /// The same where samples are rounded. Where the distance has too many squares of the unit, it is the greatest number.
+    /// The same where samples are rounded. Where the distance has too many squares of the unit, it is the greatest
+    /// number.
     #[inline]
     fn rounded_limit(&self, dist: u128) -> i32
         ensures { result ≡ limit_within self.now.m self.now.shift dist }

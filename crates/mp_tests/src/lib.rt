@@ -1,6 +1,6 @@
 //! Tests of the session that need code: runs that a failed call or a limit ends early, the longest lines and largest
-//! files, and the replies to lines one by one. Whole runs stand in `stored_runs`, and tests of calls that need no session
-//! in `text_tests`.
+//! files, and the replies to lines one by one. Whole runs stand in `stored_runs`, and tests of calls that need no
+//! session in `text_tests`.
 #![tactic(auto)]
 
 #[cfg(test)]

@@ -10,8 +10,8 @@ use std::thread::Threads;
 /// How many bytes of output are kept: more than any run here writes.
 const ROOM: u64 = 1_048_576;
 
-/// A whole run with a file `table.csv`, where a call of the outside may fail. The calls of each kind are counted from 0,
-/// the writes and flushes together.
+/// A whole run with a file `table.csv`, where a call of the outside may fail. The calls of each kind are counted from
+/// 0, the writes and flushes together.
 #[derive(Clone, Copy)]
 pub(crate) struct Run<'a> {
     pub(crate) shows: &'a str,

@@ -14,12 +14,15 @@ use Rattle.std.proofs.lemmas.Str.Parse.{IsNumeralModel, IsDigitsTest, FoldsDigit
 use Rattle.std.proofs.lemmas.Fmt.{digits_decimal, digits_value-decimal, decimal_nonempty}
 use Rattle.std.proofs.Math.Nat.{div-div-eq-div-mul, pow-succ', div-le_self}
 use Rattle.std.proofs.Math.Seq.{take-append_seam, drop-append-add}
+use Rattle.mp_nums.specs.declared.widths.Width.{Width}
+use Rattle.mp_nums.specs.declared.widths.Width.TheVariants.{Narrow, Wide}
+use Rattle.mp_nums.specs.Whole.{IsWhole}
 use Rattle.mp_bytes.specs.Bytes.{is_blank, is_empty}
 use Rattle.mp_bytes.specs.Digits.{next_digit, value_of}
 use Rattle.mp_text.specs.SampleText.{Numeral, is_point, without_leading_blanks, without_trailing_blanks, trimmed}
 use Rattle.mp_text.specs.SampleText.{is_missing, has_form, parted, numeral_of}
 use Rattle.mp_text.specs.SampleText.{fixed, is_exact, signed, units_of, is_within, number_of, sample_of, last_digits}
-use Rattle.mp_text.specs.SampleText.{fraction_text, magnitude_text}
+use Rattle.mp_text.specs.SampleText.{fraction_text, magnitude_text, number_text, reading, Fits}
 use Rattle.mp_text.specs.SampleLaws.{WrittenNumbersAreReadBack, MissingSamplesAreReadBack}
 
 -- ---- digits
@@ -211,6 +214,15 @@ numbers_read_back low high (negsuc n) scale fits within =
     let parts = parted-magnitude true scale (suc n) small in
     sample_of-number low high scale (45 ∷ magnitude_text scale (suc n)) (spelled true scale (suc n)) bare refl parts
     ∙ number_of-spelled low high true scale (suc n) small within
+
+-- at each width that the number fits
+pub read_back : (width : Width) (n : ℤ) (scale : ℕ) → FitsSigned w64 n → IsWhole n → Fits width (Some n)
+    → reading width scale (number_text scale n) ≡ Ok (Some n)
+read_back Narrow n scale fits whole within = numbers_read_back (negsuc 2147483647) (pos 2147483647) n scale fits within
+read_back Wide n scale fits whole _ =
+    let within : is_within (negsuc 140737488355327) (pos 140737488355327) n ≡ true =
+    grind (arith, ints, whole.0, whole.1) in
+    numbers_read_back (negsuc 140737488355327) (pos 140737488355327) n scale fits within
 
 pub missing_read_back : MissingSamplesAreReadBack
 missing_read_back low high scale = refl

@@ -7,11 +7,11 @@ use Rattle.std.proofs.lemmas.Fmt.{length-decimal-le}
 pub unit-positive : (scale : ℕ) → 0 < 10 ^ scale
 unit-positive scale = omega (arith, one-le-pow scale 10 (omega arith))
 
-pub whole-short : (n scale : ℕ) → scale ≤ 9 → n ≤ 2147483648 → length (decimal (n / 10 ^ scale)) ≤ 10 - scale
+pub whole-short : (n scale : ℕ) → scale ≤ 9 → n ≤ 2 ^ 47 → length (decimal (n / 10 ^ scale)) ≤ 15 - scale
 whole-short n scale small fits =
-    let joined : 10 ^ ((10 - scale) + scale) ≡ 10 ^ (10 - scale) * 10 ^ scale = pow-add 10 (10 - scale) scale in
-    let all : (10 - scale) + scale ≡ 10 = omega arith in
-    let ten : 10 ^ (10 - scale) * 10 ^ scale ≡ 10000000000 = rw all at (sym joined) in
-    let below : n < 10 ^ (10 - scale) * 10 ^ scale = omega arith in
-    let short : n / 10 ^ scale < 10 ^ (10 - scale) = (div-lt_iff_lt-mul (unit-positive scale)).1 below in
-    length-decimal-le (10 - scale) (n / 10 ^ scale) (omega arith) short (omega (arith, div-le_self n (10 ^ scale)))
+    let joined : 10 ^ ((15 - scale) + scale) ≡ 10 ^ (15 - scale) * 10 ^ scale = pow-add 10 (15 - scale) scale in
+    let all : (15 - scale) + scale ≡ 15 = omega arith in
+    let fifteen : 10 ^ (15 - scale) * 10 ^ scale ≡ 1000000000000000 = rw all at (sym joined) in
+    let below : n < 10 ^ (15 - scale) * 10 ^ scale = omega arith in
+    let short : n / 10 ^ scale < 10 ^ (15 - scale) = (div-lt_iff_lt-mul (unit-positive scale)).1 below in
+    length-decimal-le (15 - scale) (n / 10 ^ scale) (omega arith) short (omega (arith, div-le_self n (10 ^ scale)))

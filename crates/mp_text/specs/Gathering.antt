@@ -7,7 +7,7 @@ use Rattle.std.specs.declared.alloc.Global.{Global}
 use Rattle.mp_nums.specs.declared.samples.Sample.{Sample}
 use Rattle.mp_defs.specs.Limits.{max_samples}
 use Rattle.mp_defs.specs.Series.{Series, series_of}
-use Rattle.mp_text.specs.Table.{Fields, reading}
+use Rattle.mp_text.specs.Table.{Fields, Reader}
 use Rattle.mp_text.specs.declared.refusal.SampleFault.{SampleFault}
 use Rattle.mp_text.specs.declared.refusal.TableFault.{TableFault}
 use Rattle.mp_text.specs.declared.refusal.TableFault.TheVariants as table
@@ -19,18 +19,18 @@ reading_fault number column (Ok sample) = None
 reading_fault number column (Err fault) = Some (table.Record number column fault)
 
 -- the fault of a record's field at a column
-abbrev pub cell_fault : ℕ → ℕ → ℕ → Option (List ℕ) → Option TableFault
-cell_fault scale number column None = Some (table.NoField number column)
-cell_fault scale number column (Some text) = reading_fault number column (reading scale text)
+abbrev pub cell_fault : Reader → ℕ → ℕ → Option (List ℕ) → Option TableFault
+cell_fault read number column None = Some (table.NoField number column)
+cell_fault read number column (Some text) = reading_fault number column (read text)
 
 abbrev pub sample_in : Result (Option ℤ) SampleFault → Option ℤ
 sample_in (Ok sample) = sample
 sample_in (Err fault) = None
 
 -- the sample of a field that has no fault
-abbrev pub cell : ℕ → Option (List ℕ) → Option ℤ
-cell scale None = None
-cell scale (Some text) = sample_in (reading scale text)
+abbrev pub cell : Reader → Option (List ℕ) → Option ℤ
+cell read None = None
+cell read (Some text) = sample_in (read text)
 
 -- ---- the first fault, in the order of records and of columns
 
@@ -38,31 +38,31 @@ abbrev pub first_fault : Option TableFault → Option TableFault → Option Tabl
 first_fault None later = later
 first_fault (Some fault) later = Some fault
 
-abbrev pub record_fault : ℕ → ℕ → Fields → List ℕ → Option TableFault
-record_fault scale number fields [] = None
-record_fault scale number fields (column ∷ columns) =
-    first_fault (cell_fault scale number column (field_at fields column)) (record_fault scale number fields columns)
+abbrev pub record_fault : Reader → ℕ → Fields → List ℕ → Option TableFault
+record_fault read number fields [] = None
+record_fault read number fields (column ∷ columns) =
+    first_fault (cell_fault read number column (field_at fields column)) (record_fault read number fields columns)
 
 -- the first fault of these records, of which the first has this number
-abbrev pub table_fault : ℕ → List ℕ → ℕ → List Fields → Option TableFault
-table_fault scale columns number [] = None
-table_fault scale columns number (fields ∷ rest) =
+abbrev pub table_fault : Reader → List ℕ → ℕ → List Fields → Option TableFault
+table_fault read columns number [] = None
+table_fault read columns number (fields ∷ rest) =
     if number == max_samples + 1 then Some table.Rows
-    else first_fault (record_fault scale number fields columns) (table_fault scale columns (number + 1) rest)
+    else first_fault (record_fault read number fields columns) (table_fault read columns (number + 1) rest)
 
 -- ---- the columns
 
 -- the samples of the records in a column
-abbrev pub column_of : ℕ → List Fields → ℕ → Series
-column_of scale rows column = map (λ fields. cell scale (field_at fields column)) rows
+abbrev pub column_of : Reader → List Fields → ℕ → Series
+column_of read rows column = map (λ fields. cell read (field_at fields column)) rows
 
 abbrev pub unless_faulty : Option TableFault → List Series → Result (List Series) TableFault
 unless_faulty None columns = Ok columns
 unless_faulty (Some fault) columns = Err fault
 
 -- a series for each of these columns, or the first fault
-abbrev pub gathered_of : ℕ → List ℕ → List Fields → Result (List Series) TableFault
-gathered_of scale columns rows = unless_faulty (table_fault scale columns 1 rows) (map (column_of scale rows) columns)
+abbrev pub gathered_of : Reader → List ℕ → List Fields → Result (List Series) TableFault
+gathered_of read columns rows = unless_faulty (table_fault read columns 1 rows) (map (column_of read rows) columns)
 
 -- ---- series that are gathered
 

@@ -2,10 +2,13 @@
 use Rattle.std.specs.Prelude.{ℕ, ◌+◌, ◌-◌, ◌/◌, ◌%◌, ◌^◌, ◌==◌, ◌&&◌, ◌||◌, zero, suc, Bool, true, false, not, List, []}
 use Rattle.std.specs.Prelude.{◌∷◌, ◌++◌}
 use Rattle.std.specs.Prelude.{take, drop, length, reverse, replicate, codes, decimal, ℤ, pos, negsuc, neg_ℤ, int_le}
-use Rattle.std.specs.Prelude.{unsigned_abs}
+use Rattle.std.specs.Prelude.{unsigned_abs, IsTrue}
 use Rattle.std.specs.Prelude.{if◌then◌else◌, Option, Some, None, Result, Ok, Err}
 use Rattle.std.specs.List.{list_all, before_first, after_first}
 use Rattle.std.specs.Char.{is_ascii_digit}
+use Rattle.mp_nums.specs.declared.widths.Width.{Width}
+use Rattle.mp_nums.specs.declared.widths.Width.TheVariants.{Narrow}
+use Rattle.mp_defs.specs.Limits.{least_sample, greatest_sample}
 use Rattle.mp_bytes.specs.Bytes.{is_blank, same_text, is_empty}
 use Rattle.mp_bytes.specs.Digits.{value_of}
 use Rattle.mp_text.specs.declared.refusal.SampleFault.{SampleFault}
@@ -91,6 +94,15 @@ number_of low high scale n =
 abbrev pub sample_of : ℤ → ℤ → ℕ → List ℕ → Result (Option ℤ) SampleFault
 sample_of low high scale text =
     if is_missing (trimmed text) then Ok None else number_of low high scale (numeral_of (trimmed text))
+
+-- the same at a width
+abbrev pub reading : Width → ℕ → List ℕ → Result (Option ℤ) SampleFault
+reading width scale text = sample_of (least_sample width) (greatest_sample width) scale text
+
+-- a sample has no more bits than are read at a width. None has more than 48
+abbrev pub Fits : Width → Option ℤ → Type 0
+Fits Narrow (Some n) = IsTrue (is_within (least_sample Narrow) (greatest_sample Narrow) n)
+Fits width sample = Unit {0}
 
 -- ---- writing
 

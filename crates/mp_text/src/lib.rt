@@ -10,6 +10,6 @@ mod writing;
 
 pub use laws::{table_faults_are_the_first, written_samples_are_read_back};
 pub use refusal::{SampleFault, TableFault};
-pub use spelling::{GREATEST_SAMPLE, LEAST_SAMPLE, read_sample};
+pub use spelling::read_sample;
 pub use tables::read_table;
 pub use writing::write_sample;

@@ -12,7 +12,7 @@ pub enum SampleFault {
     /// A digit past the scale isn't 0.
     #[error("a digit past the scale")]
     Fine,
-    /// The number is less than `LEAST_SAMPLE` or greater than `GREATEST_SAMPLE`, in units of `10^-scale`.
+    /// The number, in units of `10^-scale`, has more bits than the width that was given.
     #[error("out of range")]
     Range,
 }

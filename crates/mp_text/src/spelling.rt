@@ -1,24 +1,23 @@
 //! Samples that are read from their texts.
 
-ghost use Rattle.std.specs.Prelude.{◌≡◌, ◌≤◌, ◌-◌, ◌++◌, ◌&&◌, not, true, false, position, Ok, Err, Some, None, IfOk, IfErr, MatchOption, IsTrue, take, drop, replicate, length, fold, min, pos, option_map, ℤ};
+ghost use Rattle.std.specs.Prelude.{◌≡◌, ◌≤◌, ◌-◌, ◌++◌, ◌&&◌, not, true, false, position, Ok, Err, Some, None, IfOk};
+ghost use Rattle.std.specs.Prelude.{IfErr, IfSome, IfNone, MatchOption, IsTrue, take, drop, replicate, length, fold};
+ghost use Rattle.std.specs.Prelude.{min, pos, option_map, ℤ};
 ghost use Rattle.std.specs.List.{before_first, after_first, list_all};
 ghost use Rattle.std.specs.Char.{is_ascii_digit};
+ghost use Rattle.mp_nums.specs.declared.widths.Width.TheVariants.{Narrow};
 ghost use Rattle.mp_defs.specs.Series.{reading_of};
 ghost use Rattle.mp_bytes.specs.Bytes.{is_empty};
 ghost use Rattle.mp_bytes.specs.Digits.{next_digit, value_of};
 ghost use Rattle.mp_defs.specs.Limits.{least_sample, greatest_sample};
-ghost use Rattle.mp_text.specs.SampleText.{sample_of, number_of, numeral_of, parted, has_form, is_exact, fixed, units_of, signed, trimmed, is_missing, is_within, is_point, without_leading_blanks, without_trailing_blanks};
+ghost use Rattle.mp_text.specs.SampleText.{reading, number_of, numeral_of, parted, has_form, is_exact, fixed, units_of};
+ghost use Rattle.mp_text.specs.SampleText.{signed, trimmed, is_missing, is_within, is_point, without_leading_blanks};
+ghost use Rattle.mp_text.specs.SampleText.{without_trailing_blanks};
 ghost use Rattle.mp_text.specs.Spelling.{seen};
 
 use crate::refusal::SampleFault;
 use mp_bytes::{is_blank, same_text};
-use mp_nums::Sample;
-
-/// The least number of a sample, in units of `10^-scale`.
-pub const LEAST_SAMPLE: i64 = -2_147_483_648;
-
-/// The greatest number of a sample, in units of `10^-scale`.
-pub const GREATEST_SAMPLE: i64 = 2_147_483_647;
+use mp_nums::{Sample, Whole, Width};
 
 /// Greater magnitudes are read as this one, which no sample has.
 const TOO_GREAT: u64 = 1_000_000_000_000_000_000;
@@ -32,11 +31,11 @@ const ZEROS: [u8; 9] = *b"000000000";
 /// taken where they are 0. It takes no memory.
 ///
 /// The faults are tested in this order: `Form` for any other text, `Fine` for a digit past the scale that isn't 0, and
-/// `Range` for a number that is less than `LEAST_SAMPLE` or greater than `GREATEST_SAMPLE`.
-pub fn read_sample(text: &[u8], scale: u8) -> Result<Sample, SampleFault>
+/// `Range` for a number that has more bits with sign than the width: 32 or 48.
+pub fn read_sample(text: &[u8], scale: u8, width: Width) -> Result<Sample, SampleFault>
     requires { scale ≤ 9 }
-    ensures sample { IfOk result (λ sample. sample_of least_sample greatest_sample scale text.now ≡ Ok (reading_of sample)) }
-    ensures fault { IfErr result (λ fault. sample_of least_sample greatest_sample scale text.now ≡ Err fault) }
+    ensures sample { IfOk result (λ sample. reading width scale text.now ≡ Ok (reading_of sample)) }
+    ensures fault { IfErr result (λ fault. reading width scale text.now ≡ Err fault) }
 {
     let text = trimmed(text);
     if is_missing(text) {
@@ -49,11 +48,34 @@ pub fn read_sample(text: &[u8], scale: u8) -> Result<Sample, SampleFault>
     if !numeral.is_exact(scale) {
         return Err(SampleFault::Fine);
     }
-    let number = numeral.units(scale);
-    if !is_within(LEAST_SAMPLE, GREATEST_SAMPLE, number) {
-        return Err(SampleFault::Range);
+    match taken(numeral.units(scale), width) {
+        Some(number) => Ok(Sample::Value(number)),
+        None => Err(SampleFault::Range),
     }
-    Ok(Sample::Value(number as i32))
+}
+
+/// The number, where it has no more bits than the width.
+fn taken(number: i64, width: Width) -> Option<Whole>
+    ensures found { IfSome result (λ whole. whole ≡ number) }
+    ensures within { IfSome result (λ _. is_within (least_sample width) (greatest_sample width) number ≡ true) }
+    ensures none { IfNone result (is_within (least_sample width) (greatest_sample width) number ≡ false) }
+{
+    match width {
+        Width::Narrow => narrow(number),
+        Width::Wide => Whole::new(number),
+    }
+}
+
+/// The number, where it has no more than 32 bits.
+fn narrow(number: i64) -> Option<Whole>
+    ensures found { IfSome result (λ whole. whole ≡ number) }
+    ensures within { IfSome result (λ _. is_within (least_sample Narrow) (greatest_sample Narrow) number ≡ true) }
+    ensures none { IfNone result (is_within (least_sample Narrow) (greatest_sample Narrow) number ≡ false) }
+{
+    match i32::try_from(number) {
+        Ok(number) => Some(Whole::from(number)),
+        Err(_) => None,
+    }
 }
 
 /// A number as it is spelled: its sign, the digits before the point, and those behind it.
@@ -65,6 +87,8 @@ struct Numeral<'a> {
 }
 
 impl<'a> Numeral<'a> {
+    ghost use Rattle.mp_nums.specs.declared.widths.Width.{Width};
+
     fn of(text: &'a [u8]) -> Numeral<'a>
         ensures { seen result ≡ numeral_of text.now }
     {
@@ -117,8 +141,10 @@ impl<'a> Numeral<'a> {
     fn units(&self, scale: u8) -> i64
         requires form { IsTrue (has_form (seen self.now)) }
         requires places { scale ≤ 9 }
-        ensures within { is_within least_sample greatest_sample result ≡ is_within least_sample greatest_sample (units_of scale (seen self.now)) }
-        ensures value { is_within least_sample greatest_sample result ≡ true → result ≡ units_of scale (seen self.now) }
+        ensures within { (width : Width) → is_within (least_sample width) (greatest_sample width) result
+            ≡ is_within (least_sample width) (greatest_sample width) (units_of scale (seen self.now)) }
+        ensures value { (width : Width) → is_within (least_sample width) (greatest_sample width) result ≡ true
+            → result ≡ units_of scale (seen self.now) }
     {
         let magnitude = self.magnitude(scale) as i64;
         if self.is_negative {
@@ -165,12 +191,6 @@ fn continued(start: u64, digits: &[u8]) -> u64
         value = (10 * value + u64::from(*digit - b'0')).min(TOO_GREAT);
     }
     value
-}
-
-fn is_within(low: i64, high: i64, number: i64) -> bool
-    ensures { result ≡ is_within low high number }
-{
-    low <= number && number <= high
 }
 
 /// The text without the spaces and tabs at its ends.

@@ -83,7 +83,8 @@ cleared_next i old new slot lt h e = record {
 pub all_cleared : (i : ℕ) (old new : Column) → length old ≤ i → AreClearBelow i old new
     → new ≡ replicate (length old) None
 all_cleared i old new all h =
-    ext_get_or None new (replicate (length old) None) (h.places ∙ sym (length-replicate {A = Option Near} (length old) None))
+    ext_get_or None new (replicate (length old) None)
+    (h.places ∙ sym (length-replicate {A = Option Near} (length old) None))
     (λ k lt. h.each k (omega (arith, lt, all, h.places))
     ∙ sym (get_or-replicate (length old) k None None (omega (arith, lt, h.places))))
 

@@ -20,8 +20,8 @@ use std::marker::Model;
 #[derive(Debug, Drop)]
 pub(crate) struct Column {
     slots: Vec<Compact>,
-    /// For each the greatest residue of windows as near as the one that was found. The scan asks for it at every block, and
-    /// it changes seldom.
+    /// For each the greatest residue of windows as near as the one that was found. The scan asks for it at every
+    /// block, and it changes seldom.
     bounds: Vec<i32>,
     /// How samples are rounded of which these are residues.
     rounding: Rounding,
@@ -63,8 +63,8 @@ fn bound_from(rounding: &Rounding, slot: Slot, within: i32, first: u64) -> i32
     }
 }
 
-/// Whether a residue tells at once that windows don't lie at distance 0. Then equal distances are few, and what was found
-/// need not be looked at.
+/// Whether a residue tells at once that windows don't lie at distance 0. Then equal distances are few, and what was
+/// found need not be looked at.
 #[inline]
 fn is_apart(rounding: &Rounding, within: i32) -> bool {
     i64::from(within) > i64::from(ZERO) + 2 * i64::from(rounding.m) + 1

@@ -86,8 +86,8 @@ impl<'a> OwnTiles<'a> {
         }
     }
 
-    /// The pairs of windows that start close together, outside the exclusion zone, in so many bands of rows. Merged into
-    /// both sides of the matrix profile they change nothing. It takes no memory.
+    /// The pairs of windows that start close together, outside the exclusion zone, in so many bands of rows. Merged
+    /// into both sides of the matrix profile they change nothing. It takes no memory.
     pub fn near(&self, bands: u32) -> NearTiles<'a>
         requires some { 1 ≤ bands }
         ensures samples { result.samples ≡ self.now.samples }

@@ -1,14 +1,17 @@
 -- What the workers of a team draw and find.
-use Rattle.std.proofs.Common.{◌≡◌, ℕ, ◌+◌, ◌-◌, ◌<◌, ◌≤◌, List, [], ◌∷◌, ◌++◌, Bool, true, false, refl, sym, ap, subst, ◌∙◌}
+use Rattle.std.proofs.Common.{◌≡◌, ℕ, ◌+◌, ◌-◌, ◌<◌, ◌≤◌, List, [], ◌∷◌, ◌++◌, Bool, true, false, refl, sym, ap, subst}
+use Rattle.std.proofs.Common.{◌∙◌}
 use Rattle.std.proofs.Common.{append-nil, length, get_or, take, drop, arith, zero, suc}
-use Rattle.std.specs.Prelude.{nat_lt, ◌==◌, ◌&&◌, ◌||◌, if◌then◌else◌, All, Option, Some, option_to_list, slice_get, slice_set}
+use Rattle.std.specs.Prelude.{nat_lt, ◌==◌, ◌&&◌, ◌||◌, if◌then◌else◌, All, Option, Some, option_to_list, slice_get}
+use Rattle.std.specs.Prelude.{slice_set}
 use Rattle.std.specs.Prelude.{map, replicate}
 use Rattle.std.specs.Prelude.{sum_by}
 use Rattle.std.specs.List.{range_with_len, swap_remove}
 use Rattle.std.proofs.lemmas.Bool.Decides.{nat_tests}
 use Rattle.std.proofs.lemmas.List.Concat.{flat_map-append}
 use Rattle.std.proofs.lemmas.List.Elements.{filter-append, filter_passes}
-use Rattle.std.proofs.lemmas.List.Elements.{All-head, All-tail, All-cons, All-nil, All-append, All-set, All-take, All-weaker}
+use Rattle.std.proofs.lemmas.List.Elements.{All-head, All-tail, All-cons, All-nil, All-append, All-set, All-take}
+use Rattle.std.proofs.lemmas.List.Elements.{All-weaker}
 use Rattle.std.proofs.lemmas.List.Sums.{sum_by-cons, sum_by_push}
 use Rattle.std.proofs.lemmas.List.{length-append}
 use Rattle.mp_partial.specs.Values.{Value, merged_over, merged_below}
@@ -16,7 +19,8 @@ use Rattle.mp_partial.specs.MergeLaws.{IsMerging}
 use Rattle.mp_partial.specs.Together.{has_piece, HaveSamePieces}
 use Rattle.mp_partial.specs.TogetherLaws.{merges_by_pieces, pieces_of_lists}
 use Rattle.mp_workers.specs.Desks.{DeskId, once_below, past, pieces_among, times}
-use Rattle.mp_workers.specs.Teams.{WorkerState, IsDone, IsReady, AreReady, HaveRun, found_first, pieces_of, with_first_of, with_pieces}
+use Rattle.mp_workers.specs.Teams.{WorkerState, IsDone, IsReady, AreReady, HaveRun, found_first, pieces_of}
+use Rattle.mp_workers.specs.Teams.{with_first_of, with_pieces}
 use Rattle.mp_workers.proofs.Working.{pieces_have}
 
 -- ---- lists of parts and of workers

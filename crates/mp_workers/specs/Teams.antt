@@ -27,7 +27,8 @@ found_first [] = []
 found_first (worker ∷ rest) = worker.found
 
 -- all workers begin with the same value of their size
-pub record AreReady (IsValue : ℕ → Value → Type 0) (desk : DeskId) (size : ℕ) (workers : List WorkerState) : Type 0 where
+pub record AreReady (IsValue : ℕ → Value → Type 0) (desk : DeskId) (size : ℕ)
+    (workers : List WorkerState) : Type 0 where
   pub is_value : IsValue size (found_first workers)
   pub each : All (IsReady desk size (found_first workers)) workers
 

@@ -107,8 +107,8 @@ fn with_work(workers: u32, pieces: u64) -> u32
     u64::from(workers).min(pieces).max(1) as u32
 }
 
-/// Runs the pieces below a number by a worker for each of some parts, which begin with the same. What these had, with what
-/// all pieces have, is handed over, and the other parts stand where all of them stood.
+/// Runs the pieces below a number by a worker for each of some parts, which begin with the same. What these had, with
+/// what all pieces have, is handed over, and the other parts stand where all of them stood.
 fn run_from<R: Threads + Sync, P: Part, K: Kernel<Out = P>, G: Gate>(
     rt: &R,
     alloc: Global,
@@ -167,8 +167,8 @@ pub fn run_all<R: Threads + Sync, K: Kernel, G: Gate>(
     run_from(rt, alloc, kernel, pieces, &mut parts, gate)
 }
 
-/// What the pieces of two kernels have together, run as by `run_all`: first those of the one, and then those of the other,
-/// for which each worker begins with what the first ones have together.
+/// What the pieces of two kernels have together, run as by `run_all`: first those of the one, and then those of the
+/// other, for which each worker begins with what the first ones have together.
 pub(crate) fn run_one_after_another<
     R: Threads + Sync,
     P: Part,

@@ -47,7 +47,8 @@ impl<P: Part> Worker<P> {
     }
 }
 
-/// A worker for each of some parts, which it begins with, each with a pass that is cut off from one with the whole weight.
+/// A worker for each of some parts, which it begins with, each with a pass that is cut off from one with the whole
+/// weight.
 pub(crate) fn hire<P: Part>(
     alloc: Global,
     desk: &Desk,
@@ -110,8 +111,8 @@ fn join_passes<P: Part>(
     Ok(())
 }
 
-/// Takes in the passes of all workers of a team, and hands over what its first one has found. The parts of the others are
-/// handed over too.
+/// Takes in the passes of all workers of a team, and hands over what its first one has found. The parts of the others
+/// are handed over too.
 pub(crate) fn gather<P: Part>(
     desk: &Desk,
     pass: &mut Pass,

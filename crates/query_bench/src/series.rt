@@ -2,7 +2,7 @@
 
 ghost use Rattle.std.specs.Prelude.{◌≡◌, IfOk, vec_len};
 
-use mp_nums::{Near, Sample, Slot, Sq};
+use mp_nums::{Near, Sample, Slot, Sq, Whole};
 use std::alloc::{AllocError, Global};
 
 /// So many samples from 0 to 65,535 without a pattern. Some are missing, all behind the longest window.
@@ -16,7 +16,7 @@ fn sample(k: u64) -> Sample {
     if k % 30_011 == 30_010 {
         Sample::Missing
     } else {
-        Sample::Value((mixed(k) % 65_536) as i32)
+        Sample::Value(Whole::from((mixed(k) % 65_536) as i32))
     }
 }
 

@@ -9,7 +9,7 @@ mod bodies;
 mod words;
 
 use anyhow::{Context, Result, ensure};
-use mp_nums::Sample;
+use mp_nums::{Sample, Whole};
 use mp_series::MAX_SAMPLES;
 use std::rt::{Clock, Env};
 use std::thread::Threads;
@@ -62,7 +62,9 @@ fn read_sample(line: &str) -> Result<Sample> {
     if line == "?" {
         return Ok(Sample::Missing);
     }
-    Ok(Sample::Value(line.parse::<i32>().context("a number")?))
+    let number = line.parse::<i64>().context("a number")?;
+    let whole = Whole::new(number).context("a number of 48 bits")?;
+    Ok(Sample::Value(whole))
 }
 
 /// Does what is asked for, and prints what it took.

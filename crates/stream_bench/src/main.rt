@@ -9,7 +9,7 @@ mod sums;
 mod words;
 
 use anyhow::{Context, Result};
-use mp_nums::Sample;
+use mp_nums::{Sample, Whole};
 use mp_outside::OpenGate;
 use mp_series::Samples;
 use mp_stream::Stream;
@@ -46,8 +46,9 @@ fn read_samples<R: AllocGlobal + Input>(rt: &R) -> Result<Vec<Sample>> {
     let text = io::read_to_string(rt.alloc(), rt.reader())?;
     let mut samples = Vec::new(rt.alloc());
     for line in text.as_str().lines() {
-        let number = line.parse::<i32>().context("a number")?;
-        samples.push(Sample::Value(number))?;
+        let number = line.parse::<i64>().context("a number")?;
+        let whole = Whole::new(number).context("a number of 48 bits")?;
+        samples.push(Sample::Value(whole))?;
     }
     Ok(samples)
 }

@@ -1,8 +1,7 @@
 ghost use Rattle.std.specs.Prelude.{◌≤◌};
 ghost use Rattle.mp_series.specs.declared.limits.TheConstants.{MIN_WINDOW, MAX_WINDOW};
 
-use crate::series::drawn;
-use mp_nums::Sample::{Missing, Value};
+use crate::series::{drawn, sample, samples_of};
 use mp_nums::{Sample, Slot};
 use mp_outside::{MeetGate, OpenGate};
 use mp_plain::profile;
@@ -54,15 +53,15 @@ fn expect_twice(rt: &impl Abort, stream: &Stream) {
     expect_slots(rt, profile.right(), &[right[0], right[1], None, None]);
 }
 
-const TWICE: [Sample; 6] = [Value(1), Value(2), Value(3), Value(1), Value(2), Value(3)];
+const TWICE: [i64; 6] = [1, 2, 3, 1, 2, 3];
 
 /// Makes room in a stream without samples, and appends six.
 fn append_six(rt: &impl Abort, stream: &mut Stream) -> Result<(), Fail> {
     assert_eq!(rt; stream.profile().len(), 0);
     stream.reserve(3)?;
     assert!(rt; 3 <= stream.spare());
-    for sample in &TWICE {
-        append(rt, stream, *sample)?;
+    for number in &TWICE {
+        append(rt, stream, sample(*number))?;
     }
     Ok(())
 }
@@ -77,7 +76,8 @@ fn samples_one_by_one(rt: HostRuntime) -> Result<(), Fail> {
 
 #[test]
 fn a_whole_series(rt: HostRuntime) -> Result<(), Fail> {
-    let stream = stream_of(&rt, rt.alloc(), &TWICE, 3)?;
+    let twice = samples_of(rt.alloc(), &TWICE)?;
+    let stream = stream_of(&rt, rt.alloc(), twice.as_slice(), 3)?;
     expect_twice(&rt, &stream);
     Ok(())
 }
@@ -121,27 +121,39 @@ fn expect_growth<R: Abort + AllocGlobal + Threads + Sync>(
     append_each(rt, rt.alloc(), &mut stream, samples)
 }
 
-const TIED: [Sample; 8] = [
-    Missing,
-    Value(-1),
-    Value(-1),
-    Value(2),
-    Value(2),
-    Value(0),
-    Value(0),
-    Value(0),
+const TIED: [Option<i64>; 8] = [
+    None,
+    Some(-1),
+    Some(-1),
+    Some(2),
+    Some(2),
+    Some(0),
+    Some(0),
+    Some(0),
 ];
 
 /// Numbers of the whole range of 32 bits.
-const WIDE: [Sample; 8] = [
-    Missing,
-    Value(i32::MIN),
-    Value(i32::MAX),
-    Value(1_234_567_890),
-    Value(-1),
-    Value(0),
-    Value(0),
-    Value(2),
+const WIDE: [Option<i64>; 8] = [
+    None,
+    Some(-2_147_483_648),
+    Some(2_147_483_647),
+    Some(1_234_567_890),
+    Some(-1),
+    Some(0),
+    Some(0),
+    Some(2),
+];
+
+/// Numbers of the whole range of 48 bits.
+const WIDEST: [Option<i64>; 8] = [
+    None,
+    Some(-140_737_488_355_328),
+    Some(140_737_488_355_327),
+    Some(98_765_432_109_876),
+    Some(-1),
+    Some(0),
+    Some(0),
+    Some(2),
 ];
 
 #[test]
@@ -164,19 +176,32 @@ fn a_range_that_outgrows_64_bits(rt: HostRuntime) -> Result<(), Fail> {
     Ok(())
 }
 
+#[test]
+fn a_range_that_outgrows_79_bits(rt: HostRuntime) -> Result<(), Fail> {
+    for m in [3, 20] {
+        let tied = drawn(rt.alloc(), &TIED, 30, u64::from(m))?;
+        let wide = drawn(rt.alloc(), &WIDE, 30, u64::from(m))?;
+        let widest = drawn(rt.alloc(), &WIDEST, 60, u64::from(m))?;
+        expect_growth(&rt, tied.as_slice(), widest.as_slice(), m)?;
+        expect_growth(&rt, wide.as_slice(), widest.as_slice(), m)?;
+        expect_growth(&rt, widest.as_slice(), tied.as_slice(), m)?;
+    }
+    Ok(())
+}
+
 /// At windows of 8 samples. 8 times the square of 2^30 is 2^63.
 #[test]
 fn ranges_about_the_greatest_sum_of_64_bits(rt: HostRuntime) -> Result<(), Fail> {
-    for greatest in [(1 << 30) - 1, 1 << 30, i32::MAX] {
-        let (zero, most) = (Value(0), Value(greatest));
+    for greatest in [(1 << 30) - 1, 1 << 30, 2_147_483_647] {
+        let (zero, most) = (Some(0), Some(greatest));
         let choices = [
             zero,
             most,
             most,
             most,
-            Value(1),
-            Value(987_654),
-            Value(20_000),
+            Some(1),
+            Some(987_654),
+            Some(20_000),
             zero,
         ];
         let samples = drawn(rt.alloc(), &choices, 60, 7)?;
@@ -185,31 +210,21 @@ fn ranges_about_the_greatest_sum_of_64_bits(rt: HostRuntime) -> Result<(), Fail>
     Ok(())
 }
 
-const LOW: Sample = Value(i32::MIN);
+const LOW: i64 = -2_147_483_648;
 
-const HIGH: Sample = Value(i32::MAX);
+const HIGH: i64 = 2_147_483_647;
 
-const ENDS: [Sample; 10] = [
-    Value(5),
-    Value(-3),
-    LOW,
-    LOW,
-    LOW,
-    HIGH,
-    HIGH,
-    HIGH,
-    Value(5),
-    Value(-3),
-];
+const ENDS: [i64; 10] = [5, -3, LOW, LOW, LOW, HIGH, HIGH, HIGH, 5, -3];
 
 #[test]
 fn the_ends_of_32_bits(rt: HostRuntime) -> Result<(), Fail> {
-    expect_growth(&rt, &[], &ENDS, 3)
+    let samples = samples_of(rt.alloc(), &ENDS)?;
+    expect_growth(&rt, &[], samples.as_slice(), 3)
 }
 
 #[test]
 fn two_workers_of_a_stream_meet(rt: HostRuntime) -> Result<(), Fail> {
-    let zeros = vec![in rt.alloc(); Value(0); 2_000]?;
+    let zeros = vec![in rt.alloc(); sample(0); 2_000]?;
     let samples = Samples::of(rt.alloc(), zeros.as_slice())?;
     let gate = MeetGate::new();
     let stream = Stream::from(&rt, rt.alloc(), samples, 8, 64, 2, &gate)?;

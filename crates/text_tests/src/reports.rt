@@ -2,6 +2,7 @@
 
 use mp_nums::{
     Centre, Discord, Items, Memory, Motif, Near, NearList, Places, Ratio, Sample, Slot, Sq, Text,
+    Whole,
 };
 use mp_partial::{Part, Profile};
 use mp_report::{
@@ -64,11 +65,10 @@ fn a_profile_is_written(rt: HostRuntime) {
     check_profile(&rt, rt.alloc(), &profile);
 }
 
-const SAMPLES: [Sample; 3] = [
-    Sample::Value(1_250),
-    Sample::Value(1_250),
-    Sample::Value(-50),
-];
+/// The sample of a number.
+fn sample(number: i32) -> Sample {
+    Sample::Value(Whole::from(number))
+}
 
 /// The windows of a join, each with the nearest one.
 const JOINED: [Slot; 2] = [
@@ -119,9 +119,10 @@ const DISCORDS: [Discord; 1] = [Discord {
 #[test]
 fn samples_and_windows_are_written(rt: HostRuntime) {
     let alloc = rt.alloc();
+    let samples = [sample(1_250), sample(1_250), sample(-50)];
     check(
         &rt,
-        window_text(alloc, 3, 0, &SAMPLES, 2),
+        window_text(alloc, 3, 0, &samples, 2),
         b"window 3 0 12.50 12.50 -0.50\n",
     );
     check(

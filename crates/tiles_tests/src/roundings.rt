@@ -48,8 +48,8 @@ fn find(
     Ok(found)
 }
 
-/// Expects the nearest column of each row, as a row to the columns that start behind it, and as a column to the rows that
-/// start before it.
+/// Expects the nearest column of each row, as a row to the columns that start behind it, and as a column to the rows
+/// that start before it.
 fn expect_nearest(rt: &impl Abort, later: &[Slot], earlier: &[Slot], every: &[Slot], shift: u32) {
     assert_eq!(rt; later.len(), every.len());
     assert_eq!(rt; earlier.len(), every.len());
@@ -83,7 +83,12 @@ fn expect_roundings<R: Abort + AllocGlobal>(
 }
 
 /// Window lengths, and the least and the greatest of the numbers: many ties, and sums that wrap.
-static RANGES: [(u32, i32, i32); 3] = [(3, -1, 2), (20, i32::MIN, i32::MAX), (40, -1_000_000, 7)];
+static RANGES: [(u32, i64, i64); 4] = [
+    (3, -1, 2),
+    (20, -2_147_483_648, 2_147_483_647),
+    (20, -140_737_488_355_328, 140_737_488_355_327),
+    (40, -1_000_000, 7),
+];
 
 #[test]
 fn roundings_give_what_every_pair_gives(rt: HostRuntime) -> Result<(), Fail> {

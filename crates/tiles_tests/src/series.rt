@@ -1,9 +1,31 @@
 //! Series in which windows are often equally far apart, or numbers lie as far apart as can be.
 
-ghost use Rattle.std.specs.Prelude.{◌≡◌, IfOk, vec_len};
+ghost use Rattle.std.specs.Prelude.{◌≡◌, length, IfOk, vec_len};
 
-use mp_nums::{Memory, Sample};
+use mp_nums::{Memory, Sample, Whole};
 use std::alloc::Global;
+
+/// The sample of a number of 48 bits. One of more is missing.
+pub(crate) fn sample(number: i64) -> Sample {
+    match Whole::new(number) {
+        Some(whole) => Sample::Value(whole),
+        None => Sample::Missing,
+    }
+}
+
+/// The samples of these numbers, where `None` stands for a missing one.
+pub(crate) fn samples(alloc: Global, numbers: &[Option<i64>]) -> Result<Vec<Sample>, Memory>
+    ensures { IfOk result (λ samples. vec_len samples ≡ length numbers.now) }
+{
+    let mut samples = Vec::new(alloc);
+    for number in numbers {
+        samples.push(match number {
+            Some(number) => sample(*number),
+            None => Sample::Missing,
+        })?;
+    }
+    Ok(samples)
+}
 
 /// A series of few numbers, so that many distances are equal, in which about one sample in eight is missing.
 pub(crate) fn ties(alloc: Global, count: u64, seed: u64) -> Result<Vec<Sample>, Memory>
@@ -17,9 +39,9 @@ pub(crate) fn ties(alloc: Global, count: u64, seed: u64) -> Result<Vec<Sample>, 
             .wrapping_add(1_442_695_040_888_963_407);
         samples.push(match state >> 61 {
             0 => Sample::Missing,
-            1 | 2 => Sample::Value(-1),
-            3 | 4 => Sample::Value(2),
-            _ => Sample::Value(0),
+            1 | 2 => sample(-1),
+            3 | 4 => sample(2),
+            _ => sample(0),
         })?;
     }
     Ok(samples)
@@ -27,7 +49,7 @@ pub(crate) fn ties(alloc: Global, count: u64, seed: u64) -> Result<Vec<Sample>, 
 
 /// A series of the least number, the greatest, and one in the middle, in which some samples are missing: the first and
 /// the last of sixteen, of 1,024, and others.
-pub(crate) fn spread(alloc: Global, count: u64, low: i32, high: i32) -> Result<Vec<Sample>, Memory>
+pub(crate) fn spread(alloc: Global, count: u64, low: i64, high: i64) -> Result<Vec<Sample>, Memory>
     ensures { IfOk result (λ samples. vec_len samples ≡ count) }
 {
     let mut samples = Vec::new(alloc);
@@ -39,9 +61,9 @@ pub(crate) fn spread(alloc: Global, count: u64, low: i32, high: i32) -> Result<V
         let is_missing = [15, 16, 300, 1_023, 1_024, 1_025].contains(&k);
         samples.push(match state >> 62 {
             _ if is_missing => Sample::Missing,
-            0 => Sample::Value(low),
-            1 => Sample::Value(high),
-            _ => Sample::Value(low / 2 + high / 2),
+            0 => sample(low),
+            1 => sample(high),
+            _ => sample(low / 2 + high / 2),
         })?;
     }
     Ok(samples)

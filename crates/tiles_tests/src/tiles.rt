@@ -2,16 +2,23 @@ ghost use Rattle.std.specs.Prelude.{◌≡◌, ◌≤◌, IfOk, length};
 ghost use Rattle.mp_series.specs.declared.limits.TheConstants.{MAX_SAMPLES, MAX_WINDOW, MIN_WINDOW};
 ghost use Rattle.mp_defs.specs.Window.{windows as windows_in};
 
-use crate::series::{spread, ties};
-use mp_nums::Sample::{Missing, Value};
+use crate::series::{samples, spread, ties};
 use mp_nums::{Memory, Near, Sample, Slot, Slots, Sq};
-use mp_partial::{Bench, Part, Patch, Profile};
+use mp_partial::{Bench, Kernel, Part, Patch, Profile};
 use mp_plain::Columns;
-use mp_series::{MAX_WINDOW, MIN_WINDOW, excl, windows};
-use mp_tiles::{Cut, MAX_TILE, Tile, cut_both, cut_own, join, profile, scan_own, scan_patch};
+use mp_series::{MAX_SAMPLES, MAX_WINDOW, MIN_WINDOW, excl, windows};
+use mp_tiles::{
+    Cut, MAX_TILE, OwnTiles, Tile, cut_both, cut_own, join, profile, scan_own, scan_patch,
+};
 use std::alloc::Global;
 use std::process::Abort;
 use std::test::Fail;
+
+/// The ends of 32 bits.
+const NARROW: (i64, i64) = (-2_147_483_648, 2_147_483_647);
+
+/// The ends of 48 bits.
+const WIDE: (i64, i64) = (-140_737_488_355_328, 140_737_488_355_327);
 
 /// Expects slots with these distances and starts.
 fn expect_slots(rt: &impl Abort, slots: &[Slot], expected: &[Option<(u128, u64)>]) {
@@ -76,18 +83,34 @@ fn merge_with_unit<P: Part>(alloc: Global, part: &mut P) -> Result<(), Memory>
 }
 
 #[test]
+fn each_band_of_near_windows_is_a_piece(rt: HostRuntime) -> Result<(), Fail> {
+    let long = ties(rt.alloc(), 1_000, 3)?;
+    assert!(rt; long.len() as u64 <= MAX_SAMPLES);
+    let tiles = OwnTiles::new(long.as_slice(), 8, 64);
+    assert_eq!(rt; tiles.near(16).pieces(), 16);
+    assert_eq!(rt; tiles.near(1).pieces(), 1);
+    let short = ties(rt.alloc(), 10, 3)?;
+    assert!(rt; short.len() as u64 <= MAX_SAMPLES);
+    let tiles = OwnTiles::new(short.as_slice(), 8, 64);
+    assert_eq!(rt; tiles.near(16).pieces(), 0);
+    Ok(())
+}
+
+#[test]
 fn sums_go_on_past_a_missing_sample(rt: HostRuntime) -> Result<(), Fail> {
-    let samples = [
-        Value(1),
-        Value(2),
-        Missing,
-        Value(1),
-        Value(2),
-        Value(3),
-        Value(1),
-        Value(2),
-        Value(3),
+    let numbers = [
+        Some(1),
+        Some(2),
+        None,
+        Some(1),
+        Some(2),
+        Some(3),
+        Some(1),
+        Some(2),
+        Some(3),
     ];
+    let samples = samples(rt.alloc(), &numbers)?;
+    assert!(rt; samples.len() as u64 <= MAX_SAMPLES);
     let mut profile = profile(rt.alloc(), samples.as_slice(), 3, 1)?;
     merge_with_unit(rt.alloc(), &mut profile)?;
     let (first, second) = (Some((0, 6)), Some((6, 6)));
@@ -282,7 +305,7 @@ fn expect_scans(
 
 #[test]
 fn scans_give_what_every_pair_gives(rt: HostRuntime) -> Result<(), Fail> {
-    for (low, high) in [(-3, 4), (i32::MIN, i32::MAX)] {
+    for (low, high) in [(-3, 4), NARROW, WIDE] {
         let samples = spread(rt.alloc(), 330, low, high)?;
         let every = mp_plain::profile(rt.alloc(), samples.as_slice(), 20)?;
         for tile in [1, 65, 65_536] {
@@ -337,17 +360,19 @@ fn long_joins_give_what_every_pair_gives(rt: HostRuntime) -> Result<(), Fail> {
 
 /// Window lengths, and the least and the greatest of the numbers. At window 8 numbers that lie 23,170 apart have sums
 /// below 2^32, and those that lie further apart may not.
-static RANGES: [(u32, i32, i32); 6] = [
+static RANGES: [(u32, i64, i64); 8] = [
     (3, 0, 1),
     (8, 0, 23_170),
-    (8, i32::MIN, i32::MIN + 23_171),
+    (8, NARROW.0, NARROW.0 + 23_171),
     (9, 0, 1_012_333_499),
-    (40, i32::MIN, i32::MIN + 1_073_741_823),
-    (40, i32::MIN, i32::MAX),
+    (40, NARROW.0, NARROW.0 + 1_073_741_823),
+    (40, NARROW.0, NARROW.1),
+    (8, WIDE.0, WIDE.0 + 1_000),
+    (40, WIDE.0, WIDE.1),
 ];
 
 /// Expects the profile and a join at samples in such a range to be what every pair gives.
-fn expect_within<R: Abort + AllocGlobal>(rt: &R, m: u32, low: i32, high: i32) -> Result<(), Fail>
+fn expect_within<R: Abort + AllocGlobal>(rt: &R, m: u32, low: i64, high: i64) -> Result<(), Fail>
     requires shortest { MIN_WINDOW ≤ m }
     requires longest { m ≤ MAX_WINDOW }
 {

@@ -23,7 +23,8 @@ returns-then-is_below-clause-offered c =
     let moves = c.args.moves.now in
     let last : length c.move_below-is_below.new.sums - 1 ≡ last_moved moves =
     omega (arith, c.requires.moved.places, c.move_below-is_below.auto.sums) in
-    offered_as limit_of moves.free.now (λ i. get_or c.move_below-is_below.new.sums i 0) (moved_by moves) _ _ c.args.first
+    offered_as limit_of moves.free.now (λ i. get_or c.move_below-is_below.new.sums i 0)
+    (moved_by moves) _ _ c.args.first
     c.args.end _ _ last (λ i lt. c.move_below-is_below.ensures.done i lt) c.take.ensures.offered
 
 pub returns-then-is_below-clause-best : goal.returns-then-is_below-clause-best

@@ -14,7 +14,8 @@ take-requires-clause-ready c =
 
 pub take-requires-clause-best : goal.take-requires-clause-best
 take-requires-clause-best c =
-    sym (grows_by_one_candidate.no_candidates (row_candidate c.args.moves.now.free.now (λ i. get_or c.args.sums.now i 0)))
+    sym (grows_by_one_candidate.no_candidates
+    (row_candidate c.args.moves.now.free.now (λ i. get_or c.args.sums.now i 0)))
 
 pub take_groups-requires-clause-ready : goal.take_groups-requires-clause-ready
 take_groups-requires-clause-ready c =

@@ -7,6 +7,7 @@ use Rattle.mp_stream.proofs.offers.offer_each.Given as goal
 
 abbrev pub invariant-loop-i : goal.invariant-loop-i
 invariant-loop-i l = record {
-  offered : AreOffered coarse_limit l.free (λ i. get_or l.sums i 0) (length l.sums - 1) l.first l.i l.fn.entries l.entries;
+  offered : AreOffered coarse_limit l.free (λ i. get_or l.sums i 0) (length l.sums - 1) l.first l.i l.fn.entries
+      l.entries;
   best : l.best ≡ near (row_candidate l.free (λ i. get_or l.sums i 0)) l.i;
 }

@@ -7,7 +7,8 @@ returns-else-is_below-clause-offered c =
     offered_kept _ _ _ _ _ _ _ c.requires.ready (λ i low high.
     let above = c.is_below.ensures.above c.if-is_below.false i low high in
     let each = c.requires.ready.limits.each i (omega (arith, high, c.requires.ready.rights)) in
-    coarse_kept _ _ _ (c.requires.small i (omega (arith, high))) (omega (arith, above.0, each, ap (λ list. get_or list i 0) c.as_slice-limits.ensures)))
+    coarse_kept _ _ _ (c.requires.small i (omega (arith, high)))
+    (omega (arith, above.0, each, ap (λ list. get_or list i 0) c.as_slice-limits.ensures)))
 
 pub returns-else-is_below-clause-best : goal.returns-else-is_below-clause-best
 returns-else-is_below-clause-best c =

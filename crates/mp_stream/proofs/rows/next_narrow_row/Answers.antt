@@ -3,7 +3,7 @@ use Rattle.mp_stream.specs.Limits.{limit_of}
 use Rattle.mp_stream.specs.Offers.{IsReady}
 use Rattle.mp_stream.specs.Rows.{last_distance, last_place, sum_at}
 use Rattle.mp_series.specs.Samples.{numbers_in}
-use Rattle.mp_stream.proofs.Moving.{are_parts, can_move_narrow, distance_small, row_is}
+use Rattle.mp_stream.proofs.Moving.{are_close, are_parts, can_move_narrow, distance_small, row_is}
 use Rattle.mp_stream.proofs.Steps.{given_back}
 use Rattle.mp_stream.proofs.Taken.{best_as, offered_as}
 use Rattle.mp_stream.proofs.rows.next_narrow_row.Goals as goal
@@ -12,7 +12,8 @@ pub overflow_cast-first : goal.overflow_cast-first
 overflow_cast-first c =
     let last : length c.as_slice.result.now - 1 ≡ last_place c.args.m c.args.samples.now.items =
     omega (arith, ap length c.as_slice.ensures, c.requires.before.places.sums_are) in
-    let small = distance_small c.args.m c.args.samples.now.items 0 c.requires.close c.requires.before.least
+    let small = distance_small c.args.m c.args.samples.now.items 0 c.requires.close
+    (omega (arith, c.requires.before.least))
     c.requires.before.long (omega arith) in
     omega (
       arith,
@@ -28,8 +29,9 @@ invariant_of-moves c =
     c.parts.ensures.second c.parts.ensures.first c.sum_of-first.ensures.sum in
     record {
       can = can_move_narrow _ _ _ _ _ _ parts c.requires.close;
+      close = are_close _ _ _ _ _ _ c.requires.before.least parts c.requires.close;
       small = λ i le. subst (λ n. n < 2 ^ 63) (sym (row_is _ _ _ _ _ _ parts i le))
-          (distance_small c.args.m c.args.samples.now.items i c.requires.close c.requires.before.least
+          (distance_small c.args.m c.args.samples.now.items i c.requires.close (omega (arith, c.requires.before.least))
           c.requires.before.long (omega (arith, le, parts.count)));
       frees = omega (arith, parts.count, c.requires.frees, c.requires.before.long);
     }
@@ -74,8 +76,10 @@ returns-clause-offered c =
     let parts = are_parts _ _ _ _ _ _ _ _ _ _ _ c.requires.before (ap (λ list. length list - 1) c.as_slice.ensures)
     (ap (take (length c.as_slice.result.now - 1)) c.as_slice-2.ensures) c.sum_of-first.ensures.read.items c.from.ensures
     c.parts.ensures.second c.parts.ensures.first c.sum_of-first.ensures.sum in
-    offered_as limit_of c.args.free.now _ (last_distance c.args.m c.args.samples.now.items) _ _ 0 c.args.end _ _ parts.count
-    (λ i lt. row_is _ _ _ _ _ _ parts i (omega (arith, lt, parts.count, c.requires.within))) c.take_row-best.ensures.offered
+    offered_as limit_of c.args.free.now _ (last_distance c.args.m c.args.samples.now.items) _ _ 0 c.args.end _ _
+    parts.count
+    (λ i lt. row_is _ _ _ _ _ _ parts i (omega (arith, lt, parts.count, c.requires.within)))
+    c.take_row-best.ensures.offered
 
 pub returns-clause-best : goal.returns-clause-best
 returns-clause-best c =

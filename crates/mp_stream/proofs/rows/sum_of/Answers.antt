@@ -17,5 +17,5 @@ returns-clause-sum c =
     let long : length c.parts.result.0.now ≡ m =
     ap length first ∙ length-take-le m (drop c.args.i xs) (omega
     (arith, length-drop c.args.i xs, many, c.requires.first)) in
-    c.window_sum.ensures ∙ ap (λ n. list_sum n c.parts.result.0.now 0 c.parts.result.1.now 0) long
+    c.window_sum.ensures.sum ∙ ap (λ n. list_sum n c.parts.result.0.now 0 c.parts.result.1.now 0) long
     ∙ between_parts xs _ _ c.args.i c.args.j m m (omega arith) first second

@@ -27,7 +27,8 @@ scanned c =
 pub returns-clause-value : goal.returns-clause-value
 returns-clause-value c =
     let plan = c.args.plan.now in
-    sides_taken c.args.into.now c.scan_tile.new.into (profile_among (has_pair 0 c.args.tile.now) plan.grid.m (row_series plan))
+    sides_taken c.args.into.now c.scan_tile.new.into
+    (profile_among (has_pair 0 c.args.tile.now) plan.grid.m (row_series plan))
     (scanned c).left (scanned c).right
 
 places : (c : goal.After-scan_tile)
@@ -42,7 +43,8 @@ stay : (c : goal.After-scan_tile)
     → HaveSides (windows_of c.args.plan.now.grid.m (row_series c.args.plan.now)) c.scan_tile.new.into
 stay c =
     let plan = c.args.plan.now in
-    sides_stay (has_pair 0 c.args.tile.now) plan.grid.m (row_series plan) c.args.into.now c.scan_tile.new.into (places c)
+    sides_stay (has_pair 0 c.args.tile.now) plan.grid.m (row_series plan) c.args.into.now c.scan_tile.new.into
+    (places c)
     (scanned c)
 
 pub returns-clause-size : goal.returns-clause-size

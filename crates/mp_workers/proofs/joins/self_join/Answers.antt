@@ -15,4 +15,5 @@ returns-clause-all g c =
     ∙ all_of_both sides.left sides.right c.args.m (series_of c.args.samples.now)
     (c.in_ok-both_sides.ensures.value
     ∙ ap (λ (m : ℕ). sides_value (matrix_profile m (series_of own.samples))) c.new-tiles.ensures.m
-    ∙ ap (λ (samples : List Sample). sides_value (matrix_profile c.args.m (series_of samples))) c.new-tiles.ensures.samples)
+    ∙ ap (λ (samples : List Sample). sides_value (matrix_profile c.args.m (series_of samples)))
+    c.new-tiles.ensures.samples)

@@ -4,7 +4,8 @@ use Rattle.std.proofs.lemmas.List.Elements.{All-weaker}
 use Rattle.mp_partial.specs.Values.{merged_below}
 use Rattle.mp_workers.specs.Desks.{times}
 use Rattle.mp_workers.specs.Teams.{AreReady, HaveRun, IsDone, WorkerState, found_first, with_pieces}
-use Rattle.mp_workers.proofs.Teaming.{all_found, all_is_value, first_found, first_is_done, part_ready, weights_are_count, written_back}
+use Rattle.mp_workers.proofs.Teaming.{all_found, all_is_value, first_found, first_is_done, part_ready}
+use Rattle.mp_workers.proofs.Teaming.{weights_are_count, written_back}
 use Rattle.mp_workers.proofs.teams.run_from.Goals as goal
 
 pub close-next-requires-clause-weight : goal.close-next-requires-clause-weight
@@ -108,5 +109,6 @@ returns-clause-sizes g c =
     (omega (arith, count, hired.ensures.count, hired.team.ok)) in
     c.in_ok-found.ensures.sizes size
     (subst (All (λ (worker : WorkerState). worker.size ≡ size)) (sym back)
-    (All-weaker (IsDone c.in_ok-desk.desk size) (λ worker. worker.size ≡ size) (λ worker done. done.of_team.size_is) team
+    (All-weaker (IsDone c.in_ok-desk.desk size) (λ worker. worker.size ≡ size)
+    (λ worker done. done.of_team.size_is) team
     c.run_team.ensures.0))

@@ -61,6 +61,7 @@ returns-clause-value g c =
     (first.pieces_of c.args.first.now)) (merged_below part.merged (part.unit_of n) (second.value_of c.args.second.now)
     c.pieces-pieces.result)) (sym same)
     ∙ ap (λ n. part.merged (merged_below part.merged (part.unit_of size) (first.value_of c.args.first.now)
-    (first.pieces_of c.args.first.now)) (merged_below part.merged (part.unit_of size) (second.value_of c.args.second.now)
+    (first.pieces_of c.args.first.now)) (merged_below part.merged (part.unit_of size)
+    (second.value_of c.args.second.now)
     n)) c.pieces-pieces.ensures)
     c.run_from-2.ensures.value

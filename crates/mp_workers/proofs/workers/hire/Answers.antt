@@ -24,7 +24,8 @@ loop-found-preserved g c =
       hired = omega (arith, before.hired, more, fewer);
       alike = λ size start all.
           let had = before.alike size start all in
-          let popped = All-pop (λ p. (part.size_of p ≡ size) × (part.value p ≡ start)) old new (Some found) left had.0 in (
+          let popped = All-pop (λ p. (part.size_of p ≡ size) × (part.value p ≡ start)) old new
+          (Some found) left had.0 in (
             popped.0,
             subst (All (IsReady desk size start)) (sym c.in_ok-push.ensures.items)
                 (All-push (IsReady desk size start) team _ had.1 (record {

@@ -22,7 +22,8 @@ loop-text-preserved c =
     record {
       counted = search rules;
       gathered =
-          front_more ref (refs all) (take count room) text left c.unwrap.result (sym c.read_ref.ensures ∙ c.unwrap.ensures)
+          front_more ref (refs all) (take count room) text left c.unwrap.result
+          (sym c.read_ref.ensures ∙ c.unwrap.ensures)
           (c.loop-text.invariant.gathered ∙ ap (λ fields. in_front (take count room) (refs fields)) steps)
           ∙ ap (λ (first : List Ref). in_front first (refs left))
           (sym (take_more_set room count c.unwrap.result below));

@@ -24,9 +24,9 @@ invariant_of-self-4 c =
     ≡ missing_before items (length items) + gap_in c.args.sample =
     rw (c.missing_before.ensures.count, c.gap.ensures, c.len-2.ensures.length) refl in
     let samples : c.push.new.self.items ≡ items ++ c.args.sample ∷ [] = grind (arith, common_steps) in
-    let numbers : c.push-2.new.self.items ≡ c.self.inside.numbers.items ++ c.number.result ∷ [] =
+    let numbers : c.push-2.new.self.items ≡ c.self.inside.numbers.items ++ c.number-number.result ∷ [] =
     grind (arith, common_steps) in
     let counts : c.push-3.new.self.items
     ≡ c.self.inside.missing.items ++ (c.missing_before.result + c.gap.result) ∷ [] = grind (arith, common_steps) in
-    stored_more _ _ _ _ _ _ c.args.sample c.number.result (c.missing_before.result + c.gap.result)
-    c.self.invariant room c.number.ensures last samples numbers counts
+    stored_more _ _ _ _ _ _ c.args.sample c.number-number.result (c.missing_before.result + c.gap.result)
+    c.self.invariant room c.number-number.ensures last samples numbers counts

@@ -7,7 +7,7 @@ use Rattle.mp_stream.proofs.Taken.{best_before}
 use Rattle.mp_stream.proofs.profiles.GrowingProfile.append_narrow.Goals as goal
 
 pub count_offered-end-requires : goal.count_offered-end-requires
-count_offered-end-requires c = (c.requires.waiting.narrow c.requires.narrow).least
+count_offered-end-requires c = omega (arith, (c.requires.waiting.narrow c.requires.narrow).least)
 
 pub next_narrow_row-best-requires : goal.next_narrow_row-best-requires
 next_narrow_row-best-requires c =

@@ -7,12 +7,12 @@ use Rattle.mp_stream.proofs.Taken.{best_as, best_before, offered_as}
 use Rattle.mp_stream.proofs.profiles.GrowingProfile.append_wide.Goals as goal
 
 pub count_offered-end-requires : goal.count_offered-end-requires
-count_offered-end-requires c = (c.requires.waiting.wide c.requires.wide).least
+count_offered-end-requires c = omega (arith, (c.requires.waiting.wide c.requires.wide).least)
 
 pub offer_row-best-requires : goal.offer_row-best-requires
 offer_row-best-requires c =
     let waiting = c.requires.waiting in
-    let places = c.next_wide_row.ensures.places in
+    let places = c.next_wide_row-is_coarse.ensures.places in
     let sums = ap length c.as_slice-sums.ensures in
     let last : last_place c.args.m c.args.samples.now.items ≡ length c.as_slice-sums.result.now - 1 =
     omega (arith, sums, places.sums_are) in
@@ -27,8 +27,8 @@ offer_row-best-requires c =
         places.sums_are,
         (waiting.wide c.requires.wide).long,
       );
-      small = λ i lt. subst (λ list. get_or list i 0 < 2 ^ 79) (sym c.as_slice-sums.ensures)
-          (c.next_wide_row.ensures.small i (omega (arith, lt, sums)));
+      small = λ is i lt. subst (λ list. get_or list i 0 < 2 ^ 79) (sym c.as_slice-sums.ensures)
+          (c.next_wide_row-is_coarse.ensures.small is i (omega (arith, lt, sums)));
       ready = subst (λ j. IsReady coarse_limit j c.args.self.now.entries) last
           (subst (λ t. IsReady (limit_by t) (last_place c.args.m c.args.samples.now.items) c.args.self.now.entries)
           c.requires.wide waiting.ready);
@@ -44,7 +44,7 @@ offer_best-requires c =
         c.requires.waiting.ready.rights,
         offer.offered.ready.all,
         ap length c.as_slice-sums.ensures,
-        c.next_wide_row.ensures.places.sums_are,
+        c.next_wide_row-is_coarse.ensures.places.sums_are,
       );
       before = best_before _ _ _ _ _ c.count_offered-end.ensures.within offer.best;
     }
@@ -54,10 +54,12 @@ returns-clause-offered c =
     let waiting = c.requires.waiting in
     let items = c.args.samples.now.items in
     let offer = c.offer_row-best.ensures in
-    let row = c.next_wide_row.ensures in
-    let last : c.len.result - 1 ≡ last_place c.args.m items = omega (arith, c.len.ensures.right, waiting.ready.rights) in
+    let row = c.next_wide_row-is_coarse.ensures in
+    let last : c.len.result - 1 ≡ last_place c.args.m items =
+    omega (arith, c.len.ensures.right, waiting.ready.rights) in
     let sums = ap length c.as_slice-sums.ensures in
-    let at : length c.as_slice-sums.result.now - 1 ≡ last_place c.args.m items = omega (arith, sums, row.places.sums_are) in
+    let at : length c.as_slice-sums.result.now - 1 ≡ last_place c.args.m items =
+    omega (arith, sums, row.places.sums_are) in
     let same : (i : ℕ) → i < c.count_offered-end.result
     → get_or c.as_slice-sums.result.now i 0 ≡ last_distance c.args.m items i =
     λ i lt. ap (λ list. get_or list i 0) c.as_slice-sums.ensures ∙ row.row i (omega (

@@ -21,11 +21,12 @@ returns-clause-is_of c =
     c.windows-count.ensures ∙ ap (λ (n : ℕ). windows n m) (c.len.ensures.length ∙ ap length same) in
     let profile = c.in_ok-profile.ensures in
     let rows = c.in_ok-narrow.ensures in
-    kept_first m now _ (omega arith) (profile.left ∙ c.requires.profile.left_is) (profile.right ∙ c.requires.profile.right_is)
+    kept_first m now _ (omega arith) (profile.left ∙ c.requires.profile.left_is)
+    (profile.right ∙ c.requires.profile.right_is)
     (c.in_ok-free.ensures.places ∙ count)
     (λ i lt. c.in_ok-free.ensures.free i (subst (λ (n : ℕ). i < n) (sym count) lt)
     ∙ ap (λ (xs : List Sample). is_free m (series_of xs) i) same)
-    c.whole_range-range.ensures.range c.sums_fit-is_narrow.ensures.0 c.sums_fit-is_narrow.ensures.1
+    c.whole_range-range.ensures.range c.sums_fit-is_narrow.ensures.fit.0 c.sums_fit-is_narrow.ensures.fit.1
     c.whole_range-range.ensures.none
     (record {
       narrow = subst (λ (n : ℕ). HavePlaces n narrow.sums.items narrow.next.items) count rows.narrow;
@@ -34,7 +35,8 @@ returns-clause-is_of c =
     (subst (λ (xs : List Sample). IsRow (numbers_in xs) m (windows (length now) m - 1) wide.sums.items) same
     (subst (λ (n : ℕ). IsRow (numbers_in ranged) m (n - 1) wide.sums.items) count rows.row))
     rows.narrow_row
-    (subst (λ (right : List (Option Near)). AreLimits (limit_by c.sums_fit-is_narrow.result) right c.in_ok-limits.limits.items)
+    (subst (λ (right : List (Option Near)). AreLimits (limit_by c.sums_fit-is_narrow.result) right
+    c.in_ok-limits.limits.items)
     (c.right.ensures ∙ sym profile.right) c.in_ok-limits.ensures)
 
 within : (n m old ranged last : ℕ) → ranged ≤ old + 2 * n → last ≤ ranged + n * (2 * m) → last ≤ old + n * (2 * (m + 1))
@@ -50,3 +52,12 @@ pub returns-clause-reads : goal.returns-clause-reads
 returns-clause-reads c =
     reads_within _ _ c.args.m _ _ _ c.whole_range-range.ensures.items c.whole_range-range.ensures.reads
     c.both_rows.ensures.reads
+
+pub returns-in_err-narrow-clause-reads : goal.returns-in_err-narrow-clause-reads
+returns-in_err-narrow-clause-reads c =
+    omega (
+      arith,
+      c.both_rows.ensures.reads,
+      ap (λ items. length items * (2 * c.args.m)) c.whole_range-range.ensures.items,
+      c.whole_range-range.ensures.reads,
+    )

@@ -20,3 +20,13 @@ returns-clause-distance c = λ d e.
     let all : c.loop-k.k ≡ grid.m = omega (arith, c.loop-k-test.false, c.loop-k.auto.k-end) in
     c.loop-k.invariant.sum_is ∙ ap (λ n. first_sum_in grid n c.args.row c.args.column) all
     ∙ sym (distances_are_sums _ _ _ _ _ d e)
+
+pub returns-clause-small : goal.returns-clause-small
+returns-clause-small c =
+    omega (
+      arith,
+      is_small _ _ _ _ _ _ c.loop-k.invariant,
+      c.args.self.now.short,
+      c.loop-k-test.false,
+      c.loop-k.auto.k-end,
+    )

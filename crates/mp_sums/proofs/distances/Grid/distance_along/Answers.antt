@@ -1,5 +1,5 @@
 use Rattle.std.proofs.Common.{◌+◌, ◌∙◌, sym, arith}
-use Rattle.mp_sums.specs.SumLaws.{is_sum_at, distances_are_sums}
+use Rattle.mp_sums.specs.SumLaws.{is_sum_at, is_small, distances_are_sums}
 use Rattle.mp_sums.proofs.distances.Grid.distance_along.Goals as goal
 
 pub loop-k-init : goal.loop-k-init
@@ -14,3 +14,6 @@ returns-clause-distance c = λ d e.
     (omega (arith, c.loop-k-test.false, c.loop-k.auto.k-end)) (omega (arith, c.loop-k-test.false, c.loop-k.auto.k-end))
     c.loop-k.invariant).sum_is
     ∙ sym (distances_are_sums _ _ _ _ _ d e)
+
+pub returns-clause-small : goal.returns-clause-small
+returns-clause-small c = omega (arith, is_small _ _ _ _ _ _ c.loop-k.invariant, c.args.self.now.short)

@@ -1,5 +1,5 @@
-use Rattle.std.proofs.Common.{◌≡◌, ◌+◌, ◌^◌, ◌<◌, ◌∙◌, ap, arith, rules, sym, w32, FitsSigned}
-use Rattle.std.proofs.lemmas.Int.{ints, to_z-of_z}
+use Rattle.std.proofs.Common.{◌≡◌, ◌+◌, ◌^◌, ◌<◌, ◌∙◌, ap, arith, sym}
+use Rattle.std.proofs.lemmas.Int.{ints}
 use Rattle.mp_defs.specs.Series.{reading_of, series_of}
 use Rattle.mp_defs.specs.SeriesLaws.{series_are_of_samples}
 use Rattle.mp_sums.specs.Sums.{filled, numbers_of, square_sum}
@@ -16,7 +16,7 @@ returns-clause-fit c = λ is.
     let y = numbers_of (series_of grid.columns.now) in
     let all = c.with_samples-range.result in
     let wider = c.with_samples-range.ensures.wider in
-    let fits : SumsFit grid.m c.args.bits all = c.sums_fit.ensures.0 is in
+    let fits : SumsFit grid.m c.args.bits all = c.sums_fit.ensures.fit.0 is in
     record {
       each = λ row column d row_within column_within there.
           let sum : square_sum grid.m x row y column < 2 ^ c.args.bits =
@@ -36,14 +36,12 @@ pub returns-clause-range : goal.returns-clause-range
 returns-clause-range c = λ range some rows columns fits.
     let grid = c.args.self.now in
     let all = c.with_samples-range.result in
-    let passed : FitsSigned w32 c.number_of-first.result = search rules in
     let first : c.number_of-first.result ≡ numbers_of (series_of grid.rows.now) 0 =
     c.number_of-first.ensures ∙ ap (λ s. filled (reading_of s)) c.sample_at.ensures
     ∙ ap filled (sym (series_are_of_samples.numbers grid.rows.now 0)) in
-    let handed = to_z-of_z w32 c.number_of-first.result passed in
     let start : Reaches range c.at.result = (
-      omega (arith, ints, c.at.ensures.least, handed, first, (rows 0 some).0),
-      omega (arith, ints, c.at.ensures.greatest, handed, first, (rows 0 some).1),
+      omega (arith, ints, c.at.ensures.least, first, (rows 0 some).0),
+      omega (arith, ints, c.at.ensures.greatest, first, (rows 0 some).1),
     ) in
     let there = c.with_samples.ensures.samples 0 some in
     let wider = c.with_samples-range.ensures.wider in
@@ -51,5 +49,5 @@ returns-clause-range c = λ range some rows columns fits.
       omega (arith, ints, there.0, wider.0),
       omega (arith, ints, there.1, wider.1),
     ) in
-    c.sums_fit.ensures.1 (narrower_fits grid.m c.args.bits range all (numbers_of (series_of grid.rows.now) 0)
+    c.sums_fit.ensures.fit.1 (narrower_fits grid.m c.args.bits range all (numbers_of (series_of grid.rows.now) 0)
     (c.with_samples-range.ensures.least range (c.with_samples.ensures.least range start rows) columns) inside fits)

@@ -20,3 +20,12 @@ returns-clause-distance c = λ d e.
     (is_sum_moved_on _ _ _ _ _ _ _ _ c.requires.sum c.square-enters.ensures.square c.square-enters.ensures.small
     c.square-leaves.ensures.square).sum_is
     ∙ sym (distances_are_sums _ _ _ _ _ d e)
+
+pub returns-clause-small : goal.returns-clause-small
+returns-clause-small c =
+    omega (
+      arith,
+      is_small _ _ _ _ _ _ (is_sum_moved_on _ _ _ _ _ _ _ _ c.requires.sum c.square-enters.ensures.square
+          c.square-enters.ensures.small c.square-leaves.ensures.square),
+      c.args.self.now.short,
+    )

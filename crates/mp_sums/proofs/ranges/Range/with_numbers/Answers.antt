@@ -1,5 +1,6 @@
-use Rattle.std.proofs.Common.{arith, below_more, get_or, pos, FitsSigned, w32, rules, subst, sym}
-use Rattle.std.proofs.lemmas.Int.{ints, to_z-of_z}
+use Rattle.std.proofs.Common.{◌≡◌, ◌∙◌, arith, below_more, get_or, pos, subst, sym}
+use Rattle.std.proofs.lemmas.Int.{ints}
+use Rattle.std.proofs.lemmas.List.{get_or_default}
 use Rattle.mp_sums.specs.Ranges.{IsInRange}
 use Rattle.mp_sums.proofs.ranges.Range.with_numbers.Goals as goal
 
@@ -7,14 +8,13 @@ pub loop-number-preserved : goal.loop-number-preserved
 loop-number-preserved c =
     let around = c.around-range.ensures in
     let at = c.loop-number.number-index in
-    let number = get_or c.args.numbers.now at (pos 0) in
-    let fits : FitsSigned w32 number = search rules in
-    let same = to_z-of_z w32 number fits in
+    let same : c.number-item.result ≡ get_or c.args.numbers.now at (pos 0) =
+    c.number-item.is ∙ get_or_default c.args.numbers.now at c.number-item.result (pos 0) (omega arith) in
     let before = c.loop-number.invariant in
     record {
       numbers = below_more _ _
           (λ k h. let within = before.numbers k h in (omega (arith, ints), omega (arith, ints)))
-          (omega (arith, ints, around.number.0, same), omega (arith, ints, around.number.1, same));
+          (subst (IsInRange c.around-range.result) same around.number);
       wider = (omega (arith, ints), omega (arith, ints));
       least = λ range reaches within.
           around.least range (before.least range reaches within)

@@ -1,8 +1,7 @@
-use Rattle.std.proofs.Common.{◌+◌, ◌∙◌, arith, rules, refl, sym, w32, FitsSigned}
-use Rattle.std.specs.Prelude.{slice_index_or}
+use Rattle.std.proofs.Common.{◌+◌, ◌∙◌, arith, rules, sym, w32, FitsSigned}
 use Rattle.std.specs.Int.{int_wrap}
 use Rattle.std.proofs.lemmas.Int.{to_z-of_z}
-use Rattle.std.proofs.lemmas.List.{length-set, get_or_past}
+use Rattle.std.proofs.lemmas.List.{length-set, get_or_default, get_or_past}
 use Rattle.mp_nums.specs.declared.samples.Sample.TheVariants.{Missing}
 use Rattle.mp_defs.specs.Series.{series_of}
 use Rattle.mp_sums.specs.Sums.{numbers_of}
@@ -21,8 +20,9 @@ loop-k-preserved c =
       done = set_next c.loop-k.numbers c.loop-k.k _ (λ q. int_wrap w32 (x (c.args.start + q))) (omega arith)
           c.loop-k.invariant.done
           (to_z-of_z w32 c.round.result fits
-          ∙ rounded_is samples place c.args.self.now.shift (slice_index_or samples place Missing) c.round.result refl
-          c.round.ensures fits);
+          ∙ rounded_is samples place c.args.self.now.shift c.index-samples-start.result c.round.result
+          (c.index-samples-start.is ∙ get_or_default samples place c.index-samples-start.result Missing (omega arith))
+          c.round.ensures);
     }
 
 pub loop-k-2-preserved : goal.loop-k-2-preserved
@@ -37,7 +37,7 @@ loop-k-2-preserved c =
           c.loop-k-2.invariant.done
           (to_z-of_z w32 c.round-in-loop-k-2.result fits
           ∙ rounded_is samples place c.args.self.now.shift Missing c.round-in-loop-k-2.result
-          (sym (get_or_past samples place Missing (omega arith))) c.round-in-loop-k-2.ensures fits);
+          (sym (get_or_past samples place Missing (omega arith))) c.round-in-loop-k-2.ensures);
     }
 
 pub returns-clause-numbers : goal.returns-clause-numbers

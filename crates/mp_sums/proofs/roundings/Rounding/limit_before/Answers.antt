@@ -20,4 +20,5 @@ returns-then-within-lt-ALWAYS c =
 pub returns-else-self-eq0 : goal.returns-else-self-eq0
 returns-else-self-eq0 c =
     let fits : FitsSigned w32 c.args.within = search rules in
-    is_limit_before c.args.self.now.m c.args.self.now.shift c.args.dist _ (to_z-of_z w32 c.args.within fits ∙ c.requires)
+    is_limit_before c.args.self.now.m c.args.self.now.shift c.args.dist _
+    (to_z-of_z w32 c.args.within fits ∙ c.requires)

@@ -24,5 +24,6 @@ overflow_add-result-4 c = record { fits = all c }
 pub returns : goal.returns
 returns c =
     let small : c.args.self.now.m < 2 ^ 32 = search rules in
-    widened_is c.args.units c.args.self.now.m c.from-m.result c.weight-weight.result c.from-m.ensures c.weight-weight.ensures.weight
+    widened_is c.args.units c.args.self.now.m c.from-m.result c.weight-weight.result c.from-m.ensures
+    c.weight-weight.ensures.weight
     c.weight-weight.ensures.small small

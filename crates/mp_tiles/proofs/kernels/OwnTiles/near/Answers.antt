@@ -27,7 +27,8 @@ returns-clause-within c =
     let bands = c.of.result in
     let near : OwnTiling = record { samples = plan.grid.rows.now; m = plan.grid.m; tiles = bands_of bands } in
     subst (λ (own : OwnTiling). merged_columns (own_together near)
-    (sides_value (matrix_profile own.m (series_of own.samples))) ≡ sides_value (matrix_profile own.m (series_of own.samples)))
+    (sides_value (matrix_profile own.m (series_of own.samples)))
+    ≡ sides_value (matrix_profile own.m (series_of own.samples)))
     c.self.view_is
     (near_within plan.grid.rows.now plan.grid.m c.excl.result c.size-windows.result bands
     (c.excl.ensures ∙ ap excl plan.same_length) c.of.ensures)

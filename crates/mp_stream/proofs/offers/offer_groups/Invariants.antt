@@ -3,7 +3,7 @@ use Rattle.mp_defs.specs.Least.{near}
 use Rattle.mp_stream.specs.Limits.{coarse_limit}
 use Rattle.mp_stream.specs.Offers.{AreOffered}
 use Rattle.mp_stream.specs.Rows.{row_candidate}
-use Rattle.mp_stream.proofs.offers.offer_row.Given as goal
+use Rattle.mp_stream.proofs.offers.offer_groups.Given as goal
 
 abbrev pub invariant-loop-g : goal.invariant-loop-g
 invariant-loop-g l =
