@@ -5,7 +5,6 @@ use Rattle.std.specs.Prelude.{unsigned_abs}
 use Rattle.std.proofs.lemmas.Bool.{cases_lt}
 use Rattle.std.proofs.lemmas.Int.{ints, to_z-of_z}
 use Rattle.mp_defs.specs.Distance.{squared_difference}
-use Rattle.mp_sums.specs.Products.{square_is}
 
 small_root : (n : ℕ) → n * n < 2 ^ 62 → n < 2 ^ 31
 small_root n lt = elim (cases_lt n (2 ^ 31)) [
@@ -40,11 +39,5 @@ difference_halved x y r z e h lt =
     h ∙ ap (λ d. to_z w32 (of_z w32 d)) e ∙ to_z-of_z w32 (x -ℤ y) (difference_fits x y lt)
 
 -- its square
-pub square_handed : (x y r : ℤ) → FitsSigned w64 r → r ≡ x -ℤ y
-    → to_z w64 (of_z w64 r) *ℤ to_z w64 (of_z w64 r) ≡ pos (squared_difference x y)
-square_handed x y r f e =
-    let same = to_z-of_z w64 r f ∙ e in
-    ap (λ z. z *ℤ to_z w64 (of_z w64 r)) same ∙ ap (λ z. (x -ℤ y) *ℤ z) same ∙ sym (square_is (x -ℤ y))
-
 pub square_fits : (n : ℕ) → n < 2 ^ 62 → FitsSigned w64 (pos n)
 square_fits n lt = omega (arith, ints, lt)

@@ -4,4 +4,6 @@ pub mod FillLemmas
 pub mod StopLemmas
 pub mod RangeLemmas
 pub mod RowLemmas
+pub mod SquareLemmas
 pub mod CloseLemmas
+pub mod FreeLemmas

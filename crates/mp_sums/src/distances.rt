@@ -3,7 +3,7 @@
 ghost use Rattle.std.specs.Prelude.{◌≤◌};
 ghost use Rattle.mp_series.specs.declared.limits.TheConstants.{MAX_WINDOW};
 
-use crate::numbers::{number_of, sample_at, square};
+use crate::numbers::{number_in, number_of, sample_at, square};
 use crate::ranges::Range;
 use mp_nums::Sample;
 
@@ -19,7 +19,8 @@ pub struct Grid<'a> {
 }
 
 impl<'a> Grid<'a> {
-    ghost use Rattle.std.specs.Prelude.{◌≡◌, ℕ, ◌+◌, ◌^◌, ◌<◌, ◌↔◌, length, true, IsTrue, IfSome, IfNone, Some};
+    ghost use Rattle.std.specs.Prelude.{◌≡◌, ℕ, ◌+◌, ◌^◌, ◌<◌, ◌↔◌, length, true, IsTrue, IsSome, IfSome, IfNone, Some};
+    ghost use Rattle.mp_defs.specs.Series.{number_at, series_of};
     ghost use Rattle.mp_sums.specs.Sums.{at_most, greatest_square};
     ghost use Rattle.mp_sums.specs.Grids.{square_in, first_sum_in, IsFirstSumIn, sum_in, IsSumIn, distance_in};
     ghost use Rattle.mp_sums.specs.Grids.{DistancesFit};
@@ -35,6 +36,36 @@ impl<'a> Grid<'a> {
         ensures small { result ≤ greatest_square }
     {
         square(number_of(self.rows[row]), number_of(self.columns[column]))
+    }
+
+    /// The squared difference of a sample of the rows and one of the columns, neither of which is missing.
+    #[inline]
+    fn free_square(&self, row: usize, column: usize) -> u128
+        requires row { row < length self.now.rows.now }
+        requires column { column < length self.now.columns.now }
+        requires free_row { IsSome (number_at (series_of self.now.rows.now) row) }
+        requires free_column { IsSome (number_at (series_of self.now.columns.now) column) }
+        ensures square { result ≡ square_in self.now row column }
+        ensures small { result ≤ greatest_square }
+    {
+        square(number_in(self.rows[row]), number_in(self.columns[column]))
+    }
+
+    /// The squared distance of a row and a column that lack no sample. It takes half the time of `distance`, which
+    /// tests each sample.
+    pub fn free_distance(&self, row: usize, column: usize) -> u128
+        requires row { row + self.now.m ≤ length self.now.rows.now }
+        requires column { column + self.now.m ≤ length self.now.columns.now }
+        requires free { IsSome (distance_in self.now row column) }
+        ensures sum { IsSumIn self.now row column result }
+        ensures small { result < 2 ^ 110 }
+        ensures distance { (d : ℕ) → distance_in self.now row column ≡ Some d → result ≡ d }
+    {
+        let mut sum: u128 = 0;
+        for k in 0..self.m {
+            sum += self.free_square(row + k, column + k);
+        }
+        sum
     }
 
     /// The squared distance of a row and a column. A missing sample counts as 0.

@@ -1,6 +1,6 @@
 //! Samples in plain numbers, and their squared differences.
 
-ghost use Rattle.std.specs.Prelude.{◌≡◌, ◌^◌, ◌<◌, ◌≤◌, slice_index_or};
+ghost use Rattle.std.specs.Prelude.{◌≡◌, ◌^◌, ◌<◌, ◌≤◌, slice_index_or, IsSome};
 ghost use Rattle.mp_nums.specs.declared.samples.Sample.TheVariants.{Missing};
 ghost use Rattle.mp_defs.specs.Series.{reading_of};
 ghost use Rattle.mp_defs.specs.Distance.{squared_difference};
@@ -22,14 +22,27 @@ pub fn number_of(sample: Sample) -> Whole
     }
 }
 
-/// The squared difference of two numbers.
+/// The number of a sample that isn't missing.
+#[inline]
+pub(crate) fn number_in(sample: Sample) -> Whole
+    requires { IsSome (reading_of sample) }
+    ensures { result ≡ filled (reading_of sample) }
+{
+    match sample {
+        Sample::Value(number) => number,
+        Sample::Missing => unreachable!(),
+    }
+}
+
+/// The squared difference of two numbers. It is a product of numbers with sign, which takes one instruction, and no test
+/// of which number is the greater.
 #[inline]
 pub fn square(x: Whole, y: Whole) -> u128
     ensures square { result ≡ squared_difference x y }
     ensures small { result ≤ greatest_square }
 {
-    let difference = u128::from(x.get().abs_diff(y.get()));
-    difference * difference
+    let difference = i128::from(x.get() - y.get());
+    (difference * difference) as u128
 }
 
 /// The squared difference of two numbers, where it has no more than 64 bits.

@@ -3,8 +3,8 @@ use Rattle.std.specs.Prelude.{unsigned_abs}
 use Rattle.std.specs.Int.{IsNonNegative}
 use Rattle.std.proofs.lemmas.Int.{to_z-of_z}
 use Rattle.mp_defs.specs.Distance.{squared_difference}
-use Rattle.mp_sums.proofs.CloseLemmas.{difference_fits, difference_handed, difference_halved, square_handed}
-use Rattle.mp_sums.proofs.CloseLemmas.{square_fits}
+use Rattle.mp_sums.proofs.CloseLemmas.{difference_fits, difference_handed, difference_halved, square_fits}
+use Rattle.mp_sums.proofs.SquareLemmas.{square_handed}
 use Rattle.mp_sums.proofs.numbers.close_square.Goals as goal
 
 pub overflow_cast-get : goal.overflow_cast-get
@@ -22,14 +22,14 @@ difference c =
 
 pub overflow_mul-result : goal.overflow_mul-result
 overflow_mul-result c =
-    subst (FitsSigned w64) (sym (square_handed c.args.x c.args.y c.from-difference.result
+    subst (FitsSigned w64) (sym (square_handed w64 c.args.x c.args.y c.from-difference.result
     (record { sfits = c.from-difference.type_inv }) (difference c)))
     (square_fits (squared_difference c.args.x c.args.y) c.requires)
 
 product : (c : goal.After-from-difference) → to_z w64 (of_z w64 (to_z w64 (of_z w64 c.from-difference.result)
     *ℤ to_z w64 (of_z w64 c.from-difference.result))) ≡ pos (squared_difference c.args.x c.args.y)
 product c =
-    ap (λ z. to_z w64 (of_z w64 z)) (square_handed c.args.x c.args.y c.from-difference.result
+    ap (λ z. to_z w64 (of_z w64 z)) (square_handed w64 c.args.x c.args.y c.from-difference.result
     (record { sfits = c.from-difference.type_inv }) (difference c))
     ∙ to_z-of_z w64 (pos (squared_difference c.args.x c.args.y))
     (square_fits (squared_difference c.args.x c.args.y) c.requires)
