@@ -1,6 +1,6 @@
 //! Exact sums, brought along their diagonals.
 
-ghost use Rattle.std.specs.Prelude.{◌≡◌, ℕ, ◌+◌, ◌-◌, ◌<◌, ◌≤◌, Some, length, true};
+ghost use Rattle.std.specs.Prelude.{◌≡◌, ℕ, ◌+◌, ◌-◌, ◌<◌, ◌≤◌, Some, IsSome, length, true};
 ghost use Rattle.mp_sums.specs.Grids.{IsSumIn, distance_in};
 ghost use Rattle.mp_scans.specs.Exacts.{IsExact, AreExacts};
 ghost use Rattle.mp_scans.specs.declared.sizes.TheConstants.{GROUP};
@@ -30,11 +30,12 @@ fn is_next(exact: &Exact, row: usize) -> bool
     exact.row < row && row - exact.row == 1
 }
 
-/// The sum of a row and a column, from what is known of their diagonal.
+/// The sum of a row and a column that lack no sample, from what is known of their diagonal.
 fn sum_at(grid: &Grid, exact: &Option<Exact>, row: usize, column: usize) -> u128
     requires row { row + grid.now.m ≤ length grid.now.rows.now }
     requires column { column + grid.now.m ≤ length grid.now.columns.now }
     requires order { row ≤ column }
+    requires free { IsSome (distance_in grid.now row column) }
     requires exact { IsExact grid.now (column - row) exact.now }
     ensures sum { IsSumIn grid.now row column result }
     ensures distance { (d : ℕ) → distance_in grid.now row column ≡ Some d → result ≡ d }
@@ -47,7 +48,7 @@ fn sum_at(grid: &Grid, exact: &Option<Exact>, row: usize, column: usize) -> u128
             let steps = row - known.row;
             grid.distance_along(known.row, column - steps, known.sum, steps)
         }
-        _ => grid.distance(row, column),
+        _ => grid.free_distance(row, column),
     }
 }
 
@@ -57,6 +58,7 @@ fn bring(grid: &Grid, exact: &mut Option<Exact>, row: usize, column: usize) -> u
     requires row { row + grid.now.m ≤ length grid.now.rows.now }
     requires column { column + grid.now.m ≤ length grid.now.columns.now }
     requires order { row ≤ column }
+    requires free { IsSome (distance_in grid.now row column) }
     requires exact { IsExact grid.now (column - row) exact.old }
     ensures exact { IsExact grid.now (column - row) exact.new }
     ensures distance { (d : ℕ) → distance_in grid.now row column ≡ Some d → result ≡ d }
@@ -66,8 +68,8 @@ fn bring(grid: &Grid, exact: &mut Option<Exact>, row: usize, column: usize) -> u
     sum
 }
 
-/// The distance of a row and a column on one of successive diagonals, on the first of which a column starts `first`
-/// places behind its row.
+/// The distance of a row and a column that lack no sample, on one of successive diagonals, on the first of which a
+/// column starts `first` places behind its row.
 pub(crate) fn distance_by(
     grid: &Grid,
     first: usize,
@@ -78,6 +80,7 @@ pub(crate) fn distance_by(
     requires row { row + grid.now.m ≤ length grid.now.rows.now }
     requires column { column + grid.now.m ≤ length grid.now.columns.now }
     requires order { row + first ≤ column }
+    requires free { IsSome (distance_in grid.now row column) }
     requires diagonal { column < row + first + GROUP }
     requires exacts { AreExacts grid.now first exacts.old }
     ensures exacts { AreExacts grid.now first exacts.new }

@@ -26,10 +26,12 @@ fn are_free(block: &Block, p: usize, c: usize) -> bool
     block.free_rows[p] & block.free_columns[c]
 }
 
-/// The distance of a row and a column: that of their residue, where this tells it.
+/// The distance of a row and a column that lack no sample: that of their residue, where this tells it.
 #[inline]
 fn distance_at(strip: &Strip, pair: Pair, exacts: &mut [Option<Exact>]) -> u128
     requires pair { IsPairOf strip.now pair }
+    requires free { IsSome (distance_in strip.now.block.grid (strip.now.block.row + pair.row)
+        (strip.now.block.column + pair.column)) }
     requires exacts { AreExactsIn strip.now.block exacts.old }
     ensures exacts { AreExactsIn strip.now.block exacts.new }
     ensures distance { (d : ℕ) → distance_in strip.now.block.grid (strip.now.block.row + pair.row)
