@@ -2,6 +2,7 @@
 
 ghost use Rattle.std.specs.Prelude.{◌≡◌, ◌+◌, ◌*◌, ◌^◌, ◌<◌, ◌≤◌, length, true};
 ghost use Rattle.std.specs.Int.{div_ceil};
+ghost use Rattle.mp_series.specs.declared.limits.TheConstants.{MAX_SAMPLES};
 ghost use Rattle.mp_defs.specs.Series.{series_of};
 ghost use Rattle.mp_sums.specs.Grids.{row_numbers, column_numbers};
 ghost use Rattle.mp_sums.specs.Rounding.{rounded};
@@ -45,7 +46,7 @@ pub(crate) struct Block<'a> {
     ghost few_rows: { length rows.differences.now ≤ ROWS },
     ghost few_diagonals: { width ≤ GROUP },
     ghost few_columns: { length columns.differences.now ≤ COLUMNS },
-    ghost few_samples: { length grid.columns.now < 2 ^ 31 },
+    ghost few_samples: { length grid.columns.now ≤ MAX_SAMPLES },
     ghost order: { row ≤ column },
     ghost column_place: { column < 2 ^ 31 },
     ghost are_rows: { row + length rows.differences.now ≤ row_windows grid },

@@ -1,6 +1,6 @@
 //! Exact sums, brought along their diagonals.
 
-ghost use Rattle.std.specs.Prelude.{◌≡◌, ℕ, ◌+◌, ◌-◌, ◌<◌, ◌≤◌, Some, IsSome, length, true};
+ghost use Rattle.std.specs.Prelude.{◌≡◌, ℕ, ◌+◌, ◌-◌, ◌^◌, ◌<◌, ◌≤◌, Some, IsSome, length, true};
 ghost use Rattle.mp_sums.specs.Grids.{IsSumIn, distance_in};
 ghost use Rattle.mp_scans.specs.Exacts.{IsExact, AreExacts};
 ghost use Rattle.mp_scans.specs.declared.sizes.TheConstants.{GROUP};
@@ -61,6 +61,7 @@ fn bring(grid: &Grid, exact: &mut Option<Exact>, row: usize, column: usize) -> u
     requires free { IsSome (distance_in grid.now row column) }
     requires exact { IsExact grid.now (column - row) exact.old }
     ensures exact { IsExact grid.now (column - row) exact.new }
+    ensures small { result + 1 < 2 ^ 110 }
     ensures distance { (d : ℕ) → distance_in grid.now row column ≡ Some d → result ≡ d }
 {
     let sum = sum_at(grid, exact, row, column);
@@ -84,6 +85,7 @@ pub(crate) fn distance_by(
     requires diagonal { column < row + first + GROUP }
     requires exacts { AreExacts grid.now first exacts.old }
     ensures exacts { AreExacts grid.now first exacts.new }
+    ensures small { result + 1 < 2 ^ 110 }
     ensures distance { (d : ℕ) → distance_in grid.now row column ≡ Some d → result ≡ d }
 {
     bring(grid, &mut exacts[column - row - first], row, column)

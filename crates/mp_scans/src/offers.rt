@@ -1,6 +1,7 @@
 //! How the windows of a pair are offered, and what of them is kept.
 
-ghost use Rattle.std.specs.Prelude.{ℕ, ◌<◌, ◌≤◌, ◌≡◌, Bool, Some};
+ghost use Rattle.std.specs.Prelude.{ℕ, ◌+◌, ◌^◌, ◌<◌, ◌≤◌, ◌≡◌, Bool, Some};
+ghost use Rattle.mp_series.specs.declared.limits.TheConstants.{MAX_SAMPLES};
 ghost use Rattle.mp_defs.specs.Series.{Series};
 ghost use Rattle.mp_defs.specs.Distance.{distance};
 ghost use Rattle.mp_defs.specs.Profile.{windows_of};
@@ -29,7 +30,10 @@ pub trait Offers {
 
     /// The windows that start at `row` and at `column` have this distance.
     fn offer(into: &mut Self::Into, row: u64, column: u64, dist: Sq)
-        requires { may_offer into.old row column }
+        requires may { may_offer into.old row column }
+        requires row { row < MAX_SAMPLES }
+        requires column { column < MAX_SAMPLES }
+        requires small { dist.0 + 1 < 2 ^ 110 }
         ensures { (m : ℕ) (a b : Series) → fits m a b into.old → row < windows_of m a → column < windows_of m b
             → distance m a row b column ≡ Some dist.0 → is_scanned m a b (only row column) into.old into.new };
 

@@ -34,6 +34,7 @@ fn distance_at(strip: &Strip, pair: Pair, exacts: &mut [Option<Exact>]) -> u128
         (strip.now.block.column + pair.column)) }
     requires exacts { AreExactsIn strip.now.block exacts.old }
     ensures exacts { AreExactsIn strip.now.block exacts.new }
+    ensures small { result + 1 < 2 ^ 110 }
     ensures distance { (d : ℕ) → distance_in strip.now.block.grid (strip.now.block.row + pair.row)
         (strip.now.block.column + pair.column) ≡ Some d → result ≡ d }
 {
@@ -54,6 +55,7 @@ fn offer_at<O: Offers>(block: &Block, p: usize, c: usize, dist: u128, into: &mut
     requires is_column { IsColumn block.now c }
     requires apart { block.now.row + p + O.least ≤ block.now.column + c }
     requires dist { distance_in block.now.grid (block.now.row + p) (block.now.column + c) ≡ Some dist }
+    requires small { dist + 1 < 2 ^ 110 }
     requires fits { FitIn O.fits block.now.grid into.old }
     ensures { AreScannedIn O.is_scanned block.now.grid (only (block.now.row + p) (block.now.column + c)) into.old
         into.new }

@@ -90,7 +90,8 @@ pub fn next_residue(residue: i32, row: Change, column: Change) -> i32
 /// The sum that has this residue, where it has no more than thirty-one bits.
 #[inline]
 pub fn sum_of(residue: i32) -> u128
-    ensures { (sum : ℕ) → sum < 2 ^ 31 → residue ≡ residue_of sum → result ≡ sum }
+    ensures small { result < 2 ^ 32 }
+    ensures sum { (sum : ℕ) → sum < 2 ^ 31 → residue ≡ residue_of sum → result ≡ sum }
 {
     u128::from(residue.abs_diff(ZERO))
 }

@@ -13,4 +13,4 @@ returns-then-block-clause-distance c = λ d there.
     (omega (arith, c.requires.pair.row, c.args.strip.now.rows, b.are_rows)))
     (window_within b.grid.m b.grid.columns.now (b.column + c.args.pair.column) b.some_samples c.requires.pair.is_column)
     c.requires.pair.residue
-    (λ q lt e. c.sum_of.ensures q lt (to_z-of_z w32 c.args.pair.residue fits ∙ e)) there
+    (λ q lt e. c.sum_of.ensures.sum q lt (to_z-of_z w32 c.args.pair.residue fits ∙ e)) there
