@@ -112,6 +112,14 @@ bounds_all i m shift slots bounds all h = record {
   each = λ k lt. h.each k (omega (arith, lt, all));
 }
 
+-- the same slots and bounds, by the same rounding
+pub bounds_same : (m m' shift shift' : ℕ) (slots slots' : Column) (bounds bounds' : List ℤ) → m ≡ m' → shift ≡ shift'
+    → slots ≡ slots' → bounds ≡ bounds' → AreBounds m' shift' slots' bounds' → AreBounds m shift slots bounds
+bounds_same m m' shift shift' slots slots' bounds bounds' e f g h is =
+    subst (λ n. AreBounds n shift slots bounds) (sym e)
+    (subst (λ n. AreBounds m' n slots bounds) (sym f)
+    (subst (λ v. AreBounds m' shift' v bounds) (sym g) (subst (AreBounds m' shift' slots') (sym h) is)))
+
 -- where a slot and its bound are put
 pub bounds_set : (i m shift : ℕ) (slots slots' : Column) (bounds bounds' : List ℤ) (slot : Option Near) (bound : ℤ)
     → slots' ≡ slots → bounds' ≡ bounds → i < length slots → AreBounds m shift slots bounds

@@ -1,3 +1,4 @@
+pub mod CompactLemmas
 pub mod ColumnLemmas
 pub mod PairLemmas
 pub mod BlockLemmas

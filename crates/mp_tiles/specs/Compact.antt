@@ -1,14 +1,15 @@
--- Slots by three numbers of 64 bits.
-use Rattle.std.specs.Prelude.{◌≡◌, ℕ, ◌+◌, ◌*◌, ◌<◌, ◌==◌, List, length, slice_index_or, Option, Some, None}
+-- Slots by one number each.
+use Rattle.std.specs.Prelude.{◌≡◌, ℕ, ◌/◌, ◌%◌, ◌<◌, ◌==◌, List, length, slice_index_or, Option, Some, None}
 use Rattle.std.specs.Prelude.{if◌then◌else◌, ℤ, pos}
 use Rattle.mp_nums.specs.declared.nearest.Near.{Near}
+use Rattle.mp_series.specs.declared.limits.TheConstants.{MAX_SAMPLES}
 use Rattle.mp_defs.specs.Least.{near_at}
 use Rattle.mp_sums.specs.Residues.{item, limit_within}
-use Rattle.mp_tiles.specs.declared.compact.TheConstants.{HALF, NO_START}
+use Rattle.mp_tiles.specs.declared.compact.TheConstants.{NO_WINDOW}
 
--- a window by its start and both halves of its distance, or none
-abbrev pub slot_by : ℕ → ℕ → ℕ → Option Near
-slot_by start upper lower = if start == NO_START then None else Some (near_at start (upper * HALF + lower))
+-- a window by its distance times the most samples, and its start, or none
+abbrev pub slot_by : ℕ → Option Near
+slot_by n = if n == NO_WINDOW then None else Some (near_at (n % MAX_SAMPLES) (n / MAX_SAMPLES))
 
 -- the greatest residue of windows of m samples, rounded so, that are as near as what stands in a slot
 abbrev pub slot_bound : ℕ → ℕ → Option Near → ℤ

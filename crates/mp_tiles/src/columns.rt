@@ -1,16 +1,16 @@
 //! The nearest windows on one side, and what residues tell of them.
 
-ghost use Rattle.std.specs.Prelude.{◌≡◌, ℕ, ◌<◌, ◌≤◌, length, slice_index_or, IfOk, None};
+ghost use Rattle.std.specs.Prelude.{◌≡◌, ℕ, ◌+◌, ◌^◌, ◌<◌, ◌≤◌, length, slice_index_or, IfOk, None, true};
+ghost use Rattle.mp_series.specs.declared.limits.TheConstants.{MAX_SAMPLES};
 ghost use Rattle.mp_sums.specs.Limits.{IsBeyond};
 ghost use Rattle.mp_scans.specs.Offering.{TellsNothing};
 ghost use Rattle.mp_scans.specs.Slots.{Covers};
 ghost use Rattle.mp_partial.specs.Values.{empty_column, merged_column, offered};
-ghost use Rattle.mp_tiles.specs.Compact.{slot_bound};
+ghost use Rattle.mp_tiles.specs.Compact.{AreBounds, slot_bound};
 ghost use Rattle.mp_tiles.specs.Scanning.{taken};
-ghost use Rattle.mp_tiles.specs.declared.compact.TheConstants.{NO_START};
 
 use crate::compact::{Compact, no_windows, slot_at};
-use mp_nums::{Memory, Near, Slot, nearer};
+use mp_nums::{Memory, Near, Slot};
 use mp_scans::limit_of;
 use mp_sums::{ALWAYS, Limit, Rounding, ZERO};
 use std::alloc::Global;
@@ -63,6 +63,44 @@ fn bound_from(rounding: &Rounding, slot: Slot, within: i32, first: u64) -> i32
     }
 }
 
+/// Takes a slot and its bound, if it is nearer than what stands at a place.
+#[inline]
+fn take_at(slots: &mut [Compact], bounds: &mut [i32], place: usize, slot: &Compact, bound: i32)
+    requires place { place < length slots.old }
+    requires places { length bounds.old ≡ length slots.old }
+    ensures slots { slots.new ≡ taken slots.old place slot.now }
+    ensures bounds { (m shift : ℕ) → AreBounds m shift slots.old bounds.old → bound ≡ slot_bound m shift slot.now
+        → AreBounds m shift slots.new bounds.new }
+{
+    if slot.comes_before(&slots[place]) {
+        slots[place] = slot.copy();
+        bounds[place] = bound;
+    }
+}
+
+/// Keeps the nearer window at each place, and its bound, where those of both are by one rounding.
+fn merge_alike(slots: &mut [Compact], bounds: &mut [i32], others: &[Compact], other_bounds: &[i32])
+    requires places { length bounds.old ≡ length slots.old }
+    requires others { length others.now ≡ length slots.old }
+    requires other_bounds { length other_bounds.now ≡ length slots.old }
+    ensures slots { slots.new ≡ merged_column slots.old others.now }
+    ensures bounds { (m shift : ℕ) → AreBounds m shift slots.old bounds.old
+        → AreBounds m shift others.now other_bounds.now → AreBounds m shift slots.new bounds.new }
+{
+    for k in 0..slots.len() {
+        take_at(slots, bounds, k, &others[k], other_bounds[k]);
+    }
+}
+
+/// Whether two roundings are the same.
+#[inline]
+fn are_alike(one: &Rounding, other: &Rounding) -> bool
+    ensures m { result ≡ true → one.now.m ≡ other.now.m }
+    ensures shift { result ≡ true → one.now.shift ≡ other.now.shift }
+{
+    one.m == other.m && one.shift == other.shift
+}
+
 /// Whether a residue tells at once that windows don't lie at distance 0. Then equal distances are few, and what was
 /// found need not be looked at.
 #[inline]
@@ -71,8 +109,7 @@ fn is_apart(rounding: &Rounding, within: i32) -> bool {
 }
 
 impl Column {
-    ghost use Rattle.std.specs.Prelude.{slice_set, IfSome, Some};
-    ghost use Rattle.mp_nums.specs.Near.{nearer_of};
+    ghost use Rattle.std.specs.Prelude.{slice_set};
 
     /// So many windows for which none was found.
     pub(crate) fn unit(alloc: Global, size: u64) -> Result<Column, Memory>
@@ -90,8 +127,7 @@ impl Column {
     /// The number of windows.
     #[inline]
     pub(crate) fn len(&self) -> usize
-        ensures len { result ≡ length self.now }
-        ensures few { length self.now < NO_START }
+        ensures { result ≡ length self.now }
     {
         self.slots.len()
     }
@@ -100,8 +136,7 @@ impl Column {
     #[inline]
     pub(crate) fn slot(&self, place: usize) -> Slot
         requires { place < length self.now }
-        ensures slot { result ≡ slice_index_or self.now place None }
-        ensures start { IfSome result (λ near. near.index < NO_START) }
+        ensures { result ≡ slice_index_or self.now place None }
     {
         slot_at(self.slots.as_slice(), place)
     }
@@ -110,7 +145,7 @@ impl Column {
     pub(crate) fn round_by(&mut self, rounding: &Rounding)
         ensures { self.new ≡ self.old }
     {
-        if self.rounding.m == rounding.m && self.rounding.shift == rounding.shift {
+        if are_alike(&self.rounding, rounding) {
             return;
         }
         for k in 0..self.slots.len() {
@@ -131,20 +166,26 @@ impl Column {
         self.slots.as_mut_slice()[place] = slot;
     }
 
+    /// Takes a slot, if it is nearer than what stands at a place.
+    #[inline]
+    fn take(&mut self, place: usize, slot: Compact)
+        requires { place < length self.old }
+        ensures { self.new ≡ taken self.old place slot }
+    {
+        if slot.comes_before(&self.slots.as_slice()[place]) {
+            self.set(place, slot);
+        }
+    }
+
     /// A window is found for the one at a place.
     #[inline]
     pub(crate) fn offer(&mut self, place: usize, near: Near)
         requires place { place < length self.old }
-        requires start { near.index < NO_START }
+        requires start { near.index < MAX_SAMPLES }
+        requires small { near.dist.0 + 1 < 2 ^ 110 }
         ensures { self.new ≡ offered self.old place near }
     {
-        let is_nearer = match self.slot(place) {
-            Some(found) => near < found,
-            None => true,
-        };
-        if is_nearer {
-            self.set(place, Compact::of(near));
-        }
+        self.take(place, Compact::of(near));
     }
 
     /// Forgets what was found.
@@ -156,25 +197,32 @@ impl Column {
         }
     }
 
-    /// Takes what a slot has, if it is nearer.
-    fn take(&mut self, place: usize, found: Slot)
-        requires place { place < length self.old }
-        requires start { IfSome found (λ near. near.index < NO_START) }
-        ensures { self.new ≡ taken self.old place found }
-    {
-        if let Some(near) = found {
-            self.offer(place, near);
-        }
-    }
-
     /// Keeps the nearer window at each place.
     pub(crate) fn merge(&mut self, other: &Column)
         requires { length other.now ≡ length self.old }
         ensures column { self.new ≡ merged_column self.old other.now }
         ensures places { length self.new ≡ length self.old }
     {
+        if are_alike(&self.rounding, &other.rounding) {
+            merge_alike(
+                self.slots.as_mut_slice(),
+                self.bounds.as_mut_slice(),
+                other.slots.as_slice(),
+                other.bounds.as_slice(),
+            );
+        } else {
+            self.merge_each(other);
+        }
+    }
+
+    /// The same, whatever both are rounded by.
+    fn merge_each(&mut self, other: &Column)
+        requires { length other.now ≡ length self.old }
+        ensures column { self.new ≡ merged_column self.old other.now }
+        ensures places { length self.new ≡ length self.old }
+    {
         for k in 0..self.len() {
-            self.take(k, other.slot(k));
+            self.take(k, other.slots.as_slice()[k].copy());
         }
     }
 
@@ -199,10 +247,7 @@ impl Column {
             result }
     {
         let at = place as usize;
-        if at < self.slots.len()
-            && self.rounding.m == rounding.m
-            && self.rounding.shift == rounding.shift
-        {
+        if at < self.slots.len() && are_alike(&self.rounding, rounding) {
             let within = self.bounds.as_slice()[at];
             if is_apart(rounding, within) {
                 within

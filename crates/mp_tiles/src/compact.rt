@@ -1,25 +1,23 @@
-//! Slots in little room.
+//! Slots in one number each.
 
-ghost use Rattle.std.specs.Prelude.{◌≡◌, ◌<◌, length, slice_index_or, IfOk, IfSome, None};
+ghost use Rattle.std.specs.Prelude.{◌≡◌, ◌+◌, ◌^◌, ◌<◌, length, slice_index_or, IfOk, None};
+ghost use Rattle.mp_series.specs.declared.limits.TheConstants.{MAX_SAMPLES};
 ghost use Rattle.mp_partial.specs.Values.{empty_column};
 
 use mp_nums::{Memory, Near, Slot, Sq};
+use mp_series::MAX_SAMPLES;
 use std::alloc::Global;
 use std::marker::Model;
 
-/// The start that stands for no window.
-pub(crate) const NO_START: u64 = u64::MAX;
+/// The number that stands for no window, and comes after those of all windows.
+const NO_WINDOW: u128 = u128::MAX;
 
-/// By this a distance has an upper and a lower half.
-const HALF: u128 = 1 << 64;
-
-/// A slot in half the room of one, since the scan loads slots for each row and each column of a block.
+/// A slot in one number, since the scan loads slots for each row and each column of a block: the distance of the window
+/// times the most samples that a series has, and its start. So of two windows the one with the lesser number is nearer,
+/// or as near and starts first.
 #[derive(Debug, Drop)]
 pub(crate) struct Compact {
-    start: u64,
-    /// The upper and the lower half of the distance.
-    upper: u64,
-    lower: u64,
+    number: u128,
 }
 
 impl Model for Compact {
@@ -29,52 +27,66 @@ impl Model for Compact {
 
     ghost Value = { Option Near };
 
-    ghost view = { λ compact. slot_by compact.start compact.upper compact.lower };
+    ghost view = { λ compact. slot_by compact.number };
 }
 
 impl Compact {
-    ghost use Rattle.std.specs.Prelude.{Some};
+    ghost use Rattle.std.specs.Prelude.{Some, true, false};
+    ghost use Rattle.mp_nums.specs.Near.{nearer_of};
 
     /// No window.
     #[inline]
     pub(crate) fn none() -> Compact
         ensures { result ≡ None }
     {
-        Compact {
-            start: NO_START,
-            upper: 0,
-            lower: 0,
-        }
+        Compact { number: NO_WINDOW }
     }
 
     /// A window.
     #[inline]
     pub(crate) fn of(near: Near) -> Compact
-        requires { near.index < NO_START }
+        requires start { near.index < MAX_SAMPLES }
+        requires small { near.dist.0 + 1 < 2 ^ 110 }
         ensures { result ≡ Some near }
     {
         Compact {
-            start: near.index,
-            upper: (near.dist.0 / HALF) as u64,
-            lower: (near.dist.0 % HALF) as u64,
+            number: near.dist.0 * u128::from(MAX_SAMPLES) + u128::from(near.index),
         }
     }
 
     /// What stands there.
     #[inline]
     pub(crate) fn slot(&self) -> Slot
-        ensures slot { result ≡ self.now }
-        ensures start { IfSome result (λ near. near.index < NO_START) }
+        ensures { result ≡ self.now }
     {
-        if self.start == NO_START {
+        if self.number == NO_WINDOW {
             None
         } else {
-            let dist = Sq(u128::from(self.upper) * HALF + u128::from(self.lower));
+            let most = u128::from(MAX_SAMPLES);
             Some(Near {
-                dist,
-                index: self.start,
+                dist: Sq(self.number / most),
+                index: (self.number % most) as u64,
             })
         }
+    }
+
+    /// The same slot once more.
+    #[inline]
+    pub(crate) fn copy(&self) -> Compact
+        ensures { result ≡ self.now }
+    {
+        Compact {
+            number: self.number,
+        }
+    }
+
+    /// Whether it is the lesser of this slot and another one, and not the same.
+    #[inline]
+    pub(crate) fn comes_before(&self, other: &Compact) -> bool
+        ensures before { result ≡ true → nearer_of other.now self.now ≡ self.now }
+        ensures behind { result ≡ false → nearer_of other.now self.now ≡ other.now }
+    {
+        self.number < other.number
     }
 }
 
@@ -93,8 +105,7 @@ pub(crate) fn no_windows(alloc: Global, size: u64) -> Result<Vec<Compact>, Memor
 #[inline]
 pub(crate) fn slot_at(slots: &[Compact], place: usize) -> Slot
     requires { place < length slots.now }
-    ensures slot { result ≡ slice_index_or slots.now place None }
-    ensures start { IfSome result (λ near. near.index < NO_START) }
+    ensures { result ≡ slice_index_or slots.now place None }
 {
     slots[place].slot()
 }

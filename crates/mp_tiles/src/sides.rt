@@ -1,6 +1,7 @@
 //! The nearest windows on both sides.
 
-ghost use Rattle.std.specs.Prelude.{◌≡◌, ◌<◌, ◌≤◌, [], ◌∷◌, length};
+ghost use Rattle.std.specs.Prelude.{◌≡◌, ◌+◌, ◌^◌, ◌<◌, ◌≤◌, [], ◌∷◌, length};
+ghost use Rattle.mp_series.specs.declared.limits.TheConstants.{MAX_SAMPLES};
 ghost use Rattle.mp_partial.specs.Values.{HasColumns, empty_columns, merged_column, merged_columns, offered};
 ghost use Rattle.mp_partial.specs.MergeLaws.{columns_merge};
 ghost use Rattle.mp_tiles.specs.OfferingLaws.{fits_sides, may_sides, is_scanned_sides, on_both_sides};
@@ -16,7 +17,7 @@ use std::alloc::Global;
 use std::marker::Model;
 
 /// For each window, by its start, the nearest of the windows that start earlier, and the nearest of those that start
-/// later. A window takes 56 bytes.
+/// later. A window takes 40 bytes.
 #[derive(Debug, Drop)]
 pub struct Sides {
     left: Column,
@@ -56,10 +57,12 @@ impl Sides {
     pub(crate) fn offer(&mut self, i: u64, j: u64, dist: Sq)
         requires i { i < length self.old.right }
         requires j { j < length self.old.left }
+        requires first { i < MAX_SAMPLES }
+        requires second { j < MAX_SAMPLES }
+        requires small { dist.0 + 1 < 2 ^ 110 }
         ensures left { self.new.left ≡ offered self.old.left j (record { dist = dist; index = i }) }
         ensures right { self.new.right ≡ offered self.old.right i (record { dist = dist; index = j }) }
     {
-        let _few = (self.left.len(), self.right.len());
         self.left.offer(j as usize, Near { dist, index: i });
         self.right.offer(i as usize, Near { dist, index: j });
     }

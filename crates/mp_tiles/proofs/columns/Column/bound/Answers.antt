@@ -1,4 +1,4 @@
-use Rattle.std.proofs.Common.{◌∙◌, ℤ, ap, arith, get_or, rules, w32, FitsSigned}
+use Rattle.std.proofs.Common.{◌∙◌, ℤ, ap, arith, get_or, refl, rules, w32, FitsSigned}
 use Rattle.std.specs.Prelude.{None}
 use Rattle.std.proofs.lemmas.Int.{to_z-of_z}
 use Rattle.mp_sums.specs.Residues.{item}
@@ -25,6 +25,6 @@ returns-then-is_apart c =
     (to_z-of_z w32 bound fits
     ∙ ap (λ bounds. item bounds at) c.as_slice.ensures.value
     ∙ c.self.invariant.each at (omega (arith, c.if-at-len.true, c.len.ensures))
-    ∙ ap (λ m. slot_bound m inside.rounding.shift (get_or inside.slots.items at None)) c.if-self-rounding.true
-    ∙ ap (λ shift. slot_bound rounding.m shift (get_or inside.slots.items at None)) c.if-self-rounding-2.true
+    ∙ ap (λ m. slot_bound m inside.rounding.shift (get_or inside.slots.items at None)) (c.if-are_alike.ensures.m refl)
+    ∙ ap (λ shift. slot_bound rounding.m shift (get_or inside.slots.items at None)) (c.if-are_alike.ensures.shift refl)
     ∙ ap (λ slots. slot_bound rounding.m rounding.shift (get_or slots at None)) c.self.view_is)

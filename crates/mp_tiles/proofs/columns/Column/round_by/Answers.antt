@@ -25,7 +25,7 @@ loop-k-preserved c =
           c.loop-k.invariant.bounds
           (to_z-of_z w32 c.bound_of-bound.result fits ∙ c.bound_of-bound.ensures
           ∙ ap (slot_bound rounding.m rounding.shift)
-          (c.slot_at.ensures.slot ∙ ap (λ slots. get_or slots k None) c.as_slice.ensures.value)));
+          (c.slot_at.ensures ∙ ap (λ slots. get_or slots k None) c.as_slice.ensures.value)));
     }
 
 pub invariant_of-self : goal.invariant_of-self

@@ -28,4 +28,4 @@ invariant_of-self c =
     c.as_mut_slice-2.ensures.value c.as_mut_slice.ensures.value (omega (arith, c.requires, ap length c.self.view_is))
     c.self.invariant
     (to_z-of_z w32 c.bound_of-bound.result fits ∙ c.bound_of-bound.ensures
-    ∙ ap (slot_bound m shift) c.slot.ensures.slot)))
+    ∙ ap (slot_bound m shift) c.slot.ensures)))

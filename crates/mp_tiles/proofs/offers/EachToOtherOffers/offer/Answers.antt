@@ -23,7 +23,7 @@ returns c m a b fits row column is =
     let mid = c.offer.new.self in
     let at_j : Near = record { dist = c.args.dist; index = j } in
     let at_i : Near = record { dist = c.args.dist; index = i } in
-    let order : i < j = c.requires.0 in
+    let order : i < j = c.requires.may.0 in
     let within : j < windows_of m a = subst (λ (x : Series). j < windows_of m x) (sym fits.1) column in
     scanned_pair i j m a old c.offer-2.new.self (Some c.args.dist.0) fits.0 order within
     (sym (subst (λ (x : Series). distance m a i x j ≡ Some c.args.dist.0) (sym fits.1) is))
