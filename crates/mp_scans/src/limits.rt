@@ -69,7 +69,7 @@ pub(crate) fn fill_column_limits<O: Offers>(
 
 /// Whether a distance is within a limit.
 #[inline]
-fn is_within(limit: Limit, dist: u128) -> bool
+pub(crate) fn is_within(limit: Limit, dist: u128) -> bool
     ensures { result ≡ false → IsBeyond limit dist }
 {
     match limit {
@@ -77,15 +77,4 @@ fn is_within(limit: Limit, dist: u128) -> bool
         Limit::Within(most) => dist <= most.0,
         Limit::Below(end) => dist < end.0,
     }
-}
-
-/// Whether a row and a column at a distance may give each other something.
-#[inline]
-pub(crate) fn may_give<O: Offers>(row: u64, column: u64, dist: u128, into: &O::Into) -> bool
-    ensures row { result ≡ false → O.keeps_row into.now row column dist }
-    ensures column { result ≡ false → O.keeps_column into.now column row dist }
-{
-    let to_row = is_within(O::row_limit(into, row, column), dist);
-    let to_column = is_within(O::column_limit(into, column, row), dist);
-    to_row | to_column
 }

@@ -1,6 +1,6 @@
 //! How the windows of a pair are offered, and what of them is kept.
 
-ghost use Rattle.std.specs.Prelude.{ℕ, ◌+◌, ◌^◌, ◌<◌, ◌≤◌, ◌≡◌, Bool, Some};
+ghost use Rattle.std.specs.Prelude.{ℕ, ◌+◌, ◌^◌, ◌<◌, ◌≤◌, ◌≡◌, Bool, Some, false};
 ghost use Rattle.mp_series.specs.declared.limits.TheConstants.{MAX_SAMPLES};
 ghost use Rattle.mp_defs.specs.Series.{Series};
 ghost use Rattle.mp_defs.specs.Distance.{distance};
@@ -8,6 +8,7 @@ ghost use Rattle.mp_defs.specs.Profile.{windows_of};
 ghost use Rattle.mp_sums.specs.Limits.{IsBeyond};
 ghost use Rattle.mp_scans.specs.Offering.{only, IsOffering, IsLimiting, TellsNothing};
 
+use crate::limits::is_within;
 use mp_nums::Sq;
 use mp_sums::{Limit, Rounding};
 
@@ -50,6 +51,22 @@ pub trait Offers {
     /// Which distances of the rows from `first` on may still give the column something.
     fn column_limit(into: &Self::Into, column: u64, first: u64) -> Limit
         ensures { (row dist : ℕ) → first ≤ row → IsBeyond result dist → keeps_column into.now column row dist };
+
+    /// Whether a row and a column at a distance may give each other something. What the limits tell is right; a test of
+    /// the distance itself may be quicker.
+    #[inline]
+    fn may_give(into: &Self::Into, row: u64, column: u64, dist: Sq) -> bool
+        requires may { may_offer into.now row column }
+        requires row { row < MAX_SAMPLES }
+        requires column { column < MAX_SAMPLES }
+        requires small { dist.0 + 1 < 2 ^ 110 }
+        ensures row { result ≡ false → keeps_row into.now row column dist.0 }
+        ensures column { result ≡ false → keeps_column into.now column row dist.0 }
+    {
+        let to_row = is_within(Self::row_limit(into, row, column), dist.0);
+        let to_column = is_within(Self::column_limit(into, column, row), dist.0);
+        to_row | to_column
+    }
 
     /// A residue of pairs by a rounding, such that the columns from `first` on that have a greater one give the row
     /// nothing.

@@ -10,7 +10,7 @@ ghost use Rattle.mp_scans.specs.Windows.{FitIn, AreScannedIn};
 
 use crate::blocks::{Block, Known, Pair, Row, Strip};
 use crate::exacts::{Exact, distance_by};
-use crate::limits::{column_limit, may_give, row_limit};
+use crate::limits::{column_limit, row_limit};
 use crate::offers::Offers;
 use crate::vectors::{LANES, lanes_above, least_lane, next_clear};
 use mp_nums::Sq;
@@ -61,8 +61,9 @@ fn offer_at<O: Offers>(block: &Block, p: usize, c: usize, dist: u128, into: &mut
         into.new }
 {
     let (row, column) = ((block.row + p) as u64, (block.column + c) as u64);
-    if may_give::<O>(row, column, dist, into) {
-        O::offer(into, row, column, Sq(dist));
+    let dist = Sq(dist);
+    if O::may_give(into, row, column, dist) {
+        O::offer(into, row, column, dist);
         true
     } else {
         false

@@ -109,7 +109,7 @@ fn is_apart(rounding: &Rounding, within: i32) -> bool {
 }
 
 impl Column {
-    ghost use Rattle.std.specs.Prelude.{slice_set};
+    ghost use Rattle.std.specs.Prelude.{slice_set, false};
 
     /// So many windows for which none was found.
     pub(crate) fn unit(alloc: Global, size: u64) -> Result<Column, Memory>
@@ -186,6 +186,17 @@ impl Column {
         ensures { self.new ≡ offered self.old place near }
     {
         self.take(place, Compact::of(near));
+    }
+
+    /// Whether a window is nearer than what was found for the one at a place.
+    #[inline]
+    pub(crate) fn may_take(&self, place: usize, near: Near) -> bool
+        requires place { place < length self.now }
+        requires start { near.index < MAX_SAMPLES }
+        requires small { near.dist.0 + 1 < 2 ^ 110 }
+        ensures { result ≡ false → Covers (slice_index_or self.now place None) near.index near.dist.0 }
+    {
+        Compact::of(near).comes_before(&self.slots.as_slice()[place])
     }
 
     /// Forgets what was found.

@@ -1,9 +1,10 @@
 //! The nearest windows on both sides.
 
-ghost use Rattle.std.specs.Prelude.{◌≡◌, ◌+◌, ◌^◌, ◌<◌, ◌≤◌, [], ◌∷◌, length};
+ghost use Rattle.std.specs.Prelude.{◌≡◌, ◌+◌, ◌^◌, ◌<◌, ◌≤◌, [], ◌∷◌, length, slice_index_or, None, false};
 ghost use Rattle.mp_series.specs.declared.limits.TheConstants.{MAX_SAMPLES};
 ghost use Rattle.mp_partial.specs.Values.{HasColumns, empty_columns, merged_column, merged_columns, offered};
 ghost use Rattle.mp_partial.specs.MergeLaws.{columns_merge};
+ghost use Rattle.mp_scans.specs.Slots.{Covers};
 ghost use Rattle.mp_tiles.specs.OfferingLaws.{fits_sides, may_sides, is_scanned_sides, on_both_sides};
 ghost use Rattle.mp_tiles.specs.LimitLaws.{keeps_row_sides, keeps_column_sides, side_limits};
 
@@ -65,6 +66,22 @@ impl Sides {
     {
         self.left.offer(j as usize, Near { dist, index: i });
         self.right.offer(i as usize, Near { dist, index: j });
+    }
+
+    /// Whether windows `i` and `j`, which starts later, may be nearer at this distance than what was found for either.
+    #[inline]
+    pub(crate) fn may_take(&self, i: u64, j: u64, dist: Sq) -> bool
+        requires i { i < length self.now.right }
+        requires j { j < length self.now.left }
+        requires first { i < MAX_SAMPLES }
+        requires second { j < MAX_SAMPLES }
+        requires small { dist.0 + 1 < 2 ^ 110 }
+        ensures left { result ≡ false → Covers (slice_index_or self.now.left j None) i dist.0 }
+        ensures right { result ≡ false → Covers (slice_index_or self.now.right i None) j dist.0 }
+    {
+        let to_right = self.right.may_take(i as usize, Near { dist, index: j });
+        let to_left = self.left.may_take(j as usize, Near { dist, index: i });
+        to_right | to_left
     }
 
     /// The profile of what was found, in the room of a profile of no windows. It takes no memory.
@@ -143,6 +160,11 @@ impl Offers for OnBothSides {
     #[inline]
     fn offer(into: &mut Sides, row: u64, column: u64, dist: Sq) {
         into.offer(row, column, dist);
+    }
+
+    #[inline]
+    fn may_give(into: &Sides, row: u64, column: u64, dist: Sq) -> bool {
+        into.may_take(row, column, dist)
     }
 
     #[inline]
