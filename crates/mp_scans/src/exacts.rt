@@ -70,7 +70,9 @@ fn bring(grid: &Grid, exact: &mut Option<Exact>, row: usize, column: usize) -> u
 }
 
 /// The distance of a row and a column that lack no sample, on one of successive diagonals, on the first of which a
-/// column starts `first` places behind its row.
+/// column starts `first` places behind its row. It stands apart, so that nothing is called where a residue tells the
+/// distance.
+#[inline(never)]
 pub(crate) fn distance_by(
     grid: &Grid,
     first: usize,

@@ -27,7 +27,7 @@ fn are_free(block: &Block, p: usize, c: usize) -> bool
 }
 
 /// The distance of a row and a column that lack no sample: that of their residue, where this tells it.
-#[inline]
+#[inline(always)]
 fn distance_at(strip: &Strip, pair: Pair, exacts: &mut [Option<Exact>]) -> u128
     requires pair { IsPairOf strip.now pair }
     requires free { IsSome (distance_in strip.now.block.grid (strip.now.block.row + pair.row)
