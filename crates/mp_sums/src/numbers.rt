@@ -34,8 +34,8 @@ pub(crate) fn number_in(sample: Sample) -> Whole
     }
 }
 
-/// The squared difference of two numbers. It is a product of numbers with sign, which takes one instruction, and no test
-/// of which number is the greater.
+/// The squared difference of two numbers. It is a product of numbers with sign, which takes one instruction, and no
+/// test of which number is the greater.
 #[inline]
 pub fn square(x: Whole, y: Whole) -> u128
     ensures square { result ≡ squared_difference x y }

@@ -1,5 +1,5 @@
 -- Slots in one number each: of two numbers the lesser stands for the window that comes first.
-use Rattle.std.proofs.Common.{◌≡◌, ℕ, ◌+◌, ◌*◌, ◌/◌, ◌%◌, ◌^◌, ◌<◌, ◌≤◌, inl, inr, Bool, true, false, sym, ap, ◌∙◌, arith}
+use Rattle.std.proofs.Common.{◌≡◌, ℕ, ◌+◌, ◌*◌, ◌/◌, ◌%◌, ◌^◌, ◌<◌, ◌≤◌, inl, inr, true, false, sym, ap, ◌∙◌, arith}
 use Rattle.std.specs.Prelude.{Option, Some, None, ◌==◌, nat_lt, if◌then◌else◌}
 use Rattle.std.proofs.lemmas.Bool.{cases_lt}
 use Rattle.std.proofs.lemmas.Bool.Decides.{nat_tests}
@@ -55,7 +55,8 @@ lesser_first n k lt le = elim (cases_lt k NO_WINDOW) [
   | inl less ↦
       let near : Near = near_at (n % MAX_SAMPLES) (n / MAX_SAMPLES) in
       let other : Near = near_at (k % MAX_SAMPLES) (k / MAX_SAMPLES) in
-      ap (λ s. nearer_of s (slot_by n)) (some_by k less) ∙ ap (nearer_of (Some other)) (some_by n (omega (arith, lt, le)))
+      ap (λ s. nearer_of s (slot_by n)) (some_by k less)
+      ∙ ap (nearer_of (Some other)) (some_by n (omega (arith, lt, le)))
       ∙ ap (λ b. if b then Some near else Some other)
       (first_test (n / 262144) (n % 262144) (k / 262144) (k % 262144) (start_small n) (start_small k)
       (omega (arith, parts n, parts k, lt)))

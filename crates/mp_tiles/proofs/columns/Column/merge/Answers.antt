@@ -24,5 +24,6 @@ invariant_of-self c =
     inside.bounds.items refl refl c.as_mut_slice.ensures.value c.as_mut_slice-then-are_alike.ensures.value
     c.self.invariant)
     (bounds_same m other.rounding.m shift other.rounding.shift c.as_slice.result.now other.slots.items
-    c.as_slice-then-are_alike.result.now other.bounds.items (c.if-are_alike.ensures.m refl) (c.if-are_alike.ensures.shift refl)
-    c.as_slice.ensures.value c.as_slice-then-are_alike.ensures.value c.other.invariant)))
+    c.as_slice-then-are_alike.result.now other.bounds.items (c.if-are_alike.ensures.m refl)
+    (c.if-are_alike.ensures.shift refl) c.as_slice.ensures.value c.as_slice-then-are_alike.ensures.value
+    c.other.invariant)))
