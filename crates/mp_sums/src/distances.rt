@@ -51,8 +51,8 @@ impl<'a> Grid<'a> {
         square(number_in(self.rows[row]), number_in(self.columns[column]))
     }
 
-    /// The squared distance of a row and a column that lack no sample. It takes less time than `distance`, which chooses
-    /// between a number and 0 at each sample.
+    /// The squared distance of a row and a column that lack no sample. It takes less time than `distance`, which
+    /// chooses between a number and 0 at each sample.
     pub fn free_distance(&self, row: usize, column: usize) -> u128
         requires row { row + self.now.m ≤ length self.now.rows.now }
         requires column { column + self.now.m ≤ length self.now.columns.now }
