@@ -1,5 +1,5 @@
 -- Squares of differences, as products of numbers with sign.
-use Rattle.std.proofs.Common.{◌≡◌, ℕ, ◌-◌, ◌^◌, ◌≤◌, sym, ap, ◌∙◌, arith, subst, mul-le-mul}
+use Rattle.std.proofs.Common.{◌≡◌, ℕ, ◌-◌, ◌^◌, ◌≤◌, sym, ap, ◌∙◌, arith, mul-le-mul}
 use Rattle.std.proofs.Common.{w64, FitsSigned, ℤ, pos, ◌-ℤ◌, ◌*ℤ◌, to_z, of_z}
 use Rattle.std.specs.Prelude.{unsigned_abs, ◌≤ℤ◌}
 use Rattle.std.specs.Int.{Width, w128}
