@@ -51,6 +51,18 @@ pub trait Part: Drop + Send {
         ensures size { size_of self.new ≡ size_of self.old }
         ensures is_value { is_value (size_of self.new) (value self.new) };
 
+    /// Has what the other has found, in place of what it had. It takes no memory.
+    fn take_over(&mut self, other: &Self)
+        requires is_value { is_value (size_of other.now) (value other.now) }
+        requires size { size_of self.old ≡ size_of other.now }
+        ensures value { value self.new ≡ value other.now }
+        ensures size { size_of self.new ≡ size_of other.now }
+        ensures is_value { is_value (size_of self.new) (value self.new) }
+    {
+        self.clear();
+        self.merge(other);
+    }
+
     /// The order of merges doesn't matter, nor does merging twice, and a unit changes nothing.
     ghost laws: { IsMerging is_value unit_of merged };
 }

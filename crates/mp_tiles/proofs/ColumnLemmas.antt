@@ -60,6 +60,15 @@ all_merged i old others new long all h =
     ∙ sym (get_or-zip2 nearer_of old others k None None None (omega (arith, lt, h.places))
     (omega (arith, lt, long, h.places))))
 
+-- ---- columns that are copied
+
+pub copied_next : (i : ℕ) (slots others : Column) (slot : Option Near) → i < length slots
+    → ((q : ℕ) → q < i → get_or slots q None ≡ get_or others q None) → slot ≡ get_or others i None
+    → (q : ℕ) → q < i + 1 → get_or (set slots i slot) q None ≡ get_or others q None
+copied_next i slots others slot lt before e q below =
+    set_at (λ j s. s ≡ get_or others j None) None slots i slot lt e q
+    (λ ne. before q (omega (arith, below, ne)))
+
 -- ---- columns that are cleared
 
 pub record AreClearBelow (i : ℕ) (old new : Column) : Type 0 where

@@ -92,6 +92,16 @@ fn merge_alike(slots: &mut [Compact], bounds: &mut [i32], others: &[Compact], ot
     }
 }
 
+/// Puts the other slots in place of these.
+fn copy_slots(slots: &mut [Compact], others: &[Compact])
+    requires { length others.now ≡ length slots.old }
+    ensures { slots.new ≡ others.now }
+{
+    for k in 0..slots.len() {
+        slots[k] = others[k].copy();
+    }
+}
+
 /// Whether two roundings are the same.
 #[inline]
 fn are_alike(one: &Rounding, other: &Rounding) -> bool
@@ -206,6 +216,18 @@ impl Column {
         for k in 0..self.len() {
             self.set(k, Compact::none());
         }
+    }
+
+    /// Has what was found by another one, in place of what it had.
+    pub(crate) fn copy_from(&mut self, other: &Column)
+        requires { length other.now ≡ length self.old }
+        ensures { self.new ≡ other.now }
+    {
+        copy_slots(self.slots.as_mut_slice(), other.slots.as_slice());
+        self.bounds
+            .as_mut_slice()
+            .copy_from_slice(other.bounds.as_slice());
+        self.rounding = other.rounding;
     }
 
     /// Keeps the nearer window at each place.

@@ -136,6 +136,11 @@ impl Part for Sides {
         self.left.merge(&other.left);
         self.right.merge(&other.right);
     }
+
+    fn take_over(&mut self, other: &Self) {
+        self.left.copy_from(&other.left);
+        self.right.copy_from(&other.right);
+    }
 }
 
 impl Offers for OnBothSides {

@@ -153,19 +153,8 @@ pub(crate) fn hand_on<P: Part>(found: &P, parts: &mut Vec<P>)
         parts.new.items }
 {
     for part in parts.iter_mut() {
-        take_over(part, found);
+        part.take_over(found);
     }
-}
-
-/// The part then has what the other one found.
-fn take_over<P: Part>(part: &mut P, found: &P)
-    requires is_value { P.is_value (P.size_of found.now) (P.value found.now) }
-    requires size { P.size_of part.old ≡ P.size_of found.now }
-    ensures size { P.size_of part.new ≡ P.size_of found.now }
-    ensures value { P.value part.new ≡ P.value found.now }
-{
-    part.clear();
-    part.merge(found);
 }
 
 /// Merges what the first of some workers has found with what the first of others has.
