@@ -1,4 +1,10 @@
 pub mod Insertions
 pub mod LeastSums
 pub mod NearestByValue
-pub mod Pairs
+pub mod RisingDistances
+pub mod RunningLemmas
+pub mod ChannelLemmas
+pub mod ColumnLemmas
+pub mod ScanLemmas
+pub mod TileLaws
+pub mod PieceLemmas

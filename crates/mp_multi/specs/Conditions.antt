@@ -2,7 +2,7 @@
 use Rattle.std.specs.Prelude.{◌≡◌, ℕ, ◌≤◌, List, [], length, slice_index_or, All}
 use Rattle.mp_nums.specs.declared.samples.Sample.{Sample}
 use Rattle.mp_defs.specs.Limits.{max_samples, max_window, min_window}
-use Rattle.mp_multi.specs.declared.profiles.TheConstants.{MAX_CHANNELS}
+use Rattle.mp_multi.specs.declared.limits.TheConstants.{MAX_CHANNELS}
 
 -- they have as many samples as the first one
 abbrev pub HaveOneLength : List (List Sample) → Type 0

@@ -1,3 +1,10 @@
 pub mod Conditions
+pub mod LeastSums
+pub mod Missing
+pub mod Running
+pub mod Among
+pub mod Tiles
+pub mod Tiling
+pub mod TilingLaws
 pub mod Laws
 pub mod Examples

@@ -1,64 +1,50 @@
 //! The multidimensional profile of several channels.
 
-ghost use Rattle.std.specs.Prelude.{◌≡◌, ◌+◌, ◌-◌, ◌≤◌, length, map, slice_index_or, [], IfOk};
-ghost use Rattle.std.specs.List.{range_with_len};
+ghost use Rattle.std.specs.Prelude.{◌≡◌, ◌≤◌, [], ◌∷◌, length, map, slice_index_or, IfOk};
 ghost use Rattle.mp_defs.specs.Series.{series_of};
-ghost use Rattle.mp_results.specs.Multi.{multi_entry, multi_of};
-ghost use Rattle.mp_multi.specs.Conditions.{AreChannels, HaveOneLength};
+ghost use Rattle.mp_results.specs.Multi.{multi_of};
+ghost use Rattle.mp_multi.specs.Conditions.{HaveOneLength};
+ghost use Rattle.mp_multi.specs.Tiling.{multi_together};
 
-use crate::values::pair_value;
-use mp_cuts::MAX_TILE;
-use mp_nums::{Items, Memory, Near, Slot, Slots, nearer};
+use crate::kernels::MultiTiles;
+use crate::limits::MAX_CHANNELS;
+use mp_cuts::{MAX_TILE, MAX_TILES};
+use mp_nums::{Memory, Slots};
 use mp_outside::Gate;
-use mp_partial::MAX_WORKERS;
-use mp_series::{Bundle, MAX_SAMPLES, MAX_WINDOW, MIN_WINDOW, allowed, windows};
-use rayon::prelude::*;
-use std::alloc::{AllocError, Global};
+use mp_partial::{Kernel, MAX_WORKERS};
+use mp_series::{Bundle, MAX_SAMPLES, MAX_WINDOW, MIN_WINDOW};
+use mp_workers::run_all;
+use std::alloc::Global;
 use std::thread::Threads;
 
-/// The most channels that are taken together.
-pub const MAX_CHANNELS: u64 = 8;
+/// For how many pairs of windows a worker is started. Fewer pairs take less time than the start of a thread.
+const PAIRS_FOR_A_WORKER: u64 = 16_384;
 
-/// The window of least value outside the exclusion zone of window `i`, by comparing it with every one.
-fn entry(channels: &Bundle, m: u32, k: u64, i: u64) -> Slot
-    requires channels { AreChannels channels.now m k }
-    requires window { i + m ≤ length (slice_index_or channels.now 0 []) }
-    ensures { result ≡ multi_entry m k (map series_of channels.now) i }
+/// How many of the workers the pairs of so many windows are worth, at least one.
+fn worth(windows: u64, workers: u32) -> u32
+    requires { 1 ≤ workers }
+    ensures some { 1 ≤ result }
+    ensures within { result ≤ workers }
 {
-    let mut least: Slot = None;
-    for j in 0..windows(channels.series(0).len() as u64, m) {
-        if allowed(i, j, m) {
-            if let Some(dist) = pair_value(channels, m, k, i, j) {
-                least = nearer(least, Some(Near { dist, index: j }));
-            }
-        }
-    }
-    least
+    let pairs = windows.saturating_mul(windows) / 2;
+    (pairs / PAIRS_FOR_A_WORKER).clamp(1, u64::from(workers)) as u32
 }
 
-/// The entries of the first `count` windows, by as many threads as there are processors.
-fn entries(
-    rt: &(impl Threads + Sync),
+/// What the tiles have together, run by so many workers. Short channels are left to fewer.
+fn run_tiles<R: Threads + Sync, G: Gate, const D: usize>(
+    rt: &R,
     alloc: Global,
-    channels: &Bundle,
-    m: u32,
-    k: u64,
-    count: u64,
-) -> Result<Vec<Slot>, AllocError>
-    requires channels { AreChannels channels.now m k }
-    requires windows { count ≤ length (slice_index_or channels.now 0 []) + 1 - m }
-    ensures { IfOk result (λ list. list.items
-        ≡ map (multi_entry m k (map series_of channels.now)) (range_with_len 0 count)) }
+    tiles: &MultiTiles<D>,
+    workers: u32,
+    gate: &G,
+) -> Result<Slots, Memory>
+    requires few { length tiles.now.tiles ≤ MAX_TILES }
+    requires some { 1 ≤ workers }
+    requires workers { workers ≤ MAX_WORKERS }
+    ensures { IfOk result (λ slots. slots.items ∷ [] ≡ multi_together tiles.now) }
 {
-    (0..count)
-        .into_par_iter()
-        .map(
-            |i: u64| -> Slot
-                requires { AreChannels channels.now m k × (i + m ≤ length (slice_index_or channels.now 0 [])) }
-                ensures { result ≡ multi_entry m k (map series_of channels.entry.now) i }
-            { entry(channels, m, k, i) },
-        )
-        .collect(rt, alloc)
+    let workers = worth(tiles.size(), workers);
+    run_all(rt, alloc, tiles, tiles.pieces(), workers, gate)
 }
 
 /// The multidimensional profile of channels at window length `m`: for each window the nearest one outside its exclusion
@@ -69,8 +55,8 @@ fn entries(
 /// none. To take the `k` channels in which two windows lie nearest is the multidimensional matrix profile's way. That
 /// squares are summed, and that a channel with a missing sample doesn't count, is this project's own rule.
 ///
-/// Every two windows are compared, by as many threads as there are processors. The tile, the number of workers and the
-/// gate are not used.
+/// It is computed in tiles of at most `tile` diagonals by so many workers, by a body for each number of channels. Short
+/// channels are left to fewer workers.
 pub fn multi<R: Threads + Sync, G: Gate>(
     rt: &R,
     alloc: Global,
@@ -79,7 +65,7 @@ pub fn multi<R: Threads + Sync, G: Gate>(
     k: u64,
     tile: u32,
     workers: u32,
-    _gate: &G,
+    gate: &G,
 ) -> Result<Slots, Memory>
     requires shortest { MIN_WINDOW ≤ m }
     requires longest { m ≤ MAX_WINDOW }
@@ -95,7 +81,13 @@ pub fn multi<R: Threads + Sync, G: Gate>(
     requires workers { workers ≤ MAX_WORKERS }
     ensures { IfOk result (λ slots. slots.items ≡ multi_of m k (map series_of channels.now)) }
 {
-    let count = windows(channels.series(0).len() as u64, m);
-    let list = entries(rt, alloc, channels, m, k, count)?;
-    Ok(Items::from(list))
+    macro_rules! by_count {
+        ($($count:literal)*) => {
+            match channels.count() {
+                $($count => run_tiles(rt, alloc, &MultiTiles::<$count>::new(channels, m, k, tile), workers, gate),)*
+                _ => run_tiles(rt, alloc, &MultiTiles::<8>::new(channels, m, k, tile), workers, gate),
+            }
+        };
+    }
+    by_count!(1 2 3 4 5 6 7)
 }

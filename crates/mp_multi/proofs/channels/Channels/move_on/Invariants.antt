@@ -1,0 +1,13 @@
+use Rattle.std.proofs.Common.{◌≡◌, ℕ, ◌+◌, ◌<◌, ◌≤◌, length, get_or}
+use Rattle.mp_multi.specs.declared.running.Running.{Running}
+use Rattle.mp_multi.proofs.ChannelLemmas.{RunningIn}
+use Rattle.mp_multi.proofs.channels.Channels.move_on.Given as goal
+
+abbrev pub invariant-loop-c : goal.invariant-loop-c
+invariant-loop-c g l = record {
+  places : length l.running ≡ g.row.D;
+  done : (q : ℕ) (past : Running) → q < l.c
+      → RunningIn l.self.m l.self.list.now (l.i + 1) (l.j + 1) q (get_or l.running q past);
+  left : (q : ℕ) (past : Running) → l.c ≤ q → q < length l.running
+      → RunningIn l.self.m l.self.list.now l.i l.j q (get_or l.running q past);
+}

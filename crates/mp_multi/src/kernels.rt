@@ -1,0 +1,89 @@
+//! The tiles of several channels as the pieces of a kernel.
+
+ghost use Rattle.std.specs.Prelude.{◌≡◌, ◌+◌, ◌≤◌, [], ◌∷◌, length, map, slice_index_or};
+ghost use Rattle.mp_defs.specs.Series.{series_of};
+ghost use Rattle.mp_defs.specs.Window.{excl as zone};
+ghost use Rattle.mp_results.specs.Multi.{multi_of};
+ghost use Rattle.mp_multi.specs.Conditions.{AreChannels};
+
+use crate::scans::scan_multi;
+use mp_cuts::{Cut, MAX_TILE, MAX_TILES, cut_own};
+use mp_nums::Slots;
+use mp_partial::Kernel;
+use mp_series::{Bundle, excl, windows};
+use std::marker::Model;
+
+/// The tiles of `D` channels as the pieces of a kernel, whose values together are the multidimensional profile.
+#[derive(Drop)]
+pub(crate) struct MultiTiles<'a, const D: usize> {
+    channels: &'a Bundle,
+    m: u32,
+    k: u64,
+    cut: Cut,
+}
+
+impl<'a, const D: usize> Model for MultiTiles<'a, D> {
+    ghost use Rattle.mp_multi.specs.Tiling.{MultiTiling, IsMultiTiling};
+
+    ghost Value = { MultiTiling };
+
+    ghost view = { λ own. record { channels = own.channels.now; m = own.m; k = own.k; tiles = own.cut } };
+
+    ghost invariant = { λ own. IsMultiTiling D
+        (record { channels = own.channels.now; m = own.m; k = own.k; tiles = own.cut }) };
+}
+
+impl<'a, const D: usize> MultiTiles<'a, D> {
+    ghost use Rattle.mp_cuts.specs.Cutting.{own_tiles};
+    ghost use Rattle.mp_multi.specs.Tiling.{multi_together, window_count};
+
+    /// The tiles of at most `tile` diagonals of the channels' windows of length `m`, of which `k` are taken together.
+    /// It takes no memory.
+    pub(crate) fn new(channels: &'a Bundle, m: u32, k: u64, tile: u32) -> MultiTiles<'a, D>
+        requires channels { AreChannels channels.now m k }
+        requires count { length channels.now ≡ D }
+        requires least { 1 ≤ tile }
+        requires greatest { tile ≤ MAX_TILE }
+        ensures channels { result.channels ≡ channels.now }
+        ensures few { length result.tiles ≤ MAX_TILES }
+        ensures together { multi_together result ≡ multi_of m k (map series_of channels.now) ∷ [] }
+    {
+        let count = windows(channels.series(0).len() as u64, m);
+        MultiTiles {
+            channels,
+            m,
+            k,
+            cut: cut_own(count, excl(m), tile),
+        }
+    }
+}
+
+impl<'a, const D: usize> Kernel for MultiTiles<'a, D> {
+    ghost use Rattle.std.specs.Prelude.{length, slice_index_or};
+    ghost use Rattle.mp_cuts.specs.Pairs.{has_pair, no_tile};
+    ghost use Rattle.mp_multi.specs.Tiling.{multi_size, multi_value};
+    ghost use Rattle.mp_multi.specs.TilingLaws.{among_has_places};
+
+    type Out = Slots;
+
+    ghost size_of = { multi_size };
+
+    ghost pieces_of = { λ own. length own.tiles };
+
+    ghost value_of = { multi_value };
+
+    ghost has_values = { λ own piece _.
+        among_has_places (has_pair 0 (slice_index_or own.tiles piece no_tile)) own.m own.k own.channels };
+
+    fn size(&self) -> u64 {
+        windows(self.channels.series(0).len() as u64, self.m)
+    }
+
+    fn pieces(&self) -> u64 {
+        self.cut.count()
+    }
+
+    fn run(&self, piece: u64, into: &mut Slots) {
+        scan_multi::<D>(self.channels, self.m, self.k, &self.cut.tile(piece), into);
+    }
+}
