@@ -6,6 +6,8 @@
 #[cfg(test)]
 mod bounds;
 #[cfg(test)]
+mod centres;
+#[cfg(test)]
 mod cores;
 #[cfg(test)]
 mod desks;

@@ -167,17 +167,11 @@ step m list n None (Some a) h k =
 step m list n (Some c) None h k = stays m list n c h (λ i r window e. absurd (none_some (sym (k i window) ∙ e)))
 step m list n (Some c) (Some a) h k = choice m list n c a h k (nat_lt a.dist.0 c.radius) refl
 
-least_among : (m : ℕ) (list : List Series) (n : ℕ) → LeastAmongIs m list n (centre_among m list n)
+pub least_among : (m : ℕ) (list : List Series) (n : ℕ) → LeastAmongIs m list n (centre_among m list n)
 unfolding centre_among
 least_among m list zero = λ p i lt. absurd (omega (arith, lt))
 least_among m list (suc n) =
     step m list n (centre_among m list n) (least_at m list n) (least_among m list n) (least_at_is m list n)
-
--- the least window of a place is a window
-pub least_is_window : (m : ℕ) (list : List Series) (n : ℕ) (a : Near) → least_at m list n ≡ Some a
-    → a.index < windows_of m (series_at list n)
-least_is_window m list n a e =
-    let least : IsLeastAt m list n a = subst (LeastAtIs m list n) e (least_at_is m list n) in least.window
 
 -- ---- the windows of a centre
 

@@ -1,5 +1,8 @@
 pub mod Steps
-pub mod Counterparts
 pub mod Radii
 pub mod LeastCentres
 pub mod Bounding
+pub mod Searching
+pub mod Scanning
+pub mod Reaching
+pub mod Pieces

@@ -67,12 +67,12 @@ farthest_is f (suc n) = farthest_step f n (farthest f n) (f n) refl (farthest_is
 
 -- ---- the other places
 
-counterpart_own : (m : ℕ) (list : List Series) (p i : ℕ) → counterpart m list p i p ≡ Some (near_at i 0)
+pub counterpart_own : (m : ℕ) (list : List Series) (p i : ℕ) → counterpart m list p i p ≡ Some (near_at i 0)
 counterpart_own m list p i =
     let own : (p == p) ≡ true = grind (arith, nat_tests) in
     ap (λ t. if t then Some (near_at i 0) else join_entry m (series_at list p) (series_at list p) i) own
 
-counterpart_other : (m : ℕ) (list : List Series) (p i q : ℕ) → q ≢ p
+pub counterpart_other : (m : ℕ) (list : List Series) (p i q : ℕ) → q ≢ p
     → counterpart m list p i q ≡ join_entry m (series_at list p) (series_at list q) i
 counterpart_other m list p i q ne =
     let other : (p == q) ≡ false = grind (arith, nat_tests, ne) in

@@ -2,6 +2,7 @@
 
 ghost use Rattle.std.specs.Prelude.{◌≡◌, ◌<◌, ◌≤◌, length, IfOk, IfSome, IfNone};
 ghost use Rattle.mp_consensus.specs.Bounds.{HasLeast, least_radius, no_bound};
+ghost use Rattle.mp_consensus.specs.Searches.{IsPast};
 
 use crate::centres::MAX_SERIES;
 use crate::lookers::{Another, Compared, Looker, LookerView, Lower, Read, SharedRule};
@@ -82,6 +83,19 @@ impl<'a> Bound<'a> {
             None
         } else {
             Some(Sq(u128::from(word)))
+        }
+    }
+
+    /// A distance at which no window is the centre: one more than the least radius that was told so far.
+    pub(crate) fn end(&self, looker: &mut Looker) -> Option<Sq>
+        requires { looker.old.bound ≡ self.now }
+        ensures bound { looker.new.bound ≡ looker.old.bound }
+        ensures least { looker.new.least ≡ looker.old.least }
+        ensures past { IfSome result (λ end. IsPast looker.old.least end.0) }
+    {
+        match self.read(looker) {
+            Some(radius) if radius.0 < u128::MAX => Some(Sq(radius.0 + 1)),
+            _ => None,
         }
     }
 

@@ -1,67 +1,95 @@
 //! The centre of several series.
 
-ghost use Rattle.std.specs.Prelude.{◌≡◌, ◌<◌, ◌≤◌, length, map, All, IfOk};
+ghost use Rattle.std.specs.Prelude.{◌≡◌, ◌+◌, ◌<◌, ◌≤◌, length, map, All, IfOk};
 ghost use Rattle.std.specs.Option.{option_map};
 ghost use Rattle.mp_series.specs.declared.limits.TheConstants.{MAX_SAMPLES, MAX_WINDOW, MIN_WINDOW};
 ghost use Rattle.mp_partial.specs.declared.limits.TheConstants.{MAX_WORKERS};
 ghost use Rattle.mp_defs.specs.Series.{series_of};
+ghost use Rattle.mp_consensus.specs.Blocks.{windows_at};
 ghost use Rattle.mp_consensus.specs.Conditions.{MayBeCompared};
-ghost use Rattle.mp_results.specs.Consensus.{central, central_at, least_at, lesser, centre_of};
+ghost use Rattle.mp_results.specs.Consensus.{central, centre_of, counterpart, those_there};
 
-use crate::columns::counterpart_columns;
-use crate::reaches::{least_reach, windows_at};
-use mp_nums::{Centre, Memory};
+use crate::blocks::{Block, rows_of, scan_all};
+use crate::searches::search;
+use mp_nums::{Centre, Items, Memory, Near, NearList, Slot, Sq};
 use mp_outside::Gate;
-use mp_series::{Bundle, windows};
+use mp_partial::MAX_WORKERS;
+use mp_series::{Bundle, MAX_SAMPLES, MAX_WINDOW, MIN_WINDOW};
 use std::alloc::Global;
 use std::thread::Threads;
 
 /// The most series that are compared.
 pub const MAX_SERIES: u64 = 64;
 
-/// The window of least radius of the series at a place, the first among equals.
-fn centre_at<R: Threads + Sync, G: Gate>(
-    rt: &R,
+/// For how many pairs of samples a worker is started. Fewer pairs take less time than the start of a thread.
+const PAIRS_FOR_A_WORKER: u64 = 262_144;
+
+/// How many of the workers the pairs of all samples of the list are worth, at least one.
+fn worth(list: &Bundle, workers: u32) -> u32
+    requires { 1 ≤ workers }
+    ensures some { 1 ≤ result }
+    ensures within { result ≤ workers }
+{
+    let mut samples: u64 = 0;
+    for place in 0..list.count() {
+        samples = samples.saturating_add(list.series(place).len() as u64);
+    }
+    (samples.saturating_mul(samples) / PAIRS_FOR_A_WORKER).clamp(1, u64::from(workers)) as u32
+}
+
+/// At place `other` the window nearest to the one that starts at `start` at `place`, and this itself at its own place.
+fn counterpart(
     alloc: Global,
     list: &Bundle,
     m: u32,
-    workers: u32,
-    gate: &G,
     place: u64,
-) -> Result<Option<Centre>, Memory>
-    requires conditions { MayBeCompared list.now m workers }
+    start: u64,
+    other: u64,
+) -> Result<Slot, Memory>
+    requires conditions { MayBeCompared list.now m }
     requires place { place < length list.now }
-    ensures { IfOk result (λ found. option_map central found
-        ≡ option_map (central_at m (map series_of list.now) place) (least_at m (map series_of list.now) place)) }
+    requires window { start < windows_at m list.now place }
+    requires other { other < length list.now }
+    ensures { IfOk result (λ slot. slot ≡ counterpart m (map series_of list.now) place start other) }
 {
-    let columns = counterpart_columns(rt, alloc, list, m, workers, gate, place)?;
-    let count = windows(list.series(place).len() as u64, m);
-    let Some(least) = least_reach(columns.as_slice(), count) else {
-        return Ok(None);
+    if other == place {
+        return Ok(Some(Near {
+            dist: Sq(0),
+            index: start,
+        }));
+    }
+    let block = Block {
+        place,
+        start,
+        count: 1,
     };
-    Ok(Some(Centre {
-        radius: least.dist,
-        series: place,
-        start: least.index,
-        nearest: windows_at(alloc, columns.as_slice(), least.index as usize)?,
-    }))
+    let mut slots = Items::new(alloc);
+    slots.push(None)?;
+    scan_all(rows_of(list, m, block), list.series(other), m, &mut slots);
+    Ok(slots.as_slice()[0])
 }
 
-/// The one of lesser radius, the first where both have the same.
-fn lesser(first: Option<Centre>, second: Option<Centre>) -> Option<Centre>
-    ensures { option_map central result ≡ lesser (option_map central first) (option_map central second) }
+/// The same at each place that has one.
+fn counterparts(
+    alloc: Global,
+    list: &Bundle,
+    m: u32,
+    place: u64,
+    start: u64,
+) -> Result<NearList, Memory>
+    requires conditions { MayBeCompared list.now m }
+    requires place { place < length list.now }
+    requires window { start < windows_at m list.now place }
+    ensures { IfOk result (λ nearest. nearest.items
+        ≡ those_there (counterpart m (map series_of list.now) place start) (length list.now)) }
 {
-    match (first, second) {
-        (Some(first), Some(second)) => {
-            if second.radius < first.radius {
-                Some(second)
-            } else {
-                Some(first)
-            }
+    let mut nearest = Items::new(alloc);
+    for other in 0..list.count() {
+        if let Some(near) = counterpart(alloc, list, m, place, start, other)? {
+            nearest.push(near)?;
         }
-        (first, None) => first,
-        (None, second) => second,
     }
+    Ok(nearest)
 }
 
 /// The centre of 2 to 64 series at window length `m`, by so many workers. It is the same for every number of workers
@@ -73,8 +101,9 @@ fn lesser(first: Option<Centre>, second: Option<Centre>) -> Option<Centre>
 /// the one that starts first. `nearest` has one window for each place: the nearest one, and at the centre's own place
 /// the centre itself. A series that is named twice stands at two places, and no window is too near to be compared.
 ///
-/// The centre is the consensus motif of the Matrix Profile papers; the order among equals is this project's own. Each
-/// series is joined with each other one. While those of one series are compared, all of them are kept.
+/// The centre is the consensus motif of the Matrix Profile papers; the order among equals is this project's own. Workers
+/// look at blocks of windows of one series, and tell each other the least radius that they have found. A window is given
+/// up as soon as it is farther than that from all windows of some other series.
 pub fn consensus<R: Threads + Sync, G: Gate>(
     rt: &R,
     alloc: Global,
@@ -92,10 +121,14 @@ pub fn consensus<R: Threads + Sync, G: Gate>(
     requires workers { workers ≤ MAX_WORKERS }
     ensures { IfOk result (λ found. option_map central found ≡ centre_of m (map series_of list.now)) }
 {
-    let mut best = None;
-    for place in 0..list.count() {
-        let found = centre_at(rt, alloc, list, m, workers, gate, place)?;
-        best = lesser(best, found);
-    }
-    Ok(best)
+    let workers = worth(list, workers);
+    let Some(best) = search(rt, alloc, list, m, workers, gate)? else {
+        return Ok(None);
+    };
+    Ok(Some(Centre {
+        radius: best.radius,
+        series: best.place,
+        start: best.start,
+        nearest: counterparts(alloc, list, m, best.place, best.start)?,
+    }))
 }

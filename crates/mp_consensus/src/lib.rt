@@ -1,13 +1,16 @@
 //! The centre of several series: the window that they have in common.
 #![tactic(auto)]
 
+mod blocks;
 mod bounds;
+mod candidates;
 mod centres;
-mod columns;
 mod examples;
 mod laws;
 mod lookers;
-mod reaches;
+mod rows;
+mod searchers;
+mod searches;
 
 pub use bounds::Bound;
 pub use centres::{MAX_SERIES, consensus};

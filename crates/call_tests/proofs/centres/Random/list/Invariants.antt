@@ -1,0 +1,10 @@
+use Rattle.std.proofs.Common.{◌≡◌, ◌≤◌, All, length}
+use Rattle.mp_series.specs.declared.limits.TheConstants.{MAX_SAMPLES}
+use Rattle.call_tests.proofs.centres.Random.list.Given as goal
+
+abbrev pub invariant-loop : goal.invariant-loop
+invariant-loop l = record {
+  count : length l.list ≡ l.counter;
+  samples : All (λ series. length series ≤ MAX_SAMPLES) l.list;
+  last : length l.series.items ≤ MAX_SAMPLES;
+}
