@@ -541,8 +541,7 @@ writes_text call text none same some whole front flushed kept = record {
       (same files bytes) (whole before);
   front = λ files bytes before input.
       subst (λ t. HasRoom call before t → TellsPrefix call.new.written before t) (same files bytes) (front before);
-  read_fault = λ setup files bytes before told is calm. absurd (none setup told.setup_is);
-  fetch_fault = λ setup files bytes before told is calm. absurd (none setup told.setup_is);
+  read_fault = λ setup files bytes before told is. absurd (none setup told.setup_is);
   input_limit = λ setup files bytes before told is. absurd (none setup told.setup_is);
   memory = λ setup files bytes before told is. absurd (none setup told.setup_is);
   quiet = λ files bytes input nothing. absurd (some (same files bytes ∙ nothing));
@@ -569,8 +568,7 @@ nothing_done words limit outside some = record {
     whole = λ files bytes before input room whole. cc;
     front = λ files bytes before input room.
         nothing_written outside.written before (output words files bytes) room.tells;
-    read_fault = λ setup files bytes before told is calm. cc;
-    fetch_fault = λ setup files bytes before told is calm. cc;
+    read_fault = λ setup files bytes before told is. cc;
     input_limit = λ setup files bytes before told is. cc;
     memory = λ setup files bytes before told is. (0, told.room.tells ∙ ap Some (sym (append-nil before)));
     quiet = λ files bytes input nothing. refl;

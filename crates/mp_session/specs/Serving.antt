@@ -25,14 +25,14 @@ pub record WritesOutput {Sh Out : Type 0} (call : Call Sh Out) : Type 0 where
       → HasRoom call before (output call.words files bytes)
       → TellsPrefix call.new.written before (output call.words files bytes)
   -- Which front it is: behind a failed read of the input, the reports of all lines that an LF ended before it; behind
-  -- the limit on input, those of the lines ended within it; behind a failed read of a file, those of all lines before
-  -- the one that asks for it; for want of memory, those of whole lines.
+  -- a failed read of a file, those of all lines before the one that asks for it; behind the limit on input, those of
+  -- the lines ended within it; for want of memory, those of whole lines.
   pub read_fault : (setup : Setup) (files : Files) (bytes before : List ℕ) → IsTold call setup files bytes before
-      → call.status ≡ statuses.ReadFault → ¬ Rose call.old.fetch_faults call.new.fetch_faults
-      → ToldTaken (opening setup.window setup.scale) files bytes call.new.left before call.new.written
-  pub fetch_fault : (setup : Setup) (files : Files) (bytes before : List ℕ) → IsTold call setup files bytes before
-      → call.status ≡ statuses.ReadFault → ¬ Rose call.old.read_faults call.new.read_faults
-      → ToldToFile (opening setup.window setup.scale) files bytes before call.new.written
+      → call.status ≡ statuses.ReadFault
+      → (Rose call.old.read_faults call.new.read_faults
+      × ToldTaken (opening setup.window setup.scale) files bytes call.new.left before call.new.written)
+      ⊎ (Rose call.old.fetch_faults call.new.fetch_faults
+      × ToldToFile (opening setup.window setup.scale) files bytes before call.new.written)
   pub input_limit : (setup : Setup) (files : Files) (bytes before : List ℕ) → IsTold call setup files bytes before
       → call.status ≡ statuses.InputLimit
       → call.new.written

@@ -63,16 +63,11 @@ returns g c = λ words asked.
             let k = tells files bytes before input room in
             subst (λ (t : List ℕ). TellsPrefix (g.K.Sink.written out) before t) (is_output files bytes)
             (⊎_elim (λ some. some_front k some) (λ into. into_front k into.1) ran);
-        read_fault = λ setup files bytes before told is calm.
+        read_fault = λ setup files bytes before told is.
             rw (← same setup told.setup_is)
-            (told_taken (tells files bytes before told.input told.room)
-            (lines.read_fault
-            (⊎_elim (λ e. e) (λ e. absurd (calm (lines.shelf.fault e))) (on_read_fault r status by is))));
-        fetch_fault = λ setup files bytes before told is calm.
-            rw (← same setup told.setup_is)
-            (told_to_file (tells files bytes before told.input told.room)
-            (lines.shelf_fault
-            (⊎_elim (λ e. absurd (calm (lines.source.fault e))) (λ e. e) (on_read_fault r status by is))));
+            (let k = tells files bytes before told.input told.room in
+            ⊎_elim (λ e. inl (lines.source.fault e, told_taken k (lines.read_fault e)))
+            (λ e. inr (lines.shelf.fault e, told_to_file k (lines.shelf_fault e))) (on_read_fault r status by is));
         input_limit = λ setup files bytes before told is.
             rw (← same setup told.setup_is)
             (told_within (tells files bytes before told.input told.room)
