@@ -1,7 +1,7 @@
 //! The matrix profile of whole-number series: commands on standard input, reports on standard output.
 #![tactic(auto)]
 
-ghost use Rattle.std.specs.Prelude.{◌≡◌};
+ghost use Rattle.std.specs.Prelude.{◌≡◌, IfOk, OnErr};
 ghost use Rattle.std.specs.Process.{exit_status};
 ghost use Rattle.mp_session.specs.Statuses.{number};
 
@@ -16,17 +16,19 @@ use std::rt::{Env, Files};
 use std::thread::Threads;
 
 fn main(rt: HostRuntime) -> ExitCode {
-    let status = match run(&rt, &rt) {
+    exit_code(run(&rt, &rt))
+}
+
+/// The code that the program exits with: the number of the run's status, that of `Memory` where there was none to begin
+/// it.
+fn exit_code(outcome: Result<Status, Memory>) -> ExitCode
+    ensures status { IfOk outcome (λ status. exit_status result ≡ number status) }
+    ensures memory { OnErr outcome (exit_status result ≡ number Status.Memory) }
+{
+    let status = match outcome {
         Ok(status) => status,
         Err(Memory) => Status::Memory,
     };
-    exit_code(status)
-}
-
-/// The code that the program exits with: the status's number.
-fn exit_code(status: Status) -> ExitCode
-    ensures { exit_status result ≡ number status }
-{
     ExitCode::from(status as u8)
 }
 
