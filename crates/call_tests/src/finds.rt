@@ -1,6 +1,7 @@
 //! What is found in columns: chains, arcs, regimes, and how far apart two series are.
 
-ghost use Rattle.std.specs.Prelude.{◌≤◌};
+ghost use Rattle.std.specs.Prelude.{◌≡◌, ◌≤◌, replicate, IfOk, None};
+ghost use Rattle.mp_results.specs.Columns.{AreColumns};
 ghost use Rattle.mp_arcs.specs.declared.curves.TheConstants.{MAX_FACTOR};
 
 use mp_arcs::{ArcBoard, arcs, corrected, regimes};
@@ -8,6 +9,7 @@ use mp_chains::{all_chains, anchored, longest};
 use mp_mpdist::mpdist;
 use mp_nums::{Near, Places, Ratio, Slot, Sq};
 use mp_series::MAX_SAMPLES;
+use std::alloc::{AllocError, Global};
 use std::process::Abort;
 use std::test::Fail;
 
@@ -62,6 +64,24 @@ fn all_chains_and_the_longest(rt: HostRuntime) -> Result<(), Fail> {
 fn no_windows_have_no_chains(rt: HostRuntime) -> Result<(), Fail> {
     let chains = all_chains(rt.alloc(), &[], &[])?;
     expect_chains(&rt, chains.as_slice(), &[], None);
+    Ok(())
+}
+
+/// A column of windows that have no neighbours.
+fn no_neighbours(alloc: Global, count: u64) -> Result<Vec<Slot>, AllocError>
+    ensures empty { IfOk result (λ column. column.items ≡ replicate count None) }
+    ensures columns { IfOk result (λ column. AreColumns column.items column.items) }
+{
+    vec![in alloc; None; count as usize]
+}
+
+// Each window is a chain of its own. Room for as many windows as there are in each of these would be 512 GiB.
+#[test]
+fn windows_without_neighbours_are_chains_of_one(rt: HostRuntime) -> Result<(), Fail> {
+    let none = no_neighbours(rt.alloc(), MAX_SAMPLES)?;
+    let chains = all_chains(rt.alloc(), none.as_slice(), none.as_slice())?;
+    assert_eq!(rt; chains.len(), none.len());
+    assert_eq!(rt; longest(chains.as_slice()), Some(0));
     Ok(())
 }
 

@@ -25,6 +25,20 @@ fn an_empty_series_takes_samples(rt: HostRuntime) -> Result<(), Fail> {
     expect_push(&rt, &mut samples)
 }
 
+// More room than there is.
+#[test]
+fn room_that_is_refused_leaves_a_series(rt: HostRuntime) -> Result<(), Fail> {
+    let mut samples = Samples::new(rt.alloc());
+    expect_push(&rt, &mut samples)?;
+    for room in [1 << 59, u64::MAX] {
+        assert_eq!(rt; samples.reserve(room), Err(Memory));
+        assert_eq!(rt; samples.len(), 1);
+    }
+    samples.push(sample(Some(8)))?;
+    assert_eq!(rt; samples.get(0), sample(Some(7)));
+    Ok(())
+}
+
 /// Why there is no copy of these samples, or why it takes no more, and else how many it has and how often they were
 /// read.
 fn copied(alloc: Global, series: &[Sample]) -> Result<(u64, u128), PushRefusal> {

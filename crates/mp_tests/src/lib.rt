@@ -6,10 +6,20 @@
 #[cfg(test)]
 mod appends;
 #[cfg(test)]
+mod calls;
+#[cfg(test)]
+mod damaged;
+#[cfg(test)]
 mod faults;
 #[cfg(test)]
 mod limits;
 #[cfg(test)]
+mod long_series;
+#[cfg(test)]
 mod replies;
 #[cfg(test)]
 mod run;
+#[cfg(test)]
+mod single_faults;
+#[cfg(test)]
+mod workers;

@@ -3,11 +3,10 @@
 ghost use Rattle.std.specs.Prelude.{◌+◌, ◌-◌, ◌^◌, ◌<◌, ◌≤◌};
 
 use crate::run::{CALM, Run, shelf_of};
-use mp_outside::{MeetGate, MemShelf, OpenGate};
+use mp_outside::{MemShelf, OpenGate};
 use mp_session::ReplyKind::{Accepted, Ended, Quiet, Refused};
 use mp_session::{Reply, ReplyKind, Session, Settings, Stop};
 use std::process::Abort;
-use std::test::Fail;
 use std::thread::Threads;
 
 /// By how much a line raises the reads of slots at most, or `None` for slots that are closed behind it.
@@ -63,6 +62,19 @@ fn check_reads(
     }
 }
 
+/// Expects that a line at which the run stopped has lowered no count of reads.
+fn check_kept(
+    rt: &impl Abort,
+    session: &Session,
+    before: &[Option<u128>],
+    rises: Rises<'_>,
+    line: &str,
+) {
+    for ((slot, _), before) in rises.iter().zip(before) {
+        assert!(rt; *before <= session.reads(*slot), "slot {slot}, {line}");
+    }
+}
+
 fn check_answer(rt: &impl Abort, answer: &Result<Reply, Stop>, turn: &Turn<'_>) {
     let (line, kind, report, _) = *turn;
     match answer {
@@ -87,6 +99,9 @@ fn check_turn<R: Abort + AllocGlobal + Threads + Sync>(
     let before = reads_of(rt, session, rises);
     let answer = session.run(rt, rt.alloc(), line.as_bytes(), shelf, &OpenGate);
     check_answer(rt, &answer, turn);
+    if answer.is_err() {
+        check_kept(rt, session, before.as_slice(), rises, line);
+    }
     check_reads(rt, session, before.as_slice(), rises, line);
 }
 
@@ -101,7 +116,7 @@ fn check<R: Abort + AllocGlobal + Threads + Sync>(rt: &R, talk: &Talk<'_>) {
     }
 }
 
-static TALKS: [Talk; 8] = [
+static TALKS: [Talk; 9] = [
     Talk {
         shows: "lines are quiet, accepted or refused, or end the run",
         failing_fetch: None,
@@ -255,6 +270,39 @@ static TALKS: [Talk; 8] = [
         ],
     },
     Talk {
+        shows: "a load that was stopped leaves the slots and their reads",
+        failing_fetch: Some(0),
+        turns: &[
+            ("append 0 1 2 3 4", Ok(Accepted), "ok 1 4\n", &[]),
+            ("open 7 1", Ok(Accepted), "ok 2 0\n", &[]),
+            ("append 7 5 6 7", Ok(Accepted), "ok 3 3\n", &[]),
+            (
+                "match 0 7 0 99 1",
+                Ok(Accepted),
+                "match 4 1\n27 1\n",
+                &[(0, Some(16)), (7, Some(9))],
+            ),
+            (
+                "load 7 table.csv 0",
+                Err(Stop::ShelfFault),
+                "",
+                &[(0, Some(0)), (6, None), (7, Some(0))],
+            ),
+            (
+                "window 7 0",
+                Ok(Accepted),
+                "window 5 0 5 6 7\n",
+                &[(0, Some(0)), (7, Some(9))],
+            ),
+            (
+                "window 0 1",
+                Ok(Accepted),
+                "window 6 1 2 3 4\n",
+                &[(0, Some(16)), (7, Some(0))],
+            ),
+        ],
+    },
+    Talk {
         shows: "a load that was stopped is not accepted, and a version may be stated behind it",
         failing_fetch: Some(0),
         turns: &[
@@ -271,34 +319,4 @@ fn a_session_answers_line_by_line(rt: HostRuntime) {
     for talk in TALKS {
         check(&rt, &talk);
     }
-}
-
-/// Loads a table of two thousand records by two workers.
-fn load_by_two<R: Abort + AllocGlobal + Threads + Sync>(
-    rt: &R,
-    shelf: &mut MemShelf,
-    gate: &MeetGate,
-) {
-    let settings = Settings::new(3, 0, 256, 2).expect(rt, "within the limits");
-    let mut session = Session::new(rt, rt.alloc(), settings).expect(rt, "memory is short");
-    let line = "load 0 table.csv 0";
-    let answer = session.run(rt, rt.alloc(), line.as_bytes(), shelf, gate);
-    check_answer(rt, &answer, &(line, Ok(Accepted), "ok 1 2000\n", &[]));
-}
-
-#[test]
-fn two_workers_of_a_load_meet(rt: HostRuntime) -> Result<(), Fail> {
-    let mut file = Vec::new(rt.alloc());
-    for _ in 0..2_000 {
-        file.extend_from_slice(b"1\n")?;
-    }
-    let run = Run {
-        file: file.as_slice(),
-        ..CALM
-    };
-    let mut shelf = shelf_of(&rt, &run);
-    let gate = MeetGate::new();
-    load_by_two(&rt, &mut shelf, &gate);
-    assert!(rt; gate.met());
-    Ok(())
 }

@@ -10,13 +10,15 @@ use std::thread::Threads;
 /// How many bytes of output are kept: more than any run here writes.
 const ROOM: u64 = 1_048_576;
 
-/// A whole run with a file `table.csv`, where a call of the outside may fail. The calls of each kind are counted from
+/// A whole run with one file, where a call of the outside may fail. The calls of each kind are counted from
 /// 0, the writes and flushes together.
 #[derive(Clone, Copy)]
 pub(crate) struct Run<'a> {
     pub(crate) shows: &'a str,
     /// The words behind the program's name, with one space between two.
     pub(crate) words: &'a str,
+    /// The name of the file.
+    pub(crate) name: &'a [u8],
     pub(crate) file: &'a [u8],
     pub(crate) input: &'a [u8],
     /// The most bytes of an input, where they aren't those of the program.
@@ -39,6 +41,7 @@ pub(crate) struct Run<'a> {
 pub(crate) const CALM: Run = Run {
     shows: "",
     words: "--window 3",
+    name: b"table.csv",
     file: b"1\n2\n3\n",
     input: b"append 0 1 2 3\nprofile 0\n",
     limit: None,
@@ -130,12 +133,12 @@ fn bytes_of<R: Abort + AllocGlobal>(rt: &R, bytes: &[u8]) -> Vec<u8> {
 
 pub(crate) fn shelf_of<R: Abort + AllocGlobal>(rt: &R, run: &Run<'_>) -> MemShelf {
     let mut shelf = MemShelf::new(rt.alloc(), plan(rt, run.failing_fetch));
-    let put = shelf.put(bytes_of(rt, b"table.csv"), bytes_of(rt, run.file));
+    let put = shelf.put(bytes_of(rt, run.name), bytes_of(rt, run.file));
     assert!(rt; put.is_ok());
     shelf
 }
 
-fn source_of<R: Abort + AllocGlobal>(rt: &R, run: &Run<'_>) -> MemSource
+pub(crate) fn source_of<R: Abort + AllocGlobal>(rt: &R, run: &Run<'_>) -> MemSource
     ensures { ⟦<MemSource as Source>⟧.given result ≡ 0 }
 {
     MemSource::new(
