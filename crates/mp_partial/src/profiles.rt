@@ -212,6 +212,29 @@ impl Profile {
         self.right.push(right).unwrap();
     }
 
+    /// The columns, of all, of the left and of the right.
+    pub fn into_columns(self) -> (Slots, Slots, Slots)
+        ensures all { result.0.items ≡ self.all }
+        ensures left { result.1.items ≡ self.left }
+        ensures right { result.2.items ≡ self.right }
+        ensures all_spare { self.spare ≤ result.0.spare }
+        ensures left_spare { self.spare ≤ result.1.spare }
+        ensures right_spare { self.spare ≤ result.2.spare }
+    {
+        (self.all, self.left, self.right)
+    }
+
+    /// The profile of the columns, of which the first has the nearer window of both others at each place.
+    pub fn of(all: Slots, left: Slots, right: Slots) -> Profile
+        requires places { length right.items ≡ length left.items }
+        requires nearer { all.items ≡ merged_column left.items right.items }
+        ensures all { result.all ≡ all.items }
+        ensures left { result.left ≡ left.items }
+        ensures right { result.right ≡ right.items }
+    {
+        Profile { all, left, right }
+    }
+
     /// Adds a window that was not compared with any.
     pub fn grow(&mut self)
         requires { 0 < self.old.spare }

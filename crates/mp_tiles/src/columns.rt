@@ -1,6 +1,6 @@
 //! The nearest windows on one side, and what residues tell of them.
 
-ghost use Rattle.std.specs.Prelude.{◌≡◌, ℕ, ◌+◌, ◌^◌, ◌<◌, ◌≤◌, length, slice_index_or, IfOk, None, true};
+ghost use Rattle.std.specs.Prelude.{◌≡◌, ℕ, ◌+◌, ◌^◌, ◌<◌, ◌≤◌, [], length, slice_index_or, IfOk, None, true};
 ghost use Rattle.mp_series.specs.declared.limits.TheConstants.{MAX_SAMPLES};
 ghost use Rattle.mp_sums.specs.Limits.{IsBeyond};
 ghost use Rattle.mp_scans.specs.Offering.{TellsNothing};
@@ -10,7 +10,7 @@ ghost use Rattle.mp_tiles.specs.Compact.{AreBounds, slot_bound};
 ghost use Rattle.mp_tiles.specs.Scanning.{taken};
 
 use crate::compact::{Compact, no_windows, slot_at};
-use mp_nums::{Memory, Near, Slot};
+use mp_nums::{Memory, Near, Slot, Slots};
 use mp_scans::limit_of;
 use mp_sums::{ALWAYS, Limit, Rounding, ZERO};
 use std::alloc::Global;
@@ -256,6 +256,17 @@ impl Column {
     {
         for k in 0..self.len() {
             self.take(k, other.slots.as_slice()[k].copy());
+        }
+    }
+
+    /// Puts what was found for each window into a column of none, which has room for it. It takes no memory.
+    pub(crate) fn put(&self, slots: &mut Slots)
+        requires no_window { slots.old.items ≡ [] }
+        requires spare { length self.now ≤ slots.old.spare }
+        ensures { slots.new.items ≡ self.now }
+    {
+        for k in 0..self.len() {
+            slots.push(self.slot(k)).unwrap();
         }
     }
 

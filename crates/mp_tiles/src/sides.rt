@@ -10,7 +10,7 @@ ghost use Rattle.mp_tiles.specs.LimitLaws.{keeps_row_sides, keeps_column_sides, 
 
 use crate::columns::Column;
 use crate::offers::OnBothSides;
-use mp_nums::{Memory, Near, Sq};
+use mp_nums::{Memory, Near, Slots, Sq, nearer};
 use mp_partial::{Part, Profile};
 use mp_scans::Offers;
 use mp_sums::{Limit, Rounding};
@@ -84,6 +84,38 @@ impl Sides {
         to_right | to_left
     }
 
+    /// Puts what was found on the left into a column of no windows, which has room for it. It takes no memory.
+    pub fn put_left(&self, column: &mut Slots)
+        requires no_window { column.old.items ≡ [] }
+        requires spare { length self.now.left ≤ column.old.spare }
+        ensures { column.new.items ≡ self.now.left }
+    {
+        self.left.put(column);
+    }
+
+    /// Puts what was found on the right into a column of no windows, which has room for it. It takes no memory.
+    pub fn put_right(&self, column: &mut Slots)
+        requires no_window { column.old.items ≡ [] }
+        requires spare { length self.now.left ≤ column.old.spare }
+        ensures { column.new.items ≡ self.now.right }
+    {
+        let _places = self.len();
+        self.right.put(column);
+    }
+
+    /// Puts the nearer window of both sides at each place into a column of no windows, which has room for it. It takes
+    /// no memory.
+    pub fn put_nearer(&self, column: &mut Slots)
+        requires no_window { column.old.items ≡ [] }
+        requires spare { length self.now.left ≤ column.old.spare }
+        ensures { column.new.items ≡ merged_column self.now.left self.now.right }
+    {
+        let (left, right) = (&self.left, &self.right);
+        for k in 0..left.len() {
+            column.push(nearer(left.slot(k), right.slot(k))).unwrap();
+        }
+    }
+
     /// The profile of what was found, in the room of a profile of no windows. It takes no memory.
     pub fn profile(&self, room: Profile) -> Profile
         requires no_window { room.all ≡ [] }
@@ -94,12 +126,12 @@ impl Sides {
         ensures right { result.right ≡ self.now.right }
         ensures all { result.all ≡ merged_column self.now.left self.now.right }
     {
-        let (left, right) = (&self.left, &self.right);
-        let mut profile = room;
-        for k in 0..left.len() {
-            profile.push(left.slot(k), right.slot(k));
-        }
-        profile
+        let _places = self.len();
+        let (mut all, mut left, mut right) = room.into_columns();
+        self.put_nearer(&mut all);
+        self.put_left(&mut left);
+        self.put_right(&mut right);
+        Profile::of(all, left, right)
     }
 }
 

@@ -5,6 +5,7 @@ ghost use Rattle.mp_defs.specs.Series.{series_of};
 ghost use Rattle.mp_defs.specs.Profile.{matrix_profile, ab_join};
 ghost use Rattle.mp_tiles.specs.Pieces.{own_size, own_together, sides_value};
 
+use crate::columns::profile_of;
 use crate::teams::{run_all, run_one_after_another};
 use mp_nums::{Memory, Sample, Slots};
 use mp_outside::Gate;
@@ -84,7 +85,8 @@ pub fn self_join<R: Threads + Sync, G: Gate>(
     let tiles = OwnTiles::new(samples, m, tile);
     let room = Profile::with_capacity(alloc, tiles.size())?;
     let workers = worth(pairs(samples, samples) / 2, workers);
-    Ok(both_sides(rt, alloc, &tiles, workers, gate)?.profile(room))
+    let sides = both_sides(rt, alloc, &tiles, workers, gate)?;
+    Ok(profile_of(rt, &sides, workers, room))
 }
 
 /// The AB-join at window length `m`: for each window of `a` its nearest window in `b`, without an exclusion zone,

@@ -2,6 +2,7 @@
 //! they compute.
 #![tactic(auto)]
 
+mod columns;
 mod desks;
 mod joins;
 mod laws;

@@ -10,10 +10,10 @@ use Rattle.mp_workers.proofs.joins.self_join.Goals as goal
 pub returns-clause-all : goal.returns-clause-all
 returns-clause-all g c =
     let own = c.new-tiles.result in
-    let sides = c.in_ok-both_sides.field-0 in
-    c.profile-2.ensures.all
+    let sides = c.in_ok-sides.sides in
+    c.profile_of.ensures.all
     ∙ all_of_both sides.left sides.right c.args.m (series_of c.args.samples.now)
-    (c.in_ok-both_sides.ensures.value
+    (c.in_ok-sides.ensures.value
     ∙ ap (λ (m : ℕ). sides_value (matrix_profile m (series_of own.samples))) c.new-tiles.ensures.m
     ∙ ap (λ (samples : List Sample). sides_value (matrix_profile c.args.m (series_of samples)))
     c.new-tiles.ensures.samples)
