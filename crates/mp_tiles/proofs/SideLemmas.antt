@@ -1,16 +1,19 @@
 -- What tiles give both sides of the profile.
 use Rattle.std.proofs.Common.{◌≡◌, ℕ, List, [], ◌∷◌, length, get_or, refl, ap, sym, ◌∙◌}
+use Rattle.std.specs.Prelude.{Option, Some, None, is_some, true}
 use Rattle.std.specs.List.{range_with_len}
+use Rattle.std.proofs.lemmas.List.{length-replicate}
 use Rattle.mp_defs.specs.Series.{Series, series_of}
 use Rattle.mp_defs.specs.Profile.{Columns, windows_of}
 use Rattle.mp_partial.specs.Values.{Column, Value, merged_column, merged_columns, empty_column, empty_columns}
 use Rattle.mp_partial.specs.Values.{merged_over, merged_below}
+use Rattle.mp_partial.specs.MergeLaws.{column_unit, columns_merge}
 use Rattle.mp_cuts.specs.declared.cuts.Tile.{Tile}
 use Rattle.mp_cuts.specs.Pairs.{has_pair, no_tile}
 use Rattle.mp_tiles.specs.Among.{profile_among, columns_value}
 use Rattle.mp_tiles.specs.Laws.{tiles_value}
-use Rattle.mp_tiles.specs.Sides.{Sided}
-use Rattle.mp_tiles.specs.Pieces.{OwnTiling, own_value, sides_value}
+use Rattle.mp_tiles.specs.Sides.{Sided, sides_by}
+use Rattle.mp_tiles.specs.Pieces.{OwnTiling, own_value, sides_value, two_columns}
 
 -- ---- columns behind a first one
 
@@ -54,3 +57,20 @@ piece_taken own seen k tile old new same is taken =
     taken
     ∙ ap (λ t. merged_columns found (sides_value (profile_among (has_pair 0 t) own.m (series_of own.samples)))) (sym is)
     ∙ ap (λ o. merged_columns found (own_value o k)) same
+
+-- ---- sides that aren't filled yet
+
+pub nothing_nearer : (n : ℕ) → merged_column (empty_column n) (empty_column n) ≡ empty_column n
+nothing_nearer n = column_unit n (empty_column n) (length-replicate n None)
+
+-- a merge with them changes nothing
+pub nothing_merged : (room : Option ℕ) (found other mine : Sided) → sides_by room found ≡ other → is_some room ≡ true
+    → length other.left ≡ length mine.left → length mine.right ≡ length mine.left
+    → ◌≡◌ {A = Value} (mine.left ∷ mine.right ∷ [])
+    (merged_columns (mine.left ∷ mine.right ∷ []) (other.left ∷ other.right ∷ []))
+nothing_merged None found other mine e is long same = absurd (cc)
+nothing_merged (Some n) found other mine e is long same =
+    let value : Value = mine.left ∷ mine.right ∷ [] in
+    let size : length mine.left ≡ n = sym long ∙ sym (ap (λ (s : Sided). length s.left) e) ∙ length-replicate n None in
+    sym (ap (λ (s : Sided). merged_columns value (s.left ∷ s.right ∷ [])) (sym e)
+    ∙ (columns_merge 2).unit_last n value (two_columns n mine.left mine.right size (same ∙ size)))

@@ -9,12 +9,15 @@ ghost use Rattle.mp_partial.specs.Values.{empty_column, merged_column, offered};
 ghost use Rattle.mp_tiles.specs.Compact.{AreBounds, slot_bound};
 ghost use Rattle.mp_tiles.specs.Scanning.{taken};
 
-use crate::compact::{Compact, no_windows, slot_at};
+use crate::compact::{Compact, fill_with_copies, fill_with_none, slot_at};
 use mp_nums::{Memory, Near, Slot, Slots};
 use mp_scans::limit_of;
 use mp_sums::{ALWAYS, Limit, Rounding, ZERO};
 use std::alloc::Global;
 use std::marker::Model;
+
+/// By what residues are rounded before any are asked for. Where nothing was found every rounding has the same bounds.
+const NO_ROUNDING: Rounding = Rounding { m: 1, shift: 0 };
 
 /// For each window the nearest one that was found, or none.
 #[derive(Debug, Drop)]
@@ -38,6 +41,74 @@ impl Model for Column {
 
     ghost invariant = { λ column.
         AreBounds column.rounding.m column.rounding.shift column.slots.items column.bounds.items };
+}
+
+/// Room for a column: memory that was taken, and that nothing was written to.
+#[derive(Debug, Drop)]
+pub(crate) struct Room {
+    places: u64,
+    slots: Vec<Compact>,
+    bounds: Vec<i32>,
+}
+
+impl Model for Room {
+    ghost use Rattle.std.specs.Prelude.{◌≡◌, ◌≤◌, ℕ, [], vec_capacity};
+
+    ghost Value = { ℕ };
+
+    ghost view = { λ room. room.places };
+
+    ghost invariant = { λ room. (room.slots.items ≡ []) × (room.bounds.items ≡ [])
+        × (room.places ≤ vec_capacity room.slots) × (room.places ≤ vec_capacity room.bounds) };
+}
+
+impl Room {
+    /// Room for so many windows.
+    pub(crate) fn with_capacity(alloc: Global, places: u64) -> Result<Room, Memory>
+        ensures { IfOk result (λ room. room ≡ places) }
+    {
+        Ok(Room {
+            places,
+            slots: Vec::with_capacity(alloc, places as usize)?,
+            bounds: Vec::with_capacity(alloc, places as usize)?,
+        })
+    }
+
+    /// For how many windows it is.
+    pub(crate) fn places(&self) -> u64
+        ensures { result ≡ self.now }
+    {
+        self.places
+    }
+
+    /// The column of these windows, with none found for any. It takes no memory.
+    pub(crate) fn fill(self) -> Column
+        ensures { result ≡ empty_column self }
+    {
+        let (mut slots, mut bounds) = (self.slots, self.bounds);
+        fill_with_none(&mut slots, self.places);
+        bounds.resize(self.places as usize, ALWAYS).unwrap();
+        Column {
+            slots,
+            bounds,
+            rounding: NO_ROUNDING,
+        }
+    }
+
+    /// The column of these windows that has what was found by another one. It takes no memory.
+    pub(crate) fn fill_from(self, other: &Column) -> Column
+        requires { length other.now ≡ self }
+        ensures { result ≡ other.now }
+    {
+        let (mut slots, mut bounds) = (self.slots, self.bounds);
+        fill_with_copies(&mut slots, other.slots.as_slice());
+        bounds.extend_from_slice(other.bounds.as_slice()).unwrap();
+        Column {
+            slots,
+            bounds,
+            rounding: other.rounding,
+        }
+    }
 }
 
 /// The greatest residue of windows as near as what stands in a slot.
@@ -121,17 +192,15 @@ fn is_apart(rounding: &Rounding, within: i32) -> bool {
 impl Column {
     ghost use Rattle.std.specs.Prelude.{slice_set, false};
 
-    /// So many windows for which none was found.
-    pub(crate) fn unit(alloc: Global, size: u64) -> Result<Column, Memory>
-        ensures { IfOk result (λ column. column ≡ empty_column size) }
+    /// The column of no windows. It takes no memory.
+    pub(crate) fn new(alloc: Global) -> Column
+        ensures { result ≡ [] }
     {
-        let slots = no_windows(alloc, size)?;
-        let bounds = vec![in alloc; ALWAYS; size as usize]?;
-        Ok(Column {
-            slots,
-            bounds,
-            rounding: Rounding { m: 1, shift: 0 },
-        })
+        Column {
+            slots: Vec::new(alloc),
+            bounds: Vec::new(alloc),
+            rounding: NO_ROUNDING,
+        }
     }
 
     /// The number of windows.

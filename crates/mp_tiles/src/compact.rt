@@ -1,12 +1,11 @@
 //! Slots in one number each.
 
-ghost use Rattle.std.specs.Prelude.{◌≡◌, ◌+◌, ◌^◌, ◌<◌, length, slice_index_or, IfOk, None};
+ghost use Rattle.std.specs.Prelude.{◌≡◌, ◌+◌, ◌^◌, ◌<◌, ◌≤◌, [], length, slice_index_or, None, vec_capacity};
 ghost use Rattle.mp_series.specs.declared.limits.TheConstants.{MAX_SAMPLES};
 ghost use Rattle.mp_partial.specs.Values.{empty_column};
 
-use mp_nums::{Memory, Near, Slot, Sq};
+use mp_nums::{Near, Slot, Sq};
 use mp_series::MAX_SAMPLES;
-use std::alloc::Global;
 use std::marker::Model;
 
 /// The number that stands for no window, and comes after those of all windows.
@@ -90,15 +89,26 @@ impl Compact {
     }
 }
 
-/// So many places with no window.
-pub(crate) fn no_windows(alloc: Global, size: u64) -> Result<Vec<Compact>, Memory>
-    ensures { IfOk result (λ slots. slots.items ≡ empty_column size) }
+/// Puts no window at each of so many places of a list that has room for them. It takes no memory.
+pub(crate) fn fill_with_none(slots: &mut Vec<Compact>, places: u64)
+    requires no_place { slots.old.items ≡ [] }
+    requires room { places ≤ vec_capacity slots.old }
+    ensures { slots.new.items ≡ empty_column places }
 {
-    let mut slots = Vec::with_capacity(alloc, size as usize)?;
-    for _ in 0..size {
-        slots.push(Compact::none())?;
+    for _ in 0..places {
+        slots.push(Compact::none()).unwrap();
     }
-    Ok(slots)
+}
+
+/// Puts the same slots into a list of none that has room for them. It takes no memory.
+pub(crate) fn fill_with_copies(slots: &mut Vec<Compact>, others: &[Compact])
+    requires no_place { slots.old.items ≡ [] }
+    requires room { length others.now ≤ vec_capacity slots.old }
+    ensures { slots.new.items ≡ others.now }
+{
+    for k in 0..others.len() {
+        slots.push(others[k].copy()).unwrap();
+    }
 }
 
 /// What stands at a place.

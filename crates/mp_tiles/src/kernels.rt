@@ -1,20 +1,16 @@
 //! The tiles of a series as the pieces of a kernel, and the profile that they make.
 
-ghost use Rattle.std.specs.Prelude.{◌≡◌, ◌+◌, ◌≤◌, [], ◌∷◌, length, IfOk};
+ghost use Rattle.std.specs.Prelude.{◌≡◌, ◌≤◌, length, IfOk};
 ghost use Rattle.mp_series.specs.declared.limits.TheConstants.{MAX_SAMPLES, MAX_WINDOW, MIN_WINDOW};
 ghost use Rattle.mp_defs.specs.Series.{series_of};
 ghost use Rattle.mp_defs.specs.Window.{windows as windows_in, excl as zone};
 ghost use Rattle.mp_defs.specs.Profile.{matrix_profile};
-ghost use Rattle.mp_partial.specs.Values.{HasColumns, merged_columns};
-ghost use Rattle.mp_cuts.specs.Pairs.{has_pair, IsTileBetween};
-ghost use Rattle.mp_tiles.specs.Among.{profile_among};
+ghost use Rattle.mp_partial.specs.Values.{merged_columns};
 ghost use Rattle.mp_tiles.specs.Pieces.{sides_value};
 
 use crate::near::{Bands, NearTiles};
-use crate::offers::OnBothSides;
-use crate::scans::scan_tile;
 use crate::sides::Sides;
-use mp_cuts::{Cut, MAX_TILE, MAX_TILES, Tile, cut_own};
+use mp_cuts::{Cut, MAX_TILE, MAX_TILES, cut_own};
 use mp_nums::{Memory, Sample};
 use mp_partial::{Kernel, Profile, run_in_order};
 use mp_scans::Plan;
@@ -22,22 +18,6 @@ use mp_series::{MAX_SAMPLES, MAX_WINDOW, MIN_WINDOW, excl, windows};
 use mp_sums::Grid;
 use std::alloc::Global;
 use std::marker::Model;
-
-/// Merges both sides of the profile of a tile's pairs into what was found.
-pub(crate) fn take_tile(plan: &Plan, tile: &Tile, into: &mut Sides)
-    requires same { plan.now.grid.columns.now ≡ plan.now.grid.rows.now }
-    requires tile { IsTileBetween (zone plan.now.grid.m + 1) (windows_in (length plan.now.grid.rows.now) plan.now.grid.m)
-        (windows_in (length plan.now.grid.rows.now) plan.now.grid.m) tile.now }
-    requires places { length into.old.left ≡ windows_in (length plan.now.grid.rows.now) plan.now.grid.m }
-    ensures value { into.new.left ∷ into.new.right ∷ [] ≡ merged_columns (into.old.left ∷ into.old.right ∷ [])
-        (sides_value (profile_among (has_pair 0 tile.now) plan.now.grid.m (series_of plan.now.grid.rows.now))) }
-    ensures size { length into.new.left ≡ length into.old.left }
-    ensures is_value { HasColumns 2 (length into.new.left) (into.new.left ∷ into.new.right ∷ []) }
-{
-    let _windows = into.len();
-    into.round_by(&plan.rounding);
-    scan_tile::<OnBothSides>(plan, tile, into);
-}
 
 /// The tiles of a series as the pieces of a kernel, whose values together are both sides of the matrix profile.
 #[derive(Drop)]
@@ -130,7 +110,7 @@ impl<'a> Kernel for OwnTiles<'a> {
     }
 
     fn run(&self, piece: u64, into: &mut Sides) {
-        take_tile(&self.plan, &self.cut.tile(piece), into);
+        into.take_tile(&self.plan, &self.cut.tile(piece));
     }
 }
 

@@ -3,6 +3,7 @@
 
 mod columns;
 mod compact;
+mod found;
 mod joins;
 mod kernels;
 mod laws;

@@ -5,7 +5,6 @@ ghost use Rattle.std.specs.Int.{div_ceil};
 ghost use Rattle.mp_series.specs.declared.limits.TheConstants.{MAX_SAMPLES, MAX_WINDOW};
 ghost use Rattle.mp_tiles.specs.Near.{IsBands, band_at, bands_of};
 
-use crate::kernels::take_tile;
 use crate::sides::Sides;
 use mp_cuts::{MAX_ROWS, Tile};
 use mp_partial::Kernel;
@@ -114,6 +113,6 @@ impl<'a> Kernel for NearTiles<'a> {
     }
 
     fn run(&self, piece: u64, into: &mut Sides) {
-        take_tile(&self.plan, &self.bands.tile(piece), into);
+        into.take_tile(&self.plan, &self.bands.tile(piece));
     }
 }

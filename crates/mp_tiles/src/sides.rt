@@ -1,87 +1,90 @@
 //! The nearest windows on both sides.
 
-ghost use Rattle.std.specs.Prelude.{◌≡◌, ◌+◌, ◌^◌, ◌<◌, ◌≤◌, [], ◌∷◌, length, slice_index_or, None, false};
-ghost use Rattle.mp_series.specs.declared.limits.TheConstants.{MAX_SAMPLES};
-ghost use Rattle.mp_partial.specs.Values.{HasColumns, empty_columns, merged_column, merged_columns, offered};
+ghost use Rattle.std.specs.Prelude.{◌≡◌, ◌+◌, ◌≤◌, [], ◌∷◌, length, None};
+ghost use Rattle.mp_defs.specs.Series.{series_of};
+ghost use Rattle.mp_defs.specs.Window.{windows as windows_in, excl as zone};
+ghost use Rattle.mp_partial.specs.Values.{HasColumns, empty_column, empty_columns, merged_column, merged_columns};
 ghost use Rattle.mp_partial.specs.MergeLaws.{columns_merge};
-ghost use Rattle.mp_scans.specs.Slots.{Covers};
-ghost use Rattle.mp_tiles.specs.OfferingLaws.{fits_sides, may_sides, is_scanned_sides, on_both_sides};
-ghost use Rattle.mp_tiles.specs.LimitLaws.{keeps_row_sides, keeps_column_sides, side_limits};
+ghost use Rattle.mp_cuts.specs.Pairs.{has_pair, IsTileBetween};
+ghost use Rattle.mp_tiles.specs.Among.{profile_among};
+ghost use Rattle.mp_tiles.specs.Sides.{sides_by};
+ghost use Rattle.mp_tiles.specs.Pieces.{sides_value};
 
-use crate::columns::Column;
-use crate::offers::OnBothSides;
-use mp_nums::{Memory, Near, Slots, Sq, nearer};
+use crate::found::{Found, FoundRoom, take_tile};
+use mp_cuts::Tile;
+use mp_nums::{Memory, Slots};
 use mp_partial::{Part, Profile};
-use mp_scans::Offers;
-use mp_sums::{Limit, Rounding};
+use mp_scans::Plan;
 use std::alloc::Global;
 use std::marker::Model;
 
 /// For each window, by its start, the nearest of the windows that start earlier, and the nearest of those that start
 /// later. A window takes 40 bytes.
+///
+/// All memory is taken when it is made, and first written to when something may be found: memory costs most where it is
+/// used for the first time, and workers that each fill their own do so side by side.
 #[derive(Debug, Drop)]
 pub struct Sides {
-    left: Column,
-    right: Column,
+    /// The room, until it is filled. So long `found` is of no windows, and stands for nothing.
+    room: Option<FoundRoom>,
+    found: Found,
 }
 
 impl Model for Sides {
-    ghost use Rattle.std.specs.Prelude.{◌≡◌, length};
-    ghost use Rattle.mp_tiles.specs.Sides.{Sided};
+    ghost use Rattle.mp_tiles.specs.Sides.{Sided, sides_by};
 
     ghost Value = { Sided };
 
-    ghost view = { λ sides. record { left = sides.left; right = sides.right } };
+    ghost view = { λ sides. sides_by sides.room sides.found };
+}
 
-    ghost invariant = { λ sides. length sides.right ≡ length sides.left };
+/// Fills the room, unless it is filled. It takes no memory.
+fn fill(room: &mut Option<FoundRoom>, found: &mut Found)
+    ensures room { room.new ≡ None }
+    ensures found { found.new ≡ sides_by room.old found.old }
+{
+    if let Some(room) = room.take() {
+        *found = room.fill();
+    }
+}
+
+/// Puts none into a column of no windows for each of so many, for which it has room. It takes no memory.
+fn put_none(places: u64, column: &mut Slots)
+    requires no_window { column.old.items ≡ [] }
+    requires spare { places ≤ column.old.spare }
+    ensures { column.new.items ≡ empty_column places }
+{
+    for _ in 0..places {
+        column.push(None).unwrap();
+    }
 }
 
 impl Sides {
     /// The number of windows.
-    pub(crate) fn len(&self) -> u64
+    fn len(&self) -> u64
         ensures left { result ≡ length self.now.left }
         ensures right { result ≡ length self.now.right }
     {
-        self.left.len() as u64
+        match &self.room {
+            Some(room) => room.places(),
+            None => self.found.len(),
+        }
     }
 
-    /// Has bounds of residues be those of samples rounded so.
-    pub(crate) fn round_by(&mut self, rounding: &Rounding)
-        ensures { self.new ≡ self.old }
+    /// Merges both sides of the profile of a tile's pairs into what was found.
+    pub(crate) fn take_tile(&mut self, plan: &Plan, tile: &Tile)
+        requires same { plan.now.grid.columns.now ≡ plan.now.grid.rows.now }
+        requires tile { IsTileBetween (zone plan.now.grid.m + 1)
+            (windows_in (length plan.now.grid.rows.now) plan.now.grid.m)
+            (windows_in (length plan.now.grid.rows.now) plan.now.grid.m) tile.now }
+        requires places { length self.old.left ≡ windows_in (length plan.now.grid.rows.now) plan.now.grid.m }
+        ensures value { self.new.left ∷ self.new.right ∷ [] ≡ merged_columns (self.old.left ∷ self.old.right ∷ [])
+            (sides_value (profile_among (has_pair 0 tile.now) plan.now.grid.m (series_of plan.now.grid.rows.now))) }
+        ensures size { length self.new.left ≡ length self.old.left }
+        ensures is_value { HasColumns 2 (length self.new.left) (self.new.left ∷ self.new.right ∷ []) }
     {
-        self.left.round_by(rounding);
-        self.right.round_by(rounding);
-    }
-
-    /// Windows `i` and `j`, which starts later, have this distance.
-    #[inline]
-    pub(crate) fn offer(&mut self, i: u64, j: u64, dist: Sq)
-        requires i { i < length self.old.right }
-        requires j { j < length self.old.left }
-        requires first { i < MAX_SAMPLES }
-        requires second { j < MAX_SAMPLES }
-        requires small { dist.0 + 1 < 2 ^ 110 }
-        ensures left { self.new.left ≡ offered self.old.left j (record { dist = dist; index = i }) }
-        ensures right { self.new.right ≡ offered self.old.right i (record { dist = dist; index = j }) }
-    {
-        self.left.offer(j as usize, Near { dist, index: i });
-        self.right.offer(i as usize, Near { dist, index: j });
-    }
-
-    /// Whether windows `i` and `j`, which starts later, may be nearer at this distance than what was found for either.
-    #[inline]
-    pub(crate) fn may_take(&self, i: u64, j: u64, dist: Sq) -> bool
-        requires i { i < length self.now.right }
-        requires j { j < length self.now.left }
-        requires first { i < MAX_SAMPLES }
-        requires second { j < MAX_SAMPLES }
-        requires small { dist.0 + 1 < 2 ^ 110 }
-        ensures left { result ≡ false → Covers (slice_index_or self.now.left j None) i dist.0 }
-        ensures right { result ≡ false → Covers (slice_index_or self.now.right i None) j dist.0 }
-    {
-        let to_right = self.right.may_take(i as usize, Near { dist, index: j });
-        let to_left = self.left.may_take(j as usize, Near { dist, index: i });
-        to_right | to_left
+        fill(&mut self.room, &mut self.found);
+        take_tile(plan, tile, &mut self.found);
     }
 
     /// Puts what was found on the left into a column of no windows, which has room for it. It takes no memory.
@@ -90,7 +93,10 @@ impl Sides {
         requires spare { length self.now.left ≤ column.old.spare }
         ensures { column.new.items ≡ self.now.left }
     {
-        self.left.put(column);
+        match &self.room {
+            Some(room) => put_none(room.places(), column),
+            None => self.found.put_left(column),
+        }
     }
 
     /// Puts what was found on the right into a column of no windows, which has room for it. It takes no memory.
@@ -99,8 +105,10 @@ impl Sides {
         requires spare { length self.now.left ≤ column.old.spare }
         ensures { column.new.items ≡ self.now.right }
     {
-        let _places = self.len();
-        self.right.put(column);
+        match &self.room {
+            Some(room) => put_none(room.places(), column),
+            None => self.found.put_right(column),
+        }
     }
 
     /// Puts the nearer window of both sides at each place into a column of no windows, which has room for it. It takes
@@ -110,9 +118,9 @@ impl Sides {
         requires spare { length self.now.left ≤ column.old.spare }
         ensures { column.new.items ≡ merged_column self.now.left self.now.right }
     {
-        let (left, right) = (&self.left, &self.right);
-        for k in 0..left.len() {
-            column.push(nearer(left.slot(k), right.slot(k))).unwrap();
+        match &self.room {
+            Some(room) => put_none(room.places(), column),
+            None => self.found.put_nearer(column),
         }
     }
 
@@ -150,8 +158,8 @@ impl Part for Sides {
 
     fn unit(alloc: Global, size: u64) -> Result<Self, Memory> {
         Ok(Sides {
-            left: Column::unit(alloc, size)?,
-            right: Column::unit(alloc, size)?,
+            room: Some(FoundRoom::with_capacity(alloc, size)?),
+            found: Found::new(alloc),
         })
     }
 
@@ -160,67 +168,26 @@ impl Part for Sides {
     }
 
     fn clear(&mut self) {
-        self.left.clear();
-        self.right.clear();
+        if self.room.is_none() {
+            self.found.clear();
+        }
     }
 
     fn merge(&mut self, other: &Self) {
-        self.left.merge(&other.left);
-        self.right.merge(&other.right);
+        let _places = self.len();
+        if other.room.is_none() {
+            fill(&mut self.room, &mut self.found);
+            self.found.merge(&other.found);
+        }
     }
 
     fn take_over(&mut self, other: &Self) {
-        self.left.copy_from(&other.left);
-        self.right.copy_from(&other.right);
-    }
-}
-
-impl Offers for OnBothSides {
-    type Into = Sides;
-
-    ghost least = { 1 };
-
-    ghost fits = { fits_sides };
-
-    ghost may_offer = { may_sides };
-
-    ghost is_scanned = { is_scanned_sides };
-
-    ghost laws = { on_both_sides };
-
-    ghost keeps_row = { keeps_row_sides };
-
-    ghost keeps_column = { keeps_column_sides };
-
-    ghost limits = { side_limits };
-
-    #[inline]
-    fn offer(into: &mut Sides, row: u64, column: u64, dist: Sq) {
-        into.offer(row, column, dist);
-    }
-
-    #[inline]
-    fn may_give(into: &Sides, row: u64, column: u64, dist: Sq) -> bool {
-        into.may_take(row, column, dist)
-    }
-
-    #[inline]
-    fn row_limit(into: &Sides, row: u64, first: u64) -> Limit {
-        into.right.limit(row, first)
-    }
-
-    #[inline]
-    fn column_limit(into: &Sides, column: u64, first: u64) -> Limit {
-        into.left.limit(column, first)
-    }
-
-    #[inline]
-    fn row_bound(into: &Sides, rounding: &Rounding, row: u64, first: u64) -> i32 {
-        into.right.bound(rounding, row, first)
-    }
-
-    #[inline]
-    fn column_bound(into: &Sides, rounding: &Rounding, column: u64, first: u64) -> i32 {
-        into.left.bound(rounding, column, first)
+        if other.room.is_some() {
+            self.clear();
+        } else if let Some(room) = self.room.take() {
+            self.found = room.fill_from(&other.found);
+        } else {
+            self.found.copy_from(&other.found);
+        }
     }
 }

@@ -8,6 +8,6 @@ returns-clause-value c =
     let grid = c.self.inside.plan.grid in
     let cut = c.self.inside.cut in
     piece_taken (record { samples = grid.rows.now; m = grid.m; tiles = cut }) c.args.self.now c.args.piece c.tile.result
-    c.args.into.now c.take_tile.new.into c.self.view_is
+    c.args.into.now c.take_tile.new.self c.self.view_is
     (get_or_from_slice_get cut c.args.piece c.tile.result no_tile c.tile.ensures)
     c.take_tile.ensures.value

@@ -9,7 +9,7 @@ use Rattle.mp_tiles.specs.Sides.{Sided, HaveSides}
 use Rattle.mp_tiles.specs.Scanning.{AreSided}
 use Rattle.mp_tiles.specs.OfferingLaws.{sides_stay}
 use Rattle.mp_tiles.specs.Pieces.{sides_value, two_columns}
-use Rattle.mp_tiles.proofs.kernels.take_tile.Goals as goal
+use Rattle.mp_tiles.proofs.found.take_tile.Goals as goal
 
 sides_taken : (old new : Sided) (p : Columns) → new.left ≡ merged_column old.left p.left
     → new.right ≡ merged_column old.right p.right

@@ -3,7 +3,7 @@ use Rattle.std.specs.Prelude.{Some}
 use Rattle.mp_defs.specs.Series.{Series}
 use Rattle.mp_defs.specs.Profile.{windows_of}
 use Rattle.mp_tiles.specs.OfferingLaws.{same_series, sided_pair}
-use Rattle.mp_tiles.proofs.sides.OnBothSidesOffers.offer.Goals as goal
+use Rattle.mp_tiles.proofs.found.OnBothSidesOffers.offer.Goals as goal
 
 pub returns : goal.returns
 returns c m a b fits row column is =

@@ -1,6 +1,6 @@
 use Rattle.std.proofs.Common.{◌≡◌, ◌+◌, ◌≤◌, length, take}
 use Rattle.mp_partial.specs.Values.{merged_column}
-use Rattle.mp_tiles.proofs.sides.Sides.put_nearer.Given as goal
+use Rattle.mp_tiles.proofs.found.Found.put_nearer.Given as goal
 
 abbrev pub invariant-loop-k : goal.invariant-loop-k
 invariant-loop-k l = record {
