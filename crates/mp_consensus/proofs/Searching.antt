@@ -17,7 +17,7 @@ use Rattle.mp_defs.specs.Profile.{windows_of}
 use Rattle.mp_results.specs.Consensus.{Central, series_at, counterpart, farthest, radius_of, those_there, central_at}
 use Rattle.mp_results.specs.Consensus.{centre_of}
 use Rattle.mp_consensus.specs.declared.candidates.Candidate.{Candidate}
-use Rattle.mp_consensus.specs.Searches.{IsPast, Reaches, start_of, reach_with, IsNoLater, IsWindow}
+use Rattle.mp_consensus.specs.Searches.{IsPast, Reaches, start_of, reach_with, renewed, as_square, IsNoLater, IsWindow}
 use Rattle.mp_consensus.specs.Searches.{Leads, Precedes, central_by, HaveReached, HasSearched, piece_of}
 use Rattle.mp_workers.specs.Desks.{times}
 use Rattle.mp_consensus.specs.Bounds.{HasLeast}
@@ -93,6 +93,42 @@ reaches_more least f places q (Some end) (Some reach) (Some x) slot lt past is e
         let behind : end.0 ≤ x.dist.0 = grind (arith, nat_tests) in
         subst (λ b. Reaches least f places (q + 1)
         (if b then None else Some (record { 0 = max reach.0 end.0 }))) (sym at_end)
+        (past_end least f places q end x lt past is behind)
+
+-- a row that is left by a scan of some place is as one that was compared with none, and one that isn't was given up
+pub reaches_anew : (least : Option ℕ) (f : ℕ → Option Near) (places q : ℕ) (end : Option Sq) (reach : Sq)
+    (entry slot : Option Near) → q < places → IfSome end (λ (e : Sq). IsPast least e.0) → f q ≡ entry
+    → slot ≡ nearer_of (start_of end (Some reach)) entry
+    → Reaches least f places 0 (renewed (reach_with end (Some reach) slot))
+reaches_anew least f places q None reach None slot lt past is e =
+    subst (λ s. Reaches least f places 0 (renewed (reach_with None (Some reach) s))) (sym e)
+    (no_radius least f places q lt is)
+reaches_anew least f places q None reach (Some x) slot lt past is e =
+    subst (λ s. Reaches least f places 0 (renewed (reach_with None (Some reach) s))) (sym e)
+    (reaches_none least f places (as_square 0) refl)
+reaches_anew least f places q (Some end) reach None slot lt past is e =
+    let at_end : nat_le end.0 end.0 ≡ true = grind (arith, nat_tests) in
+    subst (λ s. Reaches least f places 0 (renewed (reach_with (Some end) (Some reach) s))) (sym e)
+    (subst (λ b. Reaches least f places 0
+    (renewed (if b then None else Some (record { 0 = max reach.0 end.0 })))) (sym at_end)
+    (no_radius least f places q lt is))
+reaches_anew least f places q (Some end) reach (Some x) slot lt past is e =
+    subst (λ s. Reaches least f places 0 (renewed (reach_with (Some end) (Some reach) s))) (sym e)
+    (by_order (comes_before x (near_at 0 end.0)) refl)
+  where
+    by_order : (t : Bool) → comes_before x (near_at 0 end.0) ≡ t
+        → Reaches least f places 0
+        (renewed (reach_with (Some end) (Some reach) (if t then Some x else Some (near_at 0 end.0))))
+    by_order true t =
+        let before : nat_le end.0 x.dist.0 ≡ false = grind (arith, nat_tests) in
+        subst (λ b. Reaches least f places 0
+        (renewed (if b then None else Some (record { 0 = max reach.0 x.dist.0 })))) (sym before)
+        (reaches_none least f places (as_square 0) refl)
+    by_order false t =
+        let at_end : nat_le end.0 end.0 ≡ true = grind (arith, nat_tests) in
+        let behind : end.0 ≤ x.dist.0 = grind (arith, nat_tests) in
+        subst (λ b. Reaches least f places 0
+        (renewed (if b then None else Some (record { 0 = max reach.0 end.0 })))) (sym at_end)
         (past_end least f places q end x lt past is behind)
 
 -- the window itself is no farther than others
@@ -330,7 +366,8 @@ piece_searched least m list drawn piece old new leads here had p i place window 
       | inl same ↦ here p i place window same
       | inr other ↦ λ r radius is.
           leads r p i (had p i place window
-          (omega (arith, drew, one_more_time (piece_of (length list) p i) piece drawn, not_same piece _ other)) r radius is)
+          (omega (arith, drew, one_more_time (piece_of (length list) p i) piece drawn, not_same piece _ other)) r
+          radius is)
     ]
   where
     not_same : (a b : ℕ) → (b ≡ a → ⊥) → once a b ≡ 0

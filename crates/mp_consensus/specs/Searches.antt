@@ -44,6 +44,11 @@ reach_with end (Some reach) None = None
 reach_with end (Some reach) (Some near) =
     if is_at_end end near.dist.0 then None else Some (as_square (max reach.0 near.dist.0))
 
+-- a row that is left, as one that was compared with no place yet
+abbrev pub renewed : Option Sq → Option Sq
+renewed None = None
+renewed (Some reach) = Some (as_square 0)
+
 -- the rows are the windows from start on of place p, of which the first n places were compared
 abbrev pub HaveReached : Option ℕ → ℕ → List Series → ℕ → ℕ → ℕ → List (Option Sq) → Type 0
 HaveReached least m list p start n reaches =

@@ -1,6 +1,6 @@
 //! Blocks: successive windows of one series, which are compared together with those of the others.
 
-ghost use Rattle.std.specs.Prelude.{◌≡◌, ℕ, ◌+◌, ◌-◌, ◌<◌, ◌≤◌, ◌^◌, ◌⊎◌, [], length, map, slice_index_or, IfOk, IfSome};
+ghost use Rattle.std.specs.Prelude.{◌≡◌, ◌≢◌, ℕ, ◌+◌, ◌-◌, ◌<◌, ◌≤◌, ◌^◌, ◌⊎◌, [], length, map, slice_index_or, IfOk, IfSome};
 ghost use Rattle.std.specs.Prelude.{Some, None};
 ghost use Rattle.std.specs.List.{between};
 ghost use Rattle.mp_series.specs.declared.limits.TheConstants.{MAX_SAMPLES, MAX_WINDOW, MIN_WINDOW};
@@ -11,12 +11,12 @@ ghost use Rattle.mp_defs.specs.Profile.{join_entry};
 ghost use Rattle.mp_consensus.specs.Bounds.{least_radius};
 ghost use Rattle.mp_consensus.specs.Blocks.{HoldsWindow, IsBlockOf, IsRowOf, windows_at};
 ghost use Rattle.mp_consensus.specs.Conditions.{MayBeCompared};
-ghost use Rattle.mp_consensus.specs.Searches.{HaveReached, Leads, piece_of, reach_with, start_of};
+ghost use Rattle.mp_consensus.specs.Searches.{HaveReached, IsPast, Leads, piece_of, reach_with, start_of};
 
 use crate::bounds::Bound;
 use crate::candidates::{Candidate, first_of};
 use crate::lookers::Looker;
-use crate::rows::{Reach, is_any_left, reach_on, starts, unreached};
+use crate::rows::{Reach, is_any_left, reach_on, renew, starts, unreached};
 use mp_cuts::Tile;
 use mp_nums::{Memory, Sample, Slots, Sq};
 use mp_series::{Bundle, windows};
@@ -145,6 +145,61 @@ pub(crate) fn rows_of<'a>(list: &'a Bundle, m: u32, block: Block) -> &'a [Sample
     &list.series(block.place)[first..first + block.count as usize + m as usize - 1]
 }
 
+/// The other place whose series has the fewest samples.
+fn shortest_other(list: &Bundle, place: u64) -> u64
+    requires two { 2 ≤ length list.now }
+    requires place { place < length list.now }
+    ensures other { result < length list.now }
+    ensures apart { result ≢ place }
+{
+    let mut shortest = first_other(place);
+    for other in 0..list.count() {
+        if other != place && list.series(other).len() < list.series(shortest).len() {
+            shortest = other;
+        }
+    }
+    shortest
+}
+
+/// The first other place.
+fn first_other(place: u64) -> u64
+    ensures within { result ≤ 1 }
+    ensures apart { result ≢ place }
+{
+    if place == 0 { 1 } else { 0 }
+}
+
+/// Whether a series is so much shorter than the one that comes first that it is worth to be looked at before it.
+fn is_shorter(series: &[Sample], first: &[Sample]) -> bool {
+    series.len() < first.len() / 2
+}
+
+/// The windows of a block, compared with no place yet, without those that are given up already: where one series is
+/// much shorter than others, it tells of most windows in the least time that they aren't the centre.
+fn sift(
+    alloc: Global,
+    list: &Bundle,
+    m: u32,
+    block: Block,
+    end: Option<Sq>,
+) -> Result<Vec<Reach>, Memory>
+    requires conditions { MayBeCompared list.now m }
+    requires block { IsBlockOf m list.now block }
+    requires past { IfSome end (λ e. IsPast (least_radius m list.now) e.0) }
+    ensures count { IfOk result (λ reaches. length reaches.items ≡ block.count) }
+    ensures reached { IfOk result (λ reaches. HaveReached (least_radius m list.now) m (map series_of list.now)
+        block.place block.start 0 reaches.items) }
+{
+    let mut reaches = unreached(alloc, block.count)?;
+    let other = shortest_other(list, block.place);
+    let (series, first) = (list.series(other), list.series(first_other(block.place)));
+    if end.is_some() && is_shorter(series, first) {
+        compare(alloc, rows_of(list, m, block), series, m, end, &mut reaches)?;
+        renew(&mut reaches);
+    }
+    Ok(reaches)
+}
+
 /// How far the windows of a block reach. They are compared with those at all places, as long as one of them isn't given
 /// up. One is given up where at some place all windows lie behind the end: it can't be the centre then.
 pub(crate) fn search_block(
@@ -166,7 +221,8 @@ pub(crate) fn search_block(
         block.place block.start (length list.now) reaches.items) }
 {
     let rows = rows_of(list, m, block);
-    let mut reaches = unreached(alloc, block.count)?;
+    let first_end = bound.end(looker);
+    let mut reaches = sift(alloc, list, m, block, first_end)?;
     for place in 0..list.count() {
         if !is_any_left(reaches.as_slice()) {
             return Ok(reaches);

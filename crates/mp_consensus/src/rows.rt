@@ -2,7 +2,7 @@
 
 ghost use Rattle.std.specs.Prelude.{◌≡◌, ℕ, ◌<◌, false, length, slice_index_or, All, IfOk, Some, None};
 ghost use Rattle.mp_consensus.specs.Searches.{as_square};
-ghost use Rattle.mp_consensus.specs.Searches.{is_at_end, reach_with, start_of};
+ghost use Rattle.mp_consensus.specs.Searches.{is_at_end, reach_with, renewed, start_of};
 
 use mp_nums::{Items, Memory, Near, Slot, Slots, Sq};
 use std::alloc::Global;
@@ -86,6 +86,36 @@ pub(crate) fn reach_on(end: Option<Sq>, reaches: &mut [Reach], slots: &[Slot])
     for i in 0..reaches.len() {
         reaches[i] = reach_with(end, reaches[i], slots[i]);
     }
+}
+
+/// A row that is left, compared with no place yet.
+fn renewed(reach: Reach) -> Reach
+    ensures { result ≡ renewed reach }
+{
+    match reach {
+        Some(_) => Some(Sq(0)),
+        None => None,
+    }
+}
+
+/// The same for each row.
+fn renew_each(reaches: &mut [Reach])
+    ensures places { length reaches.new ≡ length reaches.old }
+    ensures each { (i : ℕ) → i < length reaches.old → slice_index_or reaches.new i None
+        ≡ renewed (slice_index_or reaches.old i None) }
+{
+    for i in 0..reaches.len() {
+        reaches[i] = renewed(reaches[i]);
+    }
+}
+
+/// The rows that are left begin anew.
+pub(crate) fn renew(reaches: &mut Vec<Reach>)
+    ensures places { length reaches.new.items ≡ length reaches.old.items }
+    ensures each { (i : ℕ) → i < length reaches.old.items → slice_index_or reaches.new.items i None
+        ≡ renewed (slice_index_or reaches.old.items i None) }
+{
+    renew_each(reaches.as_mut_slice());
 }
 
 /// Whether a row is left that isn't given up.

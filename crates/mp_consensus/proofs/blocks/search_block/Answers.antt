@@ -4,20 +4,21 @@ use Rattle.mp_nums.specs.declared.nearest.Sq.{Sq}
 use Rattle.mp_defs.specs.Series.{series_of}
 use Rattle.mp_consensus.specs.Bounds.{least_radius}
 use Rattle.mp_consensus.specs.Searches.{HaveReached, IsPast}
-use Rattle.mp_consensus.proofs.Reaching.{none_reached, more_reached, itself_reached, none_left, within_all}
+use Rattle.mp_consensus.proofs.Reaching.{more_reached, itself_reached, none_left, within_all}
 use Rattle.mp_consensus.proofs.blocks.search_block.Goals as goal
 use Rattle.mp_consensus.proofs.blocks.search_block.Goals.{then-place-block+in_ok-compare, else-place-block}
 
 pub loop-place-init : goal.loop-place-init
-loop-place-init c =
-    let count = c.in_ok-reaches.ensures.places in record {
-      bound = c.requires.bound;
-      least = refl;
-      count = count;
-      reached = none_reached (least_radius c.args.m c.args.list.now) c.args.m (map series_of c.args.list.now)
-          c.args.block.place c.args.block.start c.in_ok-reaches.reaches.items
-          (λ i lt. c.in_ok-reaches.ensures.each i (omega (arith, lt, count)));
-    }
+loop-place-init c = record {
+  bound = c.end-first_end.ensures.bound ∙ c.requires.bound;
+  least = c.end-first_end.ensures.least;
+  count = c.in_ok-reaches.ensures.count;
+  reached = c.in_ok-reaches.ensures.reached;
+}
+
+pub sift-requires-clause-past : goal.sift-requires-clause-past
+sift-requires-clause-past c =
+    subst (λ l. IfSome c.end-first_end.result (λ (e : Sq). IsPast l e.0)) c.requires.least c.end-first_end.ensures.past
 
 pub returns-then-not-is_any_left-clause-reached : goal.returns-then-not-is_any_left-clause-reached
 returns-then-not-is_any_left-clause-reached c =
