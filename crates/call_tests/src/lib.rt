@@ -26,6 +26,8 @@ mod numbers;
 #[cfg(test)]
 mod queries;
 #[cfg(test)]
+mod rings;
+#[cfg(test)]
 mod series;
 #[cfg(test)]
 mod texts;

@@ -4,8 +4,10 @@
 
 mod distances;
 mod joins;
+mod kept;
 mod profiles;
 
 pub use distances::distance;
 pub use joins::join;
+pub use kept::kept_profile;
 pub use profiles::{Columns, profile};

@@ -22,10 +22,10 @@ pub struct Columns {
 
 /// What the columns have at one window.
 #[derive(Clone, Copy)]
-struct Row {
-    all: Slot,
-    left: Slot,
-    right: Slot,
+pub(crate) struct Row {
+    pub(crate) all: Slot,
+    pub(crate) left: Slot,
+    pub(crate) right: Slot,
 }
 
 /// Keeps the nearer of the two.
@@ -66,7 +66,7 @@ impl Row {
     }
 
     /// Offers a window to the row of window `i`.
-    fn offer(&mut self, i: u64, found: Near)
+    pub(crate) fn offer(&mut self, i: u64, found: Near)
         requires { found.index ≢ i }
         ensures all { self.new.all ≡ nearer_of self.old.all (Some found) }
         ensures left { self.new.left

@@ -1,1 +1,2 @@
+pub mod HeldCounts
 pub mod MissingCounts

@@ -35,7 +35,7 @@ impl From<Memory> for PushRefusal {
 }
 
 /// A sample's number, 0 where it is missing.
-fn number(sample: &Sample) -> Whole
+pub(crate) fn number(sample: &Sample) -> Whole
     ensures { result ≡ number_in sample.now }
 {
     match sample {
@@ -45,7 +45,7 @@ fn number(sample: &Sample) -> Whole
 }
 
 /// 1 for a missing sample.
-fn gap(sample: &Sample) -> u32
+pub(crate) fn gap(sample: &Sample) -> u32
     ensures { result ≡ gap_in sample.now }
 {
     match sample {

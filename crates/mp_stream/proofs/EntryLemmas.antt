@@ -101,11 +101,11 @@ distance_by_sum (suc m) a xs i k are =
 near_more : (c : ℕ → Option Near) (n : ℕ) → near c (n + 1) ≡ nearer_of (near c n) (c n)
 near_more c n = grows_by_one_candidate.one_more c n
 
-with_none : (x : Option Near) → nearer_of x None ≡ x
+pub with_none : (x : Option Near) → nearer_of x None ≡ x
 with_none x = (nearer_with_none x).1
 
 -- no candidates from k on
-near_front : (c : ℕ → Option Near) (k n : ℕ) → ((j : ℕ) → k ≤ j → j < k + n → c j ≡ None)
+pub near_front : (c : ℕ → Option Near) (k n : ℕ) → ((j : ℕ) → k ≤ j → j < k + n → c j ≡ None)
     → near c (k + n) ≡ near c k
 near_front c k zero h = let same : k ≡ k + 0 = omega arith in subst (λ x. near c x ≡ near c k) same refl
 near_front c k (suc n) h =
@@ -174,7 +174,7 @@ may_right m i w lt = grind (arith, nat_tests)
 may_not : (m i w : ℕ) → i < w → w ≤ i + excl m → (is_allowed m i w && nat_lt i w) ≡ false
 may_not m i w lt le = grind (arith, nat_tests)
 
-taken_if : (f g : Bool) (old : Option Near) (j d : ℕ) → g ≡ true
+pub taken_if : (f g : Bool) (old : Option Near) (j d : ℕ) → g ≡ true
     → nearer_of old (at_distance j (if f && g then Some d else None))
     ≡ (if f then nearer_of old (Some (near_at j d)) else old)
 taken_if true true old j d e = refl
@@ -230,13 +230,13 @@ right_entries m a s xs free old new le are frees last before none h i lt =
       ]
     ]
 
-right_if : (t : Bool) (w : ℕ) (x : Option ℕ) (old : Option Near) → x ≡ None
+pub right_if : (t : Bool) (w : ℕ) (x : Option ℕ) (old : Option Near) → x ≡ None
     → nearer_of old (if t then at_distance w x else None) ≡ old
 right_if true w None old e = with_none old
 right_if true w (Some d) old e = absurd (cc)
 right_if false w x old e = with_none old
 
-none_if : (f g : Bool) (d : ℕ) → g ≡ false → (if f && g then Some d else None) ≡ None
+pub none_if : (f g : Bool) (d : ℕ) → g ≡ false → (if f && g then Some d else None) ≡ None
 none_if true true d e = absurd (cc)
 none_if true false d e = refl
 none_if false g d e = refl
@@ -269,7 +269,7 @@ may_left m w k lt = grind (arith, nat_tests)
 may_not_left : (m w k : ℕ) → w ≤ k + excl m → (is_allowed m w k && nat_lt k w) ≡ false
 may_not_left m w k le = grind (arith, nat_tests)
 
-candidate_if : (f g : Bool) (j d : ℕ) → g ≡ true
+pub candidate_if : (f g : Bool) (j d : ℕ) → g ≡ true
     → at_distance j (if f && g then Some d else None) ≡ (if f then Some (near_at j d) else None)
 candidate_if true true j d e = refl
 candidate_if false g j d e = refl

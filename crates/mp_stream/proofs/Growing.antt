@@ -28,12 +28,12 @@ use Rattle.mp_defs.specs.Profile.{column, entry, left_entry, right_entry, window
 use Rattle.mp_defs.specs.ColumnLaws.{columns_have_places}
 use Rattle.mp_defs.specs.NearestLaws.{entries_are_nearest, entries_are_of_both_sides, zone_is_mutual}
 use Rattle.mp_partial.specs.Values.{Column, merged_column}
-use Rattle.mp_stream.specs.Blocks.{AreKnown, StayKnown}
+use Rattle.mp_stream.specs.Blocks.{AreKnown, StayKnown, numbered, renumbered}
 use Rattle.mp_series.specs.Samples.{number_in, numbers_in}
 use Rattle.mp_stream.specs.Limits.{limit_by, StartsAtMost, AllStartAtMost, AreLimits}
 use Rattle.mp_stream.specs.Rows.{HavePlaces, IsBefore, IsTaken, row_candidate, sum_at, square_at, offered_before}
 use Rattle.mp_stream.specs.Rows.{with_best}
-use Rattle.mp_stream.specs.Rows.{IsRow, last_distance, last_place}
+use Rattle.mp_stream.specs.Rows.{IsRow, distance_from, last_place}
 use Rattle.mp_stream.specs.declared.entries.Entries.{Entries}
 use Rattle.mp_sums.specs.Sums.{filled}
 use Rattle.mp_stream.specs.Appended.{with_one, AreNumbers}
@@ -41,8 +41,8 @@ use Rattle.mp_sums.specs.Ranges.{AreWithin, IsInRange, Reaches, SumsFit}
 use Rattle.mp_sums.specs.RangeLaws.{squares_in_range}
 use Rattle.std.proofs.Math.Nat.{mul-le-mul_left}
 use Rattle.mp_stream.specs.Offers.{AreOffered}
-use Rattle.mp_stream.specs.Streams.{HaveRows, IsGrown, IsKnown, IsOf, IsOfInBits, IsOffered, IsWaiting, Streamed}
-use Rattle.mp_stream.specs.Streams.{offered_to, without_last}
+use Rattle.mp_stream.specs.Streams.{HaveRows, HasRowOf, IsGrown, IsKnown, IsOf, IsOffered, IsWaiting, Streamed}
+use Rattle.mp_stream.specs.Streams.{without_last}
 use Rattle.mp_stream.specs.declared.profiles.GrowingProfile.{GrowingProfile}
 use Rattle.mp_sums.specs.declared.ranges.Range.{Range}
 use Rattle.mp_stream.proofs.Moving.{sum_small}
@@ -50,6 +50,7 @@ use Rattle.mp_stream.proofs.SumLemmas.{sum_none, sum_more}
 use Rattle.mp_stream.proofs.Steps.{front_taken, push_more}
 use Rattle.mp_stream.proofs.EntryLemmas.{free_front, left_stays, left_last, left_last_none, right_entries}
 use Rattle.mp_stream.proofs.EntryLemmas.{right_entries_stay, windows_more}
+use Rattle.mp_stream.proofs.Taken.{renumbered_whole}
 
 -- ---- columns
 
@@ -169,7 +170,7 @@ row_before m items row grown least long places before e i lt =
 -- a row and room for the next, with a place more
 places_wait : (m : ℕ) (items : List Sample) (row grown next : List ℕ) → 1 ≤ m → m ≤ length items
     → length row ≡ windows (length (without_last items)) m → grown ≡ row ++ 0 ∷ []
-    → length next ≡ windows (length (without_last items)) m + 1 → HavePlaces (windows (length items) m) grown next
+    → length next ≡ windows (length (without_last items)) m + 1 → HavePlaces (last_place m items + 1) grown next
 places_wait m items row grown next least long places e more =
     let count = without_last_long items in
     record {
@@ -180,11 +181,12 @@ places_wait m items row grown next least long places e more =
 row_waits : (m : ℕ) (items : List Sample) (row grown next : List ℕ) → 3 ≤ m → m ≤ max_window → m ≤ length items
     → length row ≡ windows (length (without_last items)) m
     → IsRow (numbers_in (without_last items)) m (last_place m (without_last items)) row → grown ≡ row ++ 0 ∷ []
-    → length next ≡ windows (length (without_last items)) m + 1 → IsBefore m items grown next
+    → length next ≡ windows (length (without_last items)) m + 1
+    → IsBefore m (numbers_in items) (last_place m items) grown next
 row_waits m items row grown next least width long places before e more = record {
   least = least;
   width = width;
-  long = long;
+  long = omega (arith, least, long, length-map items number_in);
   places = places_wait m items row grown next (omega (arith, least)) long places e more;
   row = row_before m items row grown (omega (arith, least)) long (omega (arith, without_last_long items, places))
       before e;
@@ -193,15 +195,21 @@ row_waits m items row grown next least width long places before e more = record 
 -- ---- one window more
 
 -- a column that grew by a place without an entry
-pushed_before : (column : List (Option Near)) (i : ℕ) → i < length column
+pub pushed_before : (column : List (Option Near)) (i : ℕ) → i < length column
     → get_or (column ++ None ∷ []) i None ≡ get_or column i None
 pushed_before column i lt = get_or-append column (None ∷ []) None i lt
 
-pushed_last : (column : List (Option Near)) (w : ℕ) → length column ≡ w → get_or (column ++ None ∷ []) w None ≡ None
+pub pushed_last : (column : List (Option Near)) (w : ℕ) → length column ≡ w → get_or (column ++ None ∷ []) w None ≡ None
 pushed_last column w e =
     ap (λ k. get_or (column ++ None ∷ []) k None) (sym e) ∙ get_or-append_seam column None [] None
 
-best_other : (column : List (Option Near)) (w i : ℕ) (best : Option Near) → (i ≡ w → ⊥)
+pub pushed_from : (column : List (Option Near)) (i : ℕ) → length column ≤ i → get_or (column ++ None ∷ []) i None ≡ None
+pushed_from [] zero le = refl
+pushed_from [] (suc i) le = refl
+pushed_from (x ∷ column) zero le = absurd (omega (arith, le))
+pushed_from (x ∷ column) (suc i) le = pushed_from column i (omega (arith, le))
+
+pub best_other : (column : List (Option Near)) (w i : ℕ) (best : Option Near) → (i ≡ w → ⊥)
     → get_or (with_best column w best) i None ≡ get_or column i None
 best_other column w i None ne = refl
 best_other column w i (Some found) ne = get_or-set_other column w i (nearer_of (get_or column w None)
@@ -211,7 +219,7 @@ first_found : (x : Option Near) (found : Near) → x ≡ None → nearer_of x (S
 first_found None found e = refl
 first_found (Some y) found e = absurd (cc)
 
-best_here : (column : List (Option Near)) (w : ℕ) (best : Option Near) → w < length column → get_or column w None ≡ None
+pub best_here : (column : List (Option Near)) (w : ℕ) (best : Option Near) → w < length column → get_or column w None ≡ None
     → get_or (with_best column w best) w None ≡ best
 best_here column w None lt e = e
 best_here column w (Some found) lt e =
@@ -265,7 +273,15 @@ lefts_grow m a s left new best le e f found =
 
 -- the distances of a window at place w
 abbrev row_at : ℕ → List Sample → ℕ → ℕ → ℕ
-row_at m items w i = sum_at (numbers_in items) m i w
+row_at m items w = distance_from m (numbers_in items) w
+
+-- those of the last window
+abbrev last_distance : ℕ → List Sample → ℕ → ℕ
+last_distance m items = row_at m items (last_place m items)
+
+-- how many windows the last one is offered to
+abbrev offered_to : ℕ → List Sample → Bool → ℕ
+offered_to m items last_free = offered_before last_free m (last_place m items)
 
 -- the series with its last sample, and the windows that it had before
 pub record IsSplit (m : ℕ) (items : List Sample) : Type 0 where
@@ -297,7 +313,7 @@ is_split m items least le =
     }
 
 frees_of : (m : ℕ) (items : List Sample) (last_free : Bool) (before grown : GrowingProfile)
-    → IsOf m (without_last items) before → IsSplit m items → IsGrown last_free before grown
+    → HasRowOf m (without_last items) before → IsSplit m items → IsGrown last_free before grown
     → last_free ≡ is_free m (series_of items) (last_place m items)
     → (i : ℕ) → i < windows_of m (series_of (without_last items)) + 1
     → get_or grown.free.items i false
@@ -333,7 +349,7 @@ best_found m items last_free before grown h split grown_is last true some =
     ap (λ t. near (row_candidate free (last_distance m items)) (offered_before t m (last_place m items))) some
     ∙ ap (λ j. near (row_candidate free (row_at m items j)) (j - excl m)) (sym split.count)
     ∙ left_last m _ _ (numbers_in items) free split.before.long split.before.numbers
-    (frees_of m items last_free before grown h split grown_is last) (last_is m items last_free true split last some)
+    (frees_of m items last_free before grown h.row split grown_is last) (last_is m items last_free true split last some)
 best_found m items last_free before grown h split grown_is last false none =
     let c = row_candidate grown.free.items (last_distance m items) in
     ap (λ t. near c (offered_before t m (last_place m items))) none ∙ grows_by_one_candidate.no_candidates c
@@ -342,7 +358,7 @@ best_found m items last_free before grown h split grown_is last false none =
 
 left_after : (m : ℕ) (items : List Sample) (last_free : Bool) (before grown after : GrowingProfile)
     → IsOf m (without_last items) before → IsSplit m items → IsGrown last_free before grown
-    → IsOffered m items last_free grown after → last_free ≡ is_free m (series_of items) (last_place m items)
+    → IsOffered m (numbers_in items) (last_place m items) last_free grown after → last_free ≡ is_free m (series_of items) (last_place m items)
     → after.entries.profile.left ≡ (matrix_profile m (series_of items)).left
 left_after m items last_free before grown after h split grown_is offered last =
     let w = last_place m items in
@@ -351,7 +367,10 @@ left_after m items last_free before grown after h split grown_is offered last =
     lefts_grow m (series_of (without_last items)) (reading_of (get_or items (length items - 1) Missing))
     before.entries.profile.left after.entries.profile.left best split.before.long h.left
     (subst (λ j. after.entries.profile.left ≡ with_best column j best) (sym split.count)
-    (offered.left ∙ ap (λ list. with_best list w best) grown_is.left))
+    (offered.left ∙ ap (λ first. with_best grown.entries.profile.left w (renumbered first best))
+    (grown_is.first ∙ h.first)
+    ∙ ap (with_best grown.entries.profile.left w) (renumbered_whole best)
+    ∙ ap (λ list. with_best list w best) grown_is.left))
     (best_found m items last_free before grown h split grown_is last last_free refl)
     ∙ ap (λ a. (matrix_profile m a).left) (sym split.series)
 
@@ -371,7 +390,7 @@ rights_found m items last_free before grown old new h split grown_is last stood 
     let free = grown.free.items in
     let w = last_place m items in
     right_entries m _ _ (numbers_in items) free old new split.before.long split.before.numbers
-    (frees_of m items last_free before grown h split grown_is last) (last_is m items last_free true split last some)
+    (frees_of m items last_free before grown h.row split grown_is last) (last_is m items last_free true split last some)
     stood none
     (subst (λ j. IsTaken free (row_at m items j) j 0 (j - excl m) old new) (sym split.count)
     (subst (λ t. IsTaken free (last_distance m items) w 0 (offered_before t m w) old new) some taken)) i lt
@@ -385,7 +404,7 @@ rights_found m items last_free before grown old new h split grown_is last stood 
 
 right_after : (m : ℕ) (items : List Sample) (last_free : Bool) (before grown after : GrowingProfile)
     → IsOf m (without_last items) before → IsSplit m items → IsGrown last_free before grown
-    → IsOffered m items last_free grown after → last_free ≡ is_free m (series_of items) (last_place m items)
+    → IsOffered m (numbers_in items) (last_place m items) last_free grown after → last_free ≡ is_free m (series_of items) (last_place m items)
     → after.entries.profile.right ≡ (matrix_profile m (series_of items)).right
 right_after m items last_free before grown after h split grown_is offered last =
     let a = series_of (without_last items) in
@@ -398,7 +417,9 @@ right_after m items last_free before grown after h split grown_is offered last =
     let taken : IsTaken grown.free.items (last_distance m items) (last_place m items) 0 (offered_to m items last_free)
     (right ++ None ∷ []) new =
     subst (λ column. IsTaken grown.free.items (last_distance m items) (last_place m items) 0
-    (offered_to m items last_free) column new) grown_is.right offered.right in
+    (offered_to m items last_free) column new) grown_is.right
+    (subst (λ first. IsTaken grown.free.items (last_distance m items) (numbered first (last_place m items)) 0
+    (offered_to m items last_free) grown.entries.profile.right new) (grown_is.first ∙ h.first) offered.right) in
     column_is (right_entry (is_allowed m) m b) (windows_of m b) new
     (taken.places ∙ length-append right (None ∷ []) ∙ ap (λ n. n + 1) count ∙ sym more)
     (λ i lt. rights_found m items last_free before grown (right ++ None ∷ []) new h split grown_is last
@@ -461,28 +482,23 @@ rights_start m items w right at e i =
           (entries_are_nearest.right (is_allowed m) m a i)))
       | inr ge ↦ subst (StartsAtMost w) (sym (pushed_from right i (omega (arith, ge, count)))) tt
     ]
-  where
-    pushed_from : (column : List (Option Near)) (i : ℕ) → length column ≤ i → get_or (column ++ None ∷ []) i None ≡ None
-    pushed_from [] zero le = refl
-    pushed_from [] (suc i) le = refl
-    pushed_from (x ∷ column) zero le = absurd (omega (arith, le))
-    pushed_from (x ∷ column) (suc i) le = pushed_from column i (omega (arith, le))
 
 -- with a place for the last window
 pub grown_waits : (m : ℕ) (items : List Sample) (last_free : Bool) (before grown : GrowingProfile) → 3 ≤ m
-    → m ≤ max_window → m ≤ length items → IsOf m (without_last items) before → IsSplit m items
-    → IsGrown last_free before grown → length before.entries.profile.all ≡ length before.entries.profile.right
-    → AreWithin before.range (numbers_in items) → IsWaiting m items grown
-grown_waits m items last_free before grown least width long h split grown_is all range =
-    let front = without_last items in
+    → m ≤ max_window → m ≤ length items → HasRowOf m (without_last items) before → IsSplit m items
+    → IsGrown last_free before grown → length before.entries.profile.right ≡ last_place m items
+    → numbered before.entries.profile.first (last_place m items) < 2 ^ 64
+    → AllStartAtMost (numbered before.entries.profile.first (last_place m items))
+    (before.entries.profile.right ++ None ∷ [])
+    → AreWithin before.range (numbers_in items) → IsWaiting m (numbers_in items) (last_place m items) grown
+grown_waits m items last_free before grown least width long h split grown_is rights number starts range =
     let w = last_place m items in
     let right = before.entries.profile.right in
-    let rights : length right ≡ w = rights_count m front before h ∙ split.front in
     let next = ap (λ n. n + 1) h.rows.narrow.next_are in
     let wide_next = ap (λ n. n + 1) h.rows.wide.next_are in
     record {
       frees = ap length grown_is.free ∙ length-append before.free.items (last_free ∷ [])
-          ∙ ap (λ n. n + 1) (h.frees ∙ split.front) ∙ sym split.more;
+          ∙ ap (λ n. n + 1) (h.frees ∙ split.front);
       range = subst (λ r. AreWithin r (numbers_in items)) (sym grown_is.range) range;
       rows = record {
         narrow = places_wait m items _ _ _ (omega (arith, least)) long h.rows.narrow.sums_are grown_is.narrow
@@ -491,9 +507,10 @@ grown_waits m items last_free before grown least width long h split grown_is all
             (grown_is.wide_next ∙ wide_next);
       };
       ready = record {
-        all = grown_is.all ∙ ap (λ n. n + 1) (all ∙ rights);
         rights = ap length grown_is.right ∙ length-append right (None ∷ []) ∙ ap (λ n. n + 1) rights;
-        starts = subst (AllStartAtMost w) (sym grown_is.right) (rights_start m front w right split.count h.right);
+        number = subst (λ first. numbered first w < 2 ^ 64) (sym grown_is.first) number;
+        starts = subst (λ first. AllStartAtMost (numbered first w) grown.entries.profile.right) (sym grown_is.first)
+            (subst (AllStartAtMost (numbered before.entries.profile.first w)) (sym grown_is.right) starts);
         limits = subst (λ t. AreLimits (limit_by t) grown.entries.profile.right grown.entries.limits.items)
             (sym grown_is.is_narrow)
             (subst (λ column. AreLimits (limit_by before.is_narrow) column grown.entries.limits.items)
@@ -508,34 +525,51 @@ grown_waits m items last_free before grown least width long h split grown_is all
           (h.wide (sym grown_is.is_narrow ∙ is)) grown_is.wide (grown_is.wide_next ∙ wide_next);
     }
 
--- what the offers are, by a row of the kind that is kept
-pub is_offered : (t : Bool) (m : ℕ) (items : List Sample) (last_free : Bool) (end last : ℕ) (free : List Bool)
-    (best : Option Near) (middle : Entries) (grown after : GrowingProfile) → grown.is_narrow ≡ t
-    → free ≡ grown.free.items → last ≡ last_place m items → end ≡ offered_before last_free m last
-    → AreOffered (limit_by t) free (last_distance m items) (last_place m items) 0 end grown.entries middle
-    → best ≡ near (row_candidate free (last_distance m items)) end
-    → after.entries.profile.right ≡ middle.profile.right
-    → after.entries.profile.left ≡ with_best middle.profile.left last best → after.entries.limits ≡ middle.limits
-    → after.free ≡ grown.free → after.range ≡ grown.range → after.is_narrow ≡ grown.is_narrow
-    → HaveRows (windows (length items) m) after
-    → (t ≡ true → IsRow (numbers_in items) m (last_place m items) after.narrow.sums.items)
-    → (t ≡ false → IsRow (numbers_in items) m (last_place m items) after.wide.sums.items)
-    → IsOffered m items last_free grown after
-is_offered t m items last_free end last free best middle grown after kind free_is last_is end_is offered best_is right
-    left limits frees range is_narrow rows narrow wide =
+-- where all windows are there
+pub all_wait : (m : ℕ) (items : List Sample) (last_free : Bool) (before grown : GrowingProfile) → 3 ≤ m
+    → m ≤ max_window → m ≤ length items → length items ≤ 2 ^ 62 → IsOf m (without_last items) before → IsSplit m items
+    → IsGrown last_free before grown → AreWithin before.range (numbers_in items)
+    → IsWaiting m (numbers_in items) (last_place m items) grown
+all_wait m items last_free before grown least width long few h split grown_is range =
+    let front = without_last items in
     let w = last_place m items in
-    let to : end ≡ offered_to m items last_free = end_is ∙ ap (offered_before last_free m) last_is in
+    let right = before.entries.profile.right in
+    grown_waits m items last_free before grown least width long h.row split grown_is
+    (rights_count m front before h ∙ split.front)
+    (subst (λ first. numbered first w < 2 ^ 64) (sym h.first) (omega (arith, few)))
+    (subst (λ first. AllStartAtMost (numbered first w) (right ++ None ∷ [])) (sym h.first)
+    (rights_start m front w right split.count h.right)) range
+
+-- what the offers are, by a row of the kind that is kept
+pub is_offered : (t : Bool) (m : ℕ) (xs : List ℤ) (w : ℕ) (last_free : Bool) (end last : ℕ) (free : List Bool)
+    (best : Option Near) (middle : Entries) (grown after : GrowingProfile) → grown.is_narrow ≡ t
+    → free ≡ grown.free.items → last ≡ w → end ≡ offered_before last_free m last
+    → AreOffered (limit_by t) free (distance_from m xs w) w 0 end grown.entries middle
+    → best ≡ near (row_candidate free (distance_from m xs w)) end
+    → after.entries.profile.right ≡ middle.profile.right
+    → after.entries.profile.left ≡ with_best middle.profile.left last (renumbered middle.profile.first best)
+    → after.entries.profile.first ≡ middle.profile.first → after.entries.limits ≡ middle.limits
+    → after.free ≡ grown.free → after.range ≡ grown.range → after.is_narrow ≡ grown.is_narrow
+    → HaveRows (w + 1) after → (t ≡ true → IsRow xs m w after.narrow.sums.items)
+    → (t ≡ false → IsRow xs m w after.wide.sums.items) → IsOffered m xs w last_free grown after
+is_offered t m xs w last_free end last free best middle grown after kind free_is last_is end_is offered best_is right
+    left first limits frees range is_narrow rows narrow wide =
+    let to : end ≡ offered_before last_free m w = end_is ∙ ap (offered_before last_free m) last_is in
+    let dist = distance_from m xs w in
     let old = grown.entries.profile in
     record {
-      right = subst (IsTaken grown.free.items (last_distance m items) w 0 (offered_to m items last_free) old.right)
+      right = subst (IsTaken grown.free.items dist (numbered old.first w) 0 (offered_before last_free m w) old.right)
           (sym right)
-          (subst (λ e. IsTaken grown.free.items (last_distance m items) w 0 e old.right middle.profile.right) to
-          (subst (λ f. IsTaken f (last_distance m items) w 0 end old.right middle.profile.right) free_is
+          (subst (λ e. IsTaken grown.free.items dist (numbered old.first w) 0 e old.right middle.profile.right) to
+          (subst (λ f. IsTaken f dist (numbered old.first w) 0 end old.right middle.profile.right) free_is
           offered.right));
-      left = left ∙ ap (λ column. with_best column last best) offered.only.left
-          ∙ ap (λ j. with_best old.left j best) last_is
-          ∙ ap (with_best old.left w) (best_is ∙ ap (λ f. near (row_candidate f (last_distance m items)) end) free_is
-          ∙ ap (near (row_candidate grown.free.items (last_distance m items))) to);
+      left = left ∙ ap (λ column. with_best column last (renumbered middle.profile.first best)) offered.only.left
+          ∙ ap (λ j. with_best old.left j (renumbered middle.profile.first best)) last_is
+          ∙ ap (λ f. with_best old.left w (renumbered f best)) offered.only.first
+          ∙ ap (λ found. with_best old.left w (renumbered old.first found))
+          (best_is ∙ ap (λ f. near (row_candidate f dist) end) free_is
+          ∙ ap (near (row_candidate grown.free.items dist)) to);
+      first = first ∙ offered.only.first;
       free = frees;
       range = range;
       is_narrow = is_narrow;
@@ -548,14 +582,39 @@ is_offered t m items last_free end last free best middle grown after kind free_i
       wide = λ is. wide (sym kind ∙ is);
     }
 
--- with the last window offered
-pub kept_grows : (m : ℕ) (items : List Sample) (last_free : Bool) (before grown after : GrowingProfile)
-    → IsOf m (without_last items) before → IsSplit m items → IsGrown last_free before grown
-    → IsOffered m items last_free grown after → last_free ≡ is_free m (series_of items) (last_place m items)
-    → IsWaiting m items grown → IsOf m items after
-kept_grows m items last_free before grown after h split grown_is offered last waiting = record {
-  left = left_after m items last_free before grown after h split grown_is offered last;
-  right = right_after m items last_free before grown after h split grown_is offered last;
+-- the numbers of all samples, as they were lent
+lent_numbers : (items : List Sample) (lent : List ℤ) (count : ℕ) → lent ≡ take count (numbers_in items)
+    → count ≡ length items → lent ≡ numbers_in items
+lent_numbers items lent count e whole =
+    let all : count ≡ length (numbers_in items) = whole ∙ sym (length-map items number_in) in
+    e ∙ ap (λ n. take n (numbers_in items)) all ∙ take-length (numbers_in items)
+
+place_in_numbers : (m : ℕ) (items : List Sample) → last_place m (numbers_in items) ≡ last_place m items
+place_in_numbers m items = ap (λ n. windows n m - 1) (length-map items number_in)
+
+pub waits_lent : (m : ℕ) (items : List Sample) (lent : List ℤ) (count : ℕ) (grown : GrowingProfile)
+    → lent ≡ take count (numbers_in items) → count ≡ length items
+    → IsWaiting m (numbers_in items) (last_place m items) grown → IsWaiting m lent (last_place m lent) grown
+waits_lent m items lent count grown e whole h =
+    subst (λ xs. IsWaiting m xs (last_place m xs) grown) (sym (lent_numbers items lent count e whole))
+    (subst (λ last. IsWaiting m (numbers_in items) last grown) (sym (place_in_numbers m items)) h)
+
+pub offered_lent : (m : ℕ) (items : List Sample) (lent : List ℤ) (count : ℕ) (last_free : Bool)
+    (grown after : GrowingProfile)
+    → lent ≡ take count (numbers_in items) → count ≡ length items
+    → IsOffered m lent (last_place m lent) last_free grown after
+    → IsOffered m (numbers_in items) (last_place m items) last_free grown after
+offered_lent m items lent count last_free grown after e whole h =
+    subst (λ last. IsOffered m (numbers_in items) last last_free grown after) (place_in_numbers m items)
+    (subst (λ xs. IsOffered m xs (last_place m xs) last_free grown after) (lent_numbers items lent count e whole) h)
+
+-- with the last window offered, what is kept beside the nearest windows
+pub row_grows : (m : ℕ) (items : List Sample) (last_free : Bool) (before grown after : GrowingProfile)
+    → HasRowOf m (without_last items) before → IsSplit m items → IsGrown last_free before grown
+    → IsOffered m (numbers_in items) (last_place m items) last_free grown after
+    → last_free ≡ is_free m (series_of items) (last_place m items)
+    → IsWaiting m (numbers_in items) (last_place m items) grown → HasRowOf m items after
+row_grows m items last_free before grown after h split grown_is offered last waiting = record {
   frees = ap (λ free. length free.items) offered.free ∙ ap length grown_is.free
       ∙ length-append before.free.items (last_free ∷ []) ∙ ap (λ n. n + 1) (h.frees ∙ split.front) ∙ sym split.more;
   free = λ i lt. ap (λ free. get_or free.items i false) offered.free
@@ -564,14 +623,27 @@ kept_grows m items last_free before grown after h split grown_is offered last wa
   range = subst (λ range. AreWithin range (numbers_in items)) (sym offered.range) waiting.range;
   limits = subst (λ t. AreLimits (limit_by t) after.entries.profile.right after.entries.limits.items)
       (sym offered.is_narrow) offered.limits;
-  rows = offered.rows;
+  rows = subst (λ n. HaveRows n after) (sym split.more) offered.rows;
   fits = λ is. subst (SumsFit m 63) (sym offered.range) (waiting.fits (sym offered.is_narrow ∙ is));
+  narrow = λ is. offered.narrow (sym offered.is_narrow ∙ is);
+  wide = λ is. offered.wide (sym offered.is_narrow ∙ is);
+}
+
+-- and the profile of all windows
+pub all_grow : (m : ℕ) (items : List Sample) (last_free : Bool) (before grown after : GrowingProfile)
+    → IsOf m (without_last items) before → IsSplit m items → IsGrown last_free before grown
+    → IsOffered m (numbers_in items) (last_place m items) last_free grown after
+    → last_free ≡ is_free m (series_of items) (last_place m items)
+    → IsWaiting m (numbers_in items) (last_place m items) grown → IsOf m items after
+all_grow m items last_free before grown after h split grown_is offered last waiting = record {
+  first = offered.first ∙ grown_is.first ∙ h.first;
+  left = left_after m items last_free before grown after h split grown_is offered last;
+  right = right_after m items last_free before grown after h split grown_is offered last;
+  row = row_grows m items last_free before grown after h.row split grown_is offered last waiting;
   exact = λ fits. offered.is_narrow ∙ grown_is.is_narrow
       ∙ h.exact (subst (SumsFit m 63) (offered.range ∙ grown_is.range) fits);
   none = λ zero. subst (SumsFit m 63) (sym (offered.range ∙ grown_is.range))
       (h.none (omega (arith, zero, without_last_long items)));
-  narrow = λ is. offered.narrow (sym offered.is_narrow ∙ is);
-  wide = λ is. offered.wide (sym offered.is_narrow ∙ is);
 }
 
 -- ---- whether 64 bits hold the sums
@@ -597,7 +669,7 @@ narrow_by : (m n : ℕ) (items : List Sample) (before : GrowingProfile) (range :
 narrow_by m zero items before range is h wider fits = h.exact (h.none is)
 narrow_by m (suc n) items before range is h wider fits =
     let some : 0 < length items = omega (arith, is) in
-    let first = h.range 0 (omega (arith, some, length-map items number_in)) in
+    let first = h.row.range 0 (omega (arith, some, length-map items number_in)) in
     h.exact (narrower_fits m before.range range (omega (arith, ints, first)) (wider some) fits)
 
 -- where 64 bits hold those of a range that reaches further, the row has 64 bits before
@@ -622,7 +694,8 @@ narrow_first m items range wide narrow least long same within fit row sums i lt 
     (sum_small range (numbers_in items) m i (windows (length items) m - 1) within fit
     (omega (arith, below, long, many, least)) (omega (arith, below, long, many, least)))
 
-pub kept_first : (m : ℕ) (items : List Sample) (growing : GrowingProfile) → 1 ≤ m
+pub all_first : (m : ℕ) (items : List Sample) (growing : GrowingProfile) → 1 ≤ m
+    → growing.entries.profile.first ≡ None
     → growing.entries.profile.left ≡ (matrix_profile m (series_of items)).left
     → growing.entries.profile.right ≡ (matrix_profile m (series_of items)).right
     → length growing.free.items ≡ windows (length items) m
@@ -636,20 +709,23 @@ pub kept_first : (m : ℕ) (items : List Sample) (growing : GrowingProfile) → 
     → get_or growing.narrow.sums.items i 0 ≡ min (get_or growing.wide.sums.items i 0) (2 ^ 64 - 1))
     → AreLimits (limit_by growing.is_narrow) growing.entries.profile.right growing.entries.limits.items
     → IsOf m items growing
-kept_first m items growing least left right frees free range fits exact none rows row sums limits = record {
+all_first m items growing least first left right frees free range fits exact none rows row sums limits = record {
+  first = first;
   left = left;
   right = right;
-  frees = frees;
-  free = free;
-  range = range;
-  limits = limits;
-  rows = rows;
-  fits = fits;
+  row = record {
+    frees = frees;
+    free = free;
+    range = range;
+    limits = limits;
+    rows = rows;
+    fits = fits;
+    narrow = λ is. narrow_first m items growing.range growing.wide.sums.items growing.narrow.sums.items least
+        rows.wide.sums_are (rows.narrow.sums_are ∙ sym rows.wide.sums_are) range (fits is) row sums;
+    wide = λ _. row;
+  };
   exact = exact;
   none = λ zero. number_fits m growing.range (none zero);
-  narrow = λ is. narrow_first m items growing.range growing.wide.sums.items growing.narrow.sums.items least
-      rows.wide.sums_are (rows.narrow.sums_are ∙ sym rows.wide.sums_are) range (fits is) row sums;
-  wide = λ _. row;
 }
 
 -- ---- a sample without a window
@@ -665,27 +741,38 @@ no_windows m items f g list lt e =
     ap length e ∙ columns_have_places.count f (windows_of m (series_of front)) ∙ before ∙ sym after in
     column_is g (windows_of m (series_of items)) list none (λ i less. absurd (omega (arith, less, after)))
 
-pub kept_waits : (m : ℕ) (items : List Sample) (before : GrowingProfile) → length items < m
-    → AreWithin before.range (numbers_in items) → IsOf m (without_last items) before → IsOf m items before
-kept_waits m items before lt range h =
+-- what is kept beside the nearest windows
+pub row_stays : (m : ℕ) (items : List Sample) (before : GrowingProfile) → length items < m
+    → AreWithin before.range (numbers_in items) → HasRowOf m (without_last items) before → HasRowOf m items before
+row_stays m items before lt range h =
     let front = without_last items in
     let none : windows (length front) m ≡ windows (length items) m = omega (arith, without_last_long items) in
     let zeros : windows (length items) m ≡ 0 = omega arith in
     record {
-      left = no_windows m items (left_entry (is_allowed m) m (series_of front))
-          (left_entry (is_allowed m) m (series_of items)) before.entries.profile.left lt h.left;
-      right = no_windows m items (right_entry (is_allowed m) m (series_of front))
-          (right_entry (is_allowed m) m (series_of items)) before.entries.profile.right lt h.right;
       frees = h.frees ∙ none;
       free = λ i less. absurd (omega (arith, less, zeros));
       range = range;
       limits = h.limits;
       rows = subst (λ n. HaveRows n before) none h.rows;
       fits = h.fits;
-      exact = h.exact;
-      none = λ zero. h.none (omega (arith, zero, without_last_long items));
       narrow = λ is i less. absurd (omega (arith, less, h.rows.narrow.sums_are, none, zeros));
       wide = λ is i less. absurd (omega (arith, less, h.rows.wide.sums_are, none, zeros));
+    }
+
+-- and the profile of all windows
+pub all_stay : (m : ℕ) (items : List Sample) (before : GrowingProfile) → length items < m
+    → AreWithin before.range (numbers_in items) → IsOf m (without_last items) before → IsOf m items before
+all_stay m items before lt range h =
+    let front = without_last items in
+    record {
+      first = h.first;
+      left = no_windows m items (left_entry (is_allowed m) m (series_of front))
+          (left_entry (is_allowed m) m (series_of items)) before.entries.profile.left lt h.left;
+      right = no_windows m items (right_entry (is_allowed m) m (series_of front))
+          (right_entry (is_allowed m) m (series_of items)) before.entries.profile.right lt h.right;
+      row = row_stays m items before lt range h.row;
+      exact = h.exact;
+      none = λ zero. h.none (omega (arith, zero, without_last_long items));
     }
 
 -- ---- a wider range
@@ -727,21 +814,6 @@ front_within items old new count e wider =
 
 -- ---- a range that is taken
 
-pub in_bits : (m : ℕ) (items : List Sample) (growing : GrowingProfile) → IsOf m items growing
-    → IsOfInBits m items growing
-in_bits m items growing h = record {
-  left = h.left;
-  right = h.right;
-  frees = h.frees;
-  free = h.free;
-  range = h.range;
-  limits = h.limits;
-  rows = h.rows;
-  fits = h.fits;
-  narrow = h.narrow;
-  wide = h.wide;
-}
-
 only_first : (count long before : ℕ) → count ≡ long → long ≡ before + 1 → before ≡ 0 → nat_eq count 1 ≡ true
 only_first count long before e f g = grind (arith, nat_tests)
 
@@ -751,25 +823,20 @@ pub covered : (m : ℕ) (items : List Sample) (sample : Sample) (before after : 
     → items ≡ without_last items ++ sample ∷ [] → count ≡ length items
     → (nat_eq count 1 ≡ true → range.greatest ≡ range.least) → (nat_eq count 1 ≡ false → Reaches range before.range)
     → after.range ≡ range → (SumsFit m 63 range → after.is_narrow ≡ before.is_narrow)
-    → IsOf m (without_last items) before → IsOfInBits m (without_last items) after → IsOf m (without_last items) after
-covered m items sample before after range count whole is first wider taken bits h now =
+    → after.entries.profile ≡ before.entries.profile
+    → IsOf m (without_last items) before → HasRowOf m (without_last items) after → IsOf m (without_last items) after
+covered m items sample before after range count whole is first wider taken bits same h now =
     let front = without_last items in
     let more : length items ≡ length front + 1 = ap length whole ∙ length-append front (sample ∷ []) in
     record {
-      left = now.left;
-      right = now.right;
-      frees = now.frees;
-      free = now.free;
-      range = now.range;
-      limits = now.limits;
-      rows = now.rows;
-      fits = now.fits;
+      first = ap (λ profile. profile.first) same ∙ h.first;
+      left = ap (λ profile. profile.left) same ∙ h.left;
+      right = ap (λ profile. profile.right) same ∙ h.right;
+      row = now;
       exact = λ fits.
           let fit : SumsFit m 63 range = subst (SumsFit m 63) taken fits in
           bits fit ∙ narrow_before m front before range h
           (λ some. wider (first_only count (length items) is (omega (arith, some, more)))) fit;
       none = λ zero. subst (SumsFit m 63) (sym taken)
           (number_fits m range (first (only_first count (length items) (length front) is more zero)));
-      narrow = now.narrow;
-      wide = now.wide;
     }

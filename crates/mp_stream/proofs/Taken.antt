@@ -12,7 +12,8 @@ use Rattle.mp_nums.specs.Near.{nearer_of}
 use Rattle.mp_defs.specs.Least.{near, near_at}
 use Rattle.mp_defs.specs.LeastLaws.{grows_by_one_candidate, near_same}
 use Rattle.mp_partial.specs.Values.{offered}
-use Rattle.mp_stream.specs.Limits.{limit_of, coarse, coarse_limit, StartsAtMost, AreLimits}
+use Rattle.mp_stream.specs.Blocks.{numbered, renumbered}
+use Rattle.mp_stream.specs.Limits.{limit_of, coarse, coarse_limit, StartsAtMost, AllStartAtMost, AreLimits}
 use Rattle.mp_stream.specs.Offers.{AreOffered, IsReady, OnlyRightChanges}
 use Rattle.mp_stream.specs.declared.entries.Entries.{Entries}
 use Rattle.mp_stream.specs.Rows.{IsTaken, row_candidate, lowered}
@@ -170,7 +171,7 @@ pub starts_more : (old : Option Near) (j k : ℕ) → j ≤ k → StartsAtMost j
 starts_more None j k le h = tt
 starts_more (Some a) j k le h = omega (arith, le, h)
 
-nearer_starts : (old : Option Near) (d j : ℕ) → StartsAtMost j old → StartsAtMost j (nearer_of old (Some (near_at j d)))
+pub nearer_starts : (old : Option Near) (d j : ℕ) → StartsAtMost j old → StartsAtMost j (nearer_of old (Some (near_at j d)))
 nearer_starts None d j h = omega arith
 nearer_starts (Some a) d j h = grind (arith, nat_tests)
 
@@ -224,38 +225,40 @@ limits_set limit_by old limits i y lt are = record {
 -- ---- entries of which only those on the right change
 
 pub only_same : (entries : Entries) → OnlyRightChanges entries entries
-only_same entries = record { left = refl; spare = refl; limits = refl; known = λ known was. was }
+only_same entries = record { left = refl; spare = refl; first = refl; limits = refl; known = λ known was. was }
 
 pub only_then : (a b c : Entries) → OnlyRightChanges a b → OnlyRightChanges b c → OnlyRightChanges a c
 only_then a b c h g = record {
   left = g.left ∙ h.left;
   spare = g.spare ∙ h.spare;
+  first = g.first ∙ h.first;
   limits = g.limits ∙ h.limits;
   known = λ known was. g.known known (h.known known was);
 }
 
 -- after one window
 pub ready_one : (limit_by : Option Near → ℕ) (last i d limit : ℕ) (old new : Entries) → i < last
-    → IsReady limit_by last old
-    → length new.profile.all ≡ length old.profile.all
-    → new.profile.right ≡ offered old.profile.right i (near_at last d)
+    → IsReady limit_by last old → new.profile.first ≡ old.profile.first
+    → new.profile.right ≡ offered old.profile.right i (near_at (numbered old.profile.first last) d)
     → limit ≡ limit_by (get_or new.profile.right i None) → new.limits.items ≡ set old.limits.items i limit
     → IsReady limit_by last new
-ready_one limit_by last i d limit old new lt h all right limit_is limits =
+ready_one limit_by last i d limit old new lt h first right limit_is limits =
     let column = old.profile.right in
-    let y = nearer_of (get_or column i None) (Some (near_at last d)) in
+    let j = numbered old.profile.first last in
+    let y = nearer_of (get_or column i None) (Some (near_at j d)) in
     let within : i < length column = omega (arith, lt, h.rights) in
     let here : get_or new.profile.right i None ≡ y =
     ap (λ list. get_or list i None) right ∙ get_or-set_same column i y None within in
     record {
-      all = all ∙ h.all;
       rights = ap length right ∙ length-set column i y ∙ h.rights;
-      starts = λ q. subst (λ list. StartsAtMost last (get_or list q None)) (sym right) (elim (cases_eq q i) [
-        | inl same ↦ subst (λ p. StartsAtMost last (get_or (set column i y) p None)) (sym same)
-            (subst (StartsAtMost last) (sym (get_or-set_same column i y None within))
-            (nearer_starts (get_or column i None) d last (h.starts i)))
-        | inr other ↦ subst (StartsAtMost last) (sym (get_or-set_other column i q y None other)) (h.starts q)
-      ]);
+      number = subst (λ f. numbered f last < 2 ^ 64) (sym first) h.number;
+      starts = subst (λ f. AllStartAtMost (numbered f last) new.profile.right) (sym first)
+          (λ q. subst (λ list. StartsAtMost j (get_or list q None)) (sym right) (elim (cases_eq q i) [
+            | inl same ↦ subst (λ p. StartsAtMost j (get_or (set column i y) p None)) (sym same)
+                (subst (StartsAtMost j) (sym (get_or-set_same column i y None within))
+                (nearer_starts (get_or column i None) d j (h.starts i)))
+            | inr other ↦ subst (StartsAtMost j) (sym (get_or-set_other column i q y None other)) (h.starts q)
+          ]));
       limits = subst (λ list. AreLimits limit_by list new.limits.items) (sym right)
           (subst (AreLimits limit_by (set column i y)) (sym (limits
           ∙ ap (set old.limits.items i) (limit_is ∙ ap limit_by here)))
@@ -274,20 +277,21 @@ limit_taken (Some a) d j lt small = let near : d < a.dist.0 = omega (arith, lt) 
 -- after a window that is nearer than its limit
 pub limit_less : (last i d : ℕ) (old : Entries) (seen : List ℕ) (right : List (Option Near)) → i < last → d < 2 ^ 63
     → IsReady limit_of last old → seen ≡ old.limits.items → d < get_or seen i 0
-    → right ≡ offered old.profile.right i (near_at last d) → d ≡ limit_of (get_or right i None)
+    → right ≡ offered old.profile.right i (near_at (numbered old.profile.first last) d)
+    → d ≡ limit_of (get_or right i None)
 limit_less last i d old seen right lt small h seen_is below right_is =
     let column = old.profile.right in
     let within : i < length column = omega (arith, lt, h.rights) in
     let less : d < limit_of (get_or column i None) =
     omega (arith, below, ap (λ list. get_or list i 0) seen_is, h.limits.each i within) in
-    limit_taken (get_or column i None) d last less small
+    limit_taken (get_or column i None) d (numbered old.profile.first last) less small
     ∙ ap limit_of (sym (ap (λ list. get_or list i None) right_is ∙ get_or-set_same column i _ None within))
 
 -- window after window
 pub offered_none : (limit_by : Option Near → ℕ) (free : List Bool) (dist : ℕ → ℕ) (last first : ℕ) (entries : Entries)
     → IsReady limit_by last entries → AreOffered limit_by free dist last first first entries entries
 offered_none limit_by free dist last first entries h = record {
-  right = taken_none free dist last first entries.profile.right;
+  right = taken_none free dist (numbered entries.profile.first last) first entries.profile.right;
   only = only_same entries;
   ready = h;
 }
@@ -296,18 +300,20 @@ pub offered_then : (limit_by : Option Near → ℕ) (free : List Bool) (dist : �
     (a b c : Entries) → first ≤ middle → middle ≤ end → AreOffered limit_by free dist last first middle a b
     → AreOffered limit_by free dist last middle end b c → AreOffered limit_by free dist last first end a c
 offered_then limit_by free dist last first middle end a b c le le' h g = record {
-  right = taken_then free dist last first middle end _ _ _ le le' h.right g.right;
+  right = taken_then free dist (numbered a.profile.first last) first middle end _ _ _ le le' h.right
+      (subst (λ f. IsTaken free dist (numbered f last) middle end b.profile.right c.profile.right) h.only.first g.right);
   only = only_then a b c h.only g.only;
   ready = g.ready;
 }
 
 pub offered_one : (limit_by : Option Near → ℕ) (free : List Bool) (dist : ℕ → ℕ) (last i : ℕ) (old new : Entries)
     → i < last → IsReady limit_by last old
-    → new.profile.right ≡ (if get_or free i false then offered old.profile.right i (near_at last (dist i)) else
-    old.profile.right)
+    → new.profile.right ≡ (if get_or free i false then offered old.profile.right i
+    (near_at (numbered old.profile.first last) (dist i)) else old.profile.right)
     → OnlyRightChanges old new → IsReady limit_by last new → AreOffered limit_by free dist last i (i + 1) old new
 offered_one limit_by free dist last i old new lt h right only ready = record {
-  right = taken_one free dist last i old.profile.right new.profile.right (omega (arith, lt, h.rights)) right;
+  right = taken_one free dist (numbered old.profile.first last) i old.profile.right new.profile.right
+      (omega (arith, lt, h.rights)) right;
   only = only;
   ready = ready;
 }
@@ -319,7 +325,7 @@ pub offered_as : (limit_by : Option Near → ℕ) (free : List Bool) (dist dist'
 offered_as limit_by free dist dist' last last' first end old new at same h =
     subst (λ j. AreOffered limit_by free dist' j first end old new) at
     (record {
-      right = taken_as free dist dist' last first end _ _ same h.right;
+      right = taken_as free dist dist' (numbered old.profile.first last) first end _ _ same h.right;
       only = h.only;
       ready = h.ready;
     })
@@ -327,11 +333,12 @@ offered_as limit_by free dist dist' last last' first end old new at same h =
 -- no window is nearer than what its limit tells
 pub offered_kept : (limit_by : Option Near → ℕ) (free : List Bool) (dist : ℕ → ℕ) (last first end : ℕ)
     (entries : Entries) → IsReady limit_by last entries
-    → ((i : ℕ) → first ≤ i → i < end → nearer_of (get_or entries.profile.right i None) (Some (near_at last (dist i)))
+    → ((i : ℕ) → first ≤ i → i < end
+    → nearer_of (get_or entries.profile.right i None) (Some (near_at (numbered entries.profile.first last) (dist i)))
     ≡ get_or entries.profile.right i None)
     → AreOffered limit_by free dist last first end entries entries
 offered_kept limit_by free dist last first end entries h kept = record {
-  right = taken_kept free dist last first end entries.profile.right kept;
+  right = taken_kept free dist (numbered entries.profile.first last) first end entries.profile.right kept;
   only = only_same entries;
   ready = h;
 }
@@ -339,14 +346,27 @@ offered_kept limit_by free dist last first end entries h kept = record {
 -- a window that is not nearer than its limit changes no column
 pub same_right : (last i d : ℕ) (entries : Entries) → i < last → d < 2 ^ 63 → IsReady limit_of last entries
     → get_or entries.limits.items i 0 ≤ d
-    → entries.profile.right ≡ offered entries.profile.right i (near_at last d)
+    → entries.profile.right ≡ offered entries.profile.right i (near_at (numbered entries.profile.first last) d)
 same_right last i d entries lt small h le =
     let column = entries.profile.right in
     let each = h.limits.each i (omega (arith, lt, h.rights)) in
-    let kept = same_kept (get_or column i None) d last small (omega (arith, le, each)) (h.starts i) in
+    let kept = same_kept (get_or column i None) d (numbered entries.profile.first last) small (omega (arith, le, each))
+    (h.starts i) in
     sym (ap (set column i) kept ∙ set_same column i)
   where
     set_same : (xs : List (Option Near)) (i : ℕ) → set xs i (get_or xs i None) ≡ xs
     set_same [] i = refl
     set_same (x ∷ xs) zero = refl
     set_same (x ∷ xs) (suc i) = ap (λ l. x ∷ l) (set_same xs i)
+
+-- ---- numbers of places
+
+-- those of earlier places are no greater
+pub numbered_less : (first : Option ℕ) (i j : ℕ) → i < j → numbered first j < 2 ^ 64 → numbered first i < 2 ^ 64
+numbered_less None i j lt h = omega (arith, lt, h)
+numbered_less (Some first) i j lt h = omega (arith, lt, h)
+
+-- where all windows are there, a place is a number
+pub renumbered_whole : (found : Option Near) → renumbered None found ≡ found
+renumbered_whole None = refl
+renumbered_whole (Some found) = refl

@@ -1,5 +1,7 @@
 -- Blocks of windows, which are marked where an entry may have changed.
-use Rattle.std.specs.Prelude.{◌≡◌, ℕ, ◌+◌, ◌/◌, List, Bool, false, slice_index_or, None}
+use Rattle.std.specs.Prelude.{◌≡◌, ℕ, ◌+◌, ◌/◌, List, Bool, false, length, slice_index_or, Option, Some}
+use Rattle.std.specs.Prelude.{None}
+use Rattle.mp_nums.specs.declared.nearest.Near.{Near}
 use Rattle.mp_partial.specs.Values.{Column}
 
 -- how many windows are marked together
@@ -10,14 +12,25 @@ block_len = 32
 abbrev pub block_count : ℕ → ℕ
 block_count windows = (windows + 31) / block_len
 
--- what is seen of a profile with its marks: its columns, for how many more windows there is room, and for each block
--- whether it is marked
+-- what is seen of the columns of some windows: for how many more windows there is room, for each block whether it is
+-- marked, and the number of the first window, where there were others before it
 pub record Marked : Type 0 where
   pub all : Column
   pub left : Column
   pub right : Column
   pub spare : ℕ
   pub changed : List Bool
+  pub first : Option ℕ
+
+-- the number of the window at a place, by that of the first window
+abbrev pub numbered : Option ℕ → ℕ → ℕ
+numbered None place = place
+numbered (Some first) place = first + place
+
+-- a window that was found at a place, by its number
+abbrev pub renumbered : Option ℕ → Option Near → Option Near
+renumbered first None = None
+renumbered first (Some found) = Some (record { dist = found.dist; index = numbered first found.index })
 
 -- the entries of each window whose block isn't marked are known
 pub record AreKnown (known column : Column) (changed : List Bool) : Type 0 where
@@ -27,3 +40,9 @@ pub record AreKnown (known column : Column) (changed : List Bool) : Type 0 where
 -- what was known of a profile is known of what it became
 abbrev pub StayKnown : Marked → Marked → Type 0
 StayKnown old new = (known : Column) → AreKnown known old.all old.changed → AreKnown known new.all new.changed
+
+-- a profile has a place for each window in each column, and a mark for each block of them
+pub record AreMarked (all left right : Column) (changed : List Bool) : Type 0 where
+  pub blocks : length changed ≡ block_count (length all)
+  pub left_places : length left ≡ length all
+  pub right_places : length right ≡ length all

@@ -7,3 +7,8 @@ pub mod Offers
 pub mod Appended
 pub mod Streams
 pub mod Lending
+pub mod Kept
+pub mod Queues
+pub mod Last
+pub mod Nearest
+pub mod KeptProfiles

@@ -4,7 +4,6 @@ use Rattle.std.specs.Prelude.{slice_index}
 use Rattle.std.specs.Prelude.{slice_index_or, ℤ, pos, Option, Some, None}
 use Rattle.mp_nums.specs.declared.nearest.Near.{Near}
 use Rattle.mp_nums.specs.Near.{nearer_of}
-use Rattle.mp_nums.specs.declared.samples.Sample.{Sample}
 use Rattle.mp_defs.specs.Limits.{min_window, max_window}
 use Rattle.mp_defs.specs.Window.{excl, windows}
 use Rattle.mp_defs.specs.Distance.{squared_difference}
@@ -14,7 +13,6 @@ use Rattle.mp_sums.specs.Lists.{list_sum}
 use Rattle.mp_sums.specs.Residues.{item}
 use Rattle.mp_sums.specs.Ranges.{AreWithin, SumsFit}
 use Rattle.mp_sums.specs.declared.ranges.Range.{Range}
-use Rattle.mp_series.specs.Samples.{numbers_in}
 
 -- ---- sums
 
@@ -39,26 +37,25 @@ IsRow xs m j sums = (i : ℕ) → i < length sums → slice_index sums i ≡ sum
 -- ---- the last window
 
 -- its place
-abbrev pub last_place : ℕ → List Sample → ℕ
+abbrev pub last_place : {A : Type 0} → ℕ → List A → ℕ
 last_place m items = windows (length items) m - 1
 
--- its distance from window i
-abbrev pub last_distance : ℕ → List Sample → ℕ → ℕ
-last_distance m items i = sum_at (numbers_in items) m i (last_place m items)
+-- the distance of window j from window i
+abbrev pub distance_from : ℕ → List ℤ → ℕ → ℕ → ℕ
+distance_from m xs j i = sum_at xs m i j
 
 -- two lists have a place for each of so many windows
 pub record HavePlaces (count : ℕ) (sums next : List ℕ) : Type 0 where
   pub sums_are : length sums ≡ count
   pub next_are : length next ≡ count
 
--- the last window has its places, and the windows before it have their sums with the window before it
-pub record IsBefore (m : ℕ) (items : List Sample) (sums next : List ℕ) : Type 0 where
+-- the window at the last place has its places, and the windows before it have their sums with the window before it
+pub record IsBefore (m : ℕ) (xs : List ℤ) (last : ℕ) (sums next : List ℕ) : Type 0 where
   pub least : min_window ≤ m
   pub width : m ≤ max_window
-  pub long : m ≤ length items
-  pub places : HavePlaces (windows (length items) m) sums next
-  pub row : (i : ℕ) → i < last_place m items
-      → slice_index sums i ≡ sum_at (numbers_in items) m i (last_place m items - 1)
+  pub long : length xs ≡ last + m
+  pub places : HavePlaces (last + 1) sums next
+  pub row : (i : ℕ) → i < last → slice_index sums i ≡ sum_at xs m i (last - 1)
 
 -- ---- one place on
 

@@ -1,20 +1,20 @@
-//! The entries of all windows, and below which distances those on the right are nearer.
+//! The entries of the windows, and below which distances those on the right are nearer.
 
 ghost use Rattle.std.specs.Prelude.{◌≡◌, ◌<◌, length, slice_set};
 
-use crate::marked::MarkedProfile;
-use mp_nums::Items;
+use crate::nearest::Nearest;
+use crate::queues::Queue;
 
-/// A profile, and the limits of its entries on the right: for sums of 64 or of 128 bits.
+/// The nearest windows, and the limits of those on the right: for sums of 64 or of 128 bits.
 #[derive(Debug, Drop)]
 pub(crate) struct Entries {
-    pub(crate) profile: MarkedProfile,
-    pub(crate) limits: Items<u64>,
+    pub(crate) profile: Nearest,
+    pub(crate) limits: Queue<u64>,
 }
 
 /// Sets the limit of window `i`.
 #[inline]
-pub(crate) fn set_limit(limits: &mut Items<u64>, i: usize, limit: u64)
+pub(crate) fn set_limit(limits: &mut Queue<u64>, i: usize, limit: u64)
     requires { i < length limits.old.items }
     ensures items { limits.new.items ≡ slice_set limits.old.items i limit }
     ensures spare { limits.new.spare ≡ limits.old.spare }

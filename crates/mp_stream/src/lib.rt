@@ -7,6 +7,9 @@
 
 mod bests;
 mod entries;
+mod kept;
+mod kept_profiles;
+mod last_columns;
 mod laws;
 mod limits;
 mod marked;
@@ -14,14 +17,17 @@ mod moves;
 mod narrow;
 mod narrow_rows;
 mod narrow_sums;
+mod nearest;
 mod offers;
 mod profiles;
+mod queues;
 mod rows;
 mod streams;
 mod sums;
 mod taking;
 mod wide;
 
+pub use kept::{Column, Kept, KeptRefusal, MAX_APPENDED};
 pub use laws::entries_grow;
 pub use marked::BLOCK;
 pub use streams::{AppendRefusal, Stream};

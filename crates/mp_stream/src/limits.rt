@@ -3,7 +3,8 @@
 ghost use Rattle.std.specs.Prelude.{◌≡◌, ◌<◌, ◌≤◌, ◌^◌, length, IfOk};
 ghost use Rattle.mp_stream.specs.Limits as specs;
 
-use mp_nums::{Items, Memory, Slot};
+use crate::queues::Queue;
+use mp_nums::{Memory, Slot};
 use std::alloc::Global;
 
 /// Where nothing was found, each sum is below this. Its one bit is the top bit of 64.
@@ -74,10 +75,10 @@ pub(crate) fn limits_of(
     alloc: Global,
     column: &[Slot],
     is_narrow: bool,
-) -> Result<Items<u64>, Memory>
+) -> Result<Queue<u64>, Memory>
     ensures { IfOk result (λ limits. specs.AreLimits (specs.limit_by is_narrow) column.now limits.items) }
 {
-    let mut limits = Items::new(alloc);
+    let mut limits = Queue::new(alloc);
     limits.reserve(column.len() as u64)?;
     for slot in column {
         limits.push(limit_by(is_narrow, *slot))?;

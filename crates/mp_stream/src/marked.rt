@@ -21,8 +21,8 @@ pub(crate) struct MarkedProfile {
 }
 
 impl Model for MarkedProfile {
-    ghost use Rattle.std.specs.Prelude.{◌≡◌, length, min};
-    ghost use Rattle.mp_stream.specs.Blocks.{Marked, block_count};
+    ghost use Rattle.std.specs.Prelude.{◌≡◌, length, min, None};
+    ghost use Rattle.mp_stream.specs.Blocks.{Marked, AreMarked};
 
     ghost Value = { Marked };
 
@@ -33,9 +33,10 @@ impl Model for MarkedProfile {
       spare = min
           p.profile.spare p.changed.spare;
       changed = p.changed.items;
+      first = None;
     } };
 
-    ghost invariant = { λ p. length p.changed.items ≡ block_count (length p.profile.all) };
+    ghost invariant = { λ p. AreMarked p.profile.all p.profile.left p.profile.right p.changed.items };
 }
 
 /// How many blocks so many windows fill.
@@ -81,6 +82,8 @@ fn grow_marks(changed: &mut Items<bool>, windows: u64)
 impl MarkedProfile {
     /// The profile, with no block marked.
     pub(crate) fn of(alloc: Global, profile: Profile) -> Result<MarkedProfile, Memory>
+        ensures first { IfOk result (λ marked. marked.first ≡ None) }
+        ensures same { IfOk result (λ marked. length marked.left ≡ length marked.right) }
         ensures all { IfOk result (λ marked. marked.all ≡ profile.all) }
         ensures left { IfOk result (λ marked. marked.left ≡ profile.left) }
         ensures right { IfOk result (λ marked. marked.right ≡ profile.right) }
@@ -102,6 +105,14 @@ impl MarkedProfile {
         &self.profile
     }
 
+    /// The nearest of the windows that start earlier.
+    #[inline]
+    pub(crate) fn left(&self) -> &[Slot]
+        ensures { result.now ≡ self.now.left }
+    {
+        self.profile.left()
+    }
+
     /// The nearest of the windows that start later.
     #[inline]
     pub(crate) fn right(&self) -> &[Slot]
@@ -110,35 +121,26 @@ impl MarkedProfile {
         self.profile.right()
     }
 
-    /// The number of windows.
-    pub(crate) fn len(&self) -> u64
-        ensures all { result ≡ length self.now.all }
-        ensures right { result ≡ length self.now.right }
-    {
-        self.profile.len()
-    }
-
     /// For each block of windows whether it is marked.
     pub(crate) fn changed(&self) -> &[bool]
         ensures marks { result.now ≡ self.now.changed }
         ensures blocks { length result.now ≡ block_count (length self.now.right) }
     {
-        let _windows = self.profile.len();
         self.changed.as_slice()
     }
 
     /// Window `j` is found at this distance from window `i`, whose block is marked.
     #[inline]
     pub(crate) fn offer(&mut self, i: u64, j: u64, dist: Sq)
-        requires i { i < length self.old.all }
-        requires j { j < length self.old.all }
+        requires i { i < length self.old.right }
+        requires j { j < length self.old.right }
         requires apart { i ≢ j }
-        ensures all { self.new.all ≡ offered self.old.all i (record { dist = dist; index = j }) }
         ensures left { self.new.left
             ≡ (if nat_lt j i then offered self.old.left i (record { dist = dist; index = j }) else self.old.left) }
         ensures right { self.new.right
             ≡ (if nat_lt i j then offered self.old.right i (record { dist = dist; index = j }) else self.old.right) }
         ensures spare { self.new.spare ≡ self.old.spare }
+        ensures first { self.new.first ≡ self.old.first }
         ensures known { StayKnown self.old self.new }
     {
         mark(self.changed.as_mut_slice(), i);
@@ -152,6 +154,7 @@ impl MarkedProfile {
         ensures left { self.new.left ≡ self.old.left }
         ensures right { self.new.right ≡ self.old.right }
         ensures changed { self.new.changed ≡ self.old.changed }
+        ensures first { self.new.first ≡ self.old.first }
         ensures spare { self.old.spare ≤ self.new.spare }
         ensures succeeds { k ≤ self.old.spare → IsOk result }
     {
@@ -173,6 +176,7 @@ impl MarkedProfile {
         ensures left { self.new.left ≡ self.old.left ++ None ∷ [] }
         ensures right { self.new.right ≡ self.old.right ++ None ∷ [] }
         ensures spare { self.old.spare ≤ self.new.spare + 1 }
+        ensures first { self.new.first ≡ self.old.first }
         ensures known { StayKnown self.old self.new }
     {
         grow_marks(&mut self.changed, self.profile.len());
@@ -185,6 +189,7 @@ impl MarkedProfile {
         ensures left { self.new.left ≡ self.old.left }
         ensures right { self.new.right ≡ self.old.right }
         ensures spare { self.new.spare ≡ self.old.spare }
+        ensures first { self.new.first ≡ self.old.first }
         ensures changed { (block : ℕ) → slice_index_or self.new.changed block false ≡ false }
     {
         clear_each(self.changed.as_mut_slice());

@@ -1,16 +1,17 @@
 //! A row in sums of 64 bits.
 
-ghost use Rattle.std.specs.Prelude.{◌≡◌, ◌+◌, ◌-◌, ◌^◌, ◌<◌, ◌≤◌, ℕ, ◌++◌, ◌∷◌, [], length, min, slice_index, IfOk};
+ghost use Rattle.std.specs.Prelude.{◌≡◌, ◌+◌, ◌-◌, ◌^◌, ◌<◌, ◌≤◌, ℕ, ◌++◌, ◌∷◌, [], drop, length, min, slice_index, IfOk};
 ghost use Rattle.std.specs.Prelude.{IsOk, OnOk};
 
-use mp_nums::{Items, Memory};
+use crate::queues::Queue;
+use mp_nums::Memory;
 use std::alloc::Global;
 
 /// The sums of all windows with the last one, and a list for the next row.
 #[derive(Debug, Drop)]
 pub(crate) struct Narrow {
-    pub(crate) sums: Items<u64>,
-    pub(crate) next: Items<u64>,
+    pub(crate) sums: Queue<u64>,
+    pub(crate) next: Queue<u64>,
 }
 
 /// A sum, or the greatest number of 64 bits where it is greater.
@@ -21,12 +22,12 @@ fn saturated(sum: u128) -> u64
 }
 
 /// The sums in 64 bits.
-fn saturated_sums(alloc: Global, sums: &[u128]) -> Result<Items<u64>, Memory>
+fn saturated_sums(alloc: Global, sums: &[u128]) -> Result<Queue<u64>, Memory>
     ensures places { IfOk result (λ row. length row.items ≡ length sums.now) }
     ensures sums { IfOk result (λ row. (i : ℕ) → i < length sums.now
         → slice_index row.items i ≡ min (slice_index sums.now i) (2 ^ 64 - 1)) }
 {
-    let mut row = Items::new(alloc);
+    let mut row = Queue::new(alloc);
     row.reserve(sums.len() as u64)?;
     for sum in sums {
         row.push(saturated(*sum))?;
@@ -46,7 +47,7 @@ impl Narrow {
     {
         Ok(Narrow {
             sums: saturated_sums(alloc, sums)?,
-            next: Items::from(vec![in alloc; 0; sums.len()]?),
+            next: Queue::from(vec![in alloc; 0; sums.len()]?),
         })
     }
 
@@ -78,5 +79,17 @@ impl Narrow {
     {
         self.sums.push(0).unwrap();
         self.next.push(0).unwrap();
+    }
+
+    /// Drops the first window.
+    pub(crate) fn drop_first(&mut self)
+        requires sums { 0 < length self.old.sums.items }
+        requires next { 0 < length self.old.next.items }
+        ensures sums { self.new.sums.items ≡ drop 1 self.old.sums.items }
+        ensures next { self.new.next.items ≡ drop 1 self.old.next.items }
+        ensures room { narrow_room self.new ≡ narrow_room self.old + 1 }
+    {
+        self.sums.drop_first();
+        self.next.drop_first();
     }
 }

@@ -5,14 +5,14 @@ ghost use Rattle.std.specs.Prelude.{IfSome};
 ghost use Rattle.mp_nums.specs.Near.{nearer_of};
 ghost use Rattle.mp_defs.specs.Least.{near, near_at};
 ghost use Rattle.mp_partial.specs.Values.{offered};
-ghost use Rattle.mp_stream.specs.Blocks.{StayKnown};
+ghost use Rattle.mp_stream.specs.Blocks.{StayKnown, numbered, renumbered};
 ghost use Rattle.mp_stream.specs.Limits.{coarse as coarse_of, coarse_limit as limit_of};
 ghost use Rattle.mp_stream.specs.Offers.{AreOffered, IsReady, OnlyRightChanges};
 ghost use Rattle.mp_stream.specs.Rows.{row_candidate, with_best};
 
 use crate::entries::{Entries, set_limit};
 use crate::limits::{GREATEST, coarse, coarse_limit, either};
-use crate::marked::MarkedProfile;
+use crate::nearest::Nearest;
 use mp_nums::{Near, Slot, Sq, nearer};
 
 /// How many windows are tested at once.
@@ -51,8 +51,8 @@ fn offer_window(
 )
     requires order { i < j }
     requires ready { IsReady limit_of j entries.old }
-    ensures right { entries.new.profile.right ≡ (if is_free then offered entries.old.profile.right i (near_at j sum) else
-        entries.old.profile.right) }
+    ensures right { entries.new.profile.right ≡ (if is_free then offered entries.old.profile.right i
+        (near_at (numbered entries.old.profile.first j) sum) else entries.old.profile.right) }
     ensures only { OnlyRightChanges entries.old entries.new }
     ensures ready { IsReady limit_of j entries.new }
     ensures best { best.new ≡ (if is_free then nearer_of best.old (Some (near_at i sum)) else best.old) }
@@ -121,12 +121,14 @@ fn offer_group(
 }
 
 /// Offers what was found to the last window on the left, where there is a window.
-pub(crate) fn offer_best(profile: &mut MarkedProfile, last: usize, best: Slot)
-    requires last { last < length profile.old.all }
+pub(crate) fn offer_best(profile: &mut Nearest, last: usize, best: Slot)
+    requires last { last < length profile.old.right }
+    requires number { numbered profile.old.first last < 2 ^ 64 }
     requires before { IfSome best (λ best. best.index < last) }
-    ensures left { profile.new.left ≡ with_best profile.old.left last best }
+    ensures left { profile.new.left ≡ with_best profile.old.left last (renumbered profile.old.first best) }
     ensures right { profile.new.right ≡ profile.old.right }
     ensures spare { profile.new.spare ≡ profile.old.spare }
+    ensures first { profile.new.first ≡ profile.old.first }
     ensures known { StayKnown profile.old profile.new }
 {
     if let Some(best) = best {

@@ -1,25 +1,26 @@
 //! What a stream keeps of its windows.
 
 ghost use Rattle.std.specs.Prelude.{◌≡◌, ℕ, ◌+◌, ◌-◌, ◌*◌, ◌^◌, ◌<◌, ◌≤◌, ◌++◌, ◌∷◌, [], length, true, false};
-ghost use Rattle.std.specs.Prelude.{slice_index, slice_index_or, min, IfOk, IsOk, OnOk};
+ghost use Rattle.std.specs.Prelude.{slice_index, slice_index_or, min, IfOk, IsOk, IsSome, OnOk, None};
 ghost use Rattle.mp_defs.specs.Series.{series_of};
 ghost use Rattle.mp_defs.specs.Window.{is_free, windows};
 ghost use Rattle.mp_defs.specs.Profile.{matrix_profile};
 ghost use Rattle.mp_series.specs.declared.limits.TheConstants.{MIN_WINDOW, MAX_WINDOW};
 ghost use Rattle.mp_series.specs.Samples.{number_in, numbers_in};
-ghost use Rattle.mp_stream.specs.Blocks.{AreKnown, StayKnown};
+ghost use Rattle.mp_stream.specs.Blocks.{AreKnown, StayKnown, numbered};
 ghost use Rattle.mp_sums.specs.Ranges.{AreWithin, Reaches, SumsFit};
 ghost use Rattle.mp_stream.specs.Reads.{OnlyReads};
-ghost use Rattle.mp_stream.specs.Rows.{HavePlaces, IsRow, offered_before};
+ghost use Rattle.mp_stream.specs.Rows.{HavePlaces, IsRow, last_place, offered_before};
 
 use crate::entries::Entries;
 use crate::limits::{GREATEST, SUM_BITS, coarsen, limits_of};
-use crate::marked::MarkedProfile;
 use crate::narrow::Narrow;
+use crate::nearest::Nearest;
 use crate::offers::{offer_best, offer_row};
+use crate::queues::Queue;
 use crate::rows::{last_row, next_narrow_row, next_wide_row};
 use crate::wide::{Wide, widen_sums};
-use mp_nums::{Items, Memory, Sample, Whole};
+use mp_nums::{Memory, Sample, Whole};
 use mp_partial::Profile;
 use mp_series::{Samples, excl, windows};
 use mp_sums::{Range, number_of};
@@ -31,7 +32,7 @@ use std::alloc::Global;
 #[derive(Debug, Drop)]
 pub(crate) struct GrowingProfile {
     pub(crate) entries: Entries,
-    pub(crate) free: Items<bool>,
+    pub(crate) free: Queue<bool>,
     pub(crate) range: Range,
     pub(crate) is_narrow: bool,
     pub(crate) narrow: Narrow,
@@ -39,14 +40,14 @@ pub(crate) struct GrowingProfile {
 }
 
 /// Whether each of so many windows is free.
-fn free_windows(alloc: Global, samples: &Samples, m: u32, count: u64) -> Result<Items<bool>, Memory>
+fn free_windows(alloc: Global, samples: &Samples, m: u32, count: u64) -> Result<Queue<bool>, Memory>
     requires least { 1 ≤ m }
     requires count { count ≡ windows (length samples.now.items) m }
     ensures places { IfOk result (λ free. length free.items ≡ count) }
     ensures free { IfOk result (λ free. (i : ℕ) → i < count
         → slice_index_or free.items i false ≡ is_free m (series_of samples.now.items) i) }
 {
-    let mut free = Items::new(alloc);
+    let mut free = Queue::new(alloc);
     free.reserve(count)?;
     for i in 0..count {
         free.push(samples.free(i, m))?;
@@ -55,10 +56,10 @@ fn free_windows(alloc: Global, samples: &Samples, m: u32, count: u64) -> Result<
 }
 
 /// Room for the row of so many windows.
-fn empty_row(alloc: Global, count: u64) -> Result<Items<u128>, Memory>
+fn empty_row(alloc: Global, count: u64) -> Result<Queue<u128>, Memory>
     ensures { IfOk result (λ row. length row.items ≡ count) }
 {
-    Ok(Items::from(vec![in alloc; 0; count as usize]?))
+    Ok(Queue::from(vec![in alloc; 0; count as usize]?))
 }
 
 /// The row of the last of so many windows, in 128 bits.
@@ -118,7 +119,7 @@ fn whole_range(samples: &mut Samples) -> Range
 }
 
 /// The range, with a sample's number. That of the first sample is its number alone.
-fn range_with(range: Range, sample: Sample, is_first: bool) -> Range
+pub(crate) fn range_with(range: Range, sample: Sample, is_first: bool) -> Range
     ensures within { AreWithin result (number_in sample ∷ []) }
     ensures first { is_first ≡ true → result.greatest ≡ result.least }
     ensures wider { is_first ≡ false → Reaches result range }
@@ -148,7 +149,7 @@ impl GrowingProfile {
     ghost use Rattle.std.specs.Prelude.{List};
     ghost use Rattle.mp_nums.specs.declared.samples.Sample.{Sample};
     ghost use Rattle.mp_partial.specs.Values.{Column};
-    ghost use Rattle.mp_stream.specs.Streams.{HaveRows, IsGrown, IsOf, IsOfInBits, IsOffered, IsProfile};
+    ghost use Rattle.mp_stream.specs.Streams.{HasRowOf, HaveRows, IsDropped, IsGrown, IsOf, IsOffered, IsProfile};
     ghost use Rattle.mp_stream.specs.Streams.{IsWaiting, room_of, without_last};
 
     /// What is kept of the samples, whose profile this is. No block is marked.
@@ -171,7 +172,7 @@ impl GrowingProfile {
         let range = whole_range(samples);
         let is_narrow = range.sums_fit(m, SUM_BITS);
         let limits = limits_of(alloc, profile.right(), is_narrow)?;
-        let profile = MarkedProfile::of(alloc, profile)?;
+        let profile = Nearest::of(alloc, profile)?;
         let count = windows(samples.len(), m);
         let free = free_windows(alloc, samples, m, count)?;
         let (narrow, wide) = both_rows(alloc, samples, m, count)?;
@@ -215,6 +216,7 @@ impl GrowingProfile {
 
     /// Clears the marks of all blocks of windows.
     pub(crate) fn clear_changed(&mut self)
+        requires { self.old.entries.profile.first ≡ None }
         ensures is_of { (m : ℕ) (items : List Sample) → IsOf m items self.old → IsOf m items self.new }
         ensures room { room_of self.new ≡ room_of self.old }
         ensures none { (block : ℕ) → slice_index_or self.new.entries.profile.changed block false ≡ false }
@@ -223,7 +225,7 @@ impl GrowingProfile {
     }
 
     /// Adds a window without distances.
-    fn grow(&mut self, is_free: bool)
+    pub(crate) fn grow(&mut self, is_free: bool)
         requires { 0 < room_of self.old }
         ensures grown { IsGrown is_free self.old self.new }
         ensures room { room_of self.old ≤ room_of self.new + 1 }
@@ -236,16 +238,34 @@ impl GrowingProfile {
         self.wide.grow();
     }
 
+    /// Drops the first window, where the nearest windows are those of the last windows. Nothing else changes.
+    pub(crate) fn drop_first(&mut self)
+        requires some { 0 < length self.old.free.items }
+        requires rows { HaveRows (length self.old.free.items) self.old }
+        requires limits { length self.old.entries.limits.items ≡ length self.old.free.items }
+        requires right { length self.old.entries.profile.right ≡ length self.old.free.items }
+        requires last { IsSome self.old.entries.profile.first }
+        requires number { numbered self.old.entries.profile.first 1 < 2 ^ 64 }
+        ensures dropped { IsDropped self.old self.new }
+        ensures room { room_of self.new ≡ room_of self.old + 1 }
+    {
+        self.entries.profile.drop_first();
+        self.free.drop_first();
+        self.entries.limits.drop_first();
+        self.narrow.drop_first();
+        self.wide.drop_first();
+    }
+
     /// Takes a range that reaches as far as the samples. Where sums of 64 bits don't hold it, the row goes on in 128.
-    fn cover(&mut self, m: u32, range: Range)
+    pub(crate) fn cover(&mut self, m: u32, range: Range)
         requires rows { HaveRows (length self.old.free.items) self.old }
         requires limits { length self.old.entries.limits.items ≡ length self.old.entries.profile.right }
-        ensures is_of { (items : List Sample) → IsOfInBits m items self.old → AreWithin range (numbers_in items)
-            → IsOfInBits m items self.new }
+        ensures row { (items : List Sample) → HasRowOf m items self.old → AreWithin range (numbers_in items)
+            → HasRowOf m items self.new }
         ensures bits { SumsFit m 63 range → self.new.is_narrow ≡ self.old.is_narrow }
         ensures range { self.new.range ≡ range }
         ensures room { room_of self.new ≡ room_of self.old }
-        ensures known { StayKnown self.old.entries.profile self.new.entries.profile }
+        ensures profile { self.new.entries.profile ≡ self.old.entries.profile }
     {
         if self.is_narrow && !range.sums_fit(m, SUM_BITS) {
             widen_sums(self.narrow.sums.as_slice(), self.wide.sums.as_mut_slice());
@@ -260,18 +280,17 @@ impl GrowingProfile {
 
     /// Makes the row of the last window in 64 bits from that of the window before it, and offers the last window to the
     /// free windows outside its exclusion zone, where it is free, and the nearest of these to the last window.
-    fn append_narrow(&mut self, samples: &mut Samples, m: u32, is_free: bool)
-        requires waiting { IsWaiting m samples.old.items self.old }
+    fn append_narrow(&mut self, numbers: &[Whole], m: u32, is_free: bool)
+        requires waiting { IsWaiting m numbers.now (last_place m numbers.now) self.old }
         requires narrow { self.old.is_narrow ≡ true }
-        ensures offered { IsOffered m samples.old.items is_free self.old self.new }
+        ensures offered { IsOffered m numbers.now (last_place m numbers.now) is_free self.old self.new }
         ensures room { room_of self.new ≡ room_of self.old }
         ensures known { StayKnown self.old.entries.profile self.new.entries.profile }
-        ensures read { OnlyReads (2 * (windows (length samples.old.items) m + m)) samples.old samples.new }
     {
         let last = self.entries.profile.len() as usize - 1;
         let end = count_offered(is_free, m, last);
         let best = next_narrow_row(
-            samples,
+            numbers,
             m,
             &mut self.narrow,
             self.free.as_slice(),
@@ -282,15 +301,14 @@ impl GrowingProfile {
     }
 
     /// The same in 128 bits.
-    fn append_wide(&mut self, samples: &mut Samples, m: u32, is_free: bool)
-        requires waiting { IsWaiting m samples.old.items self.old }
+    fn append_wide(&mut self, numbers: &[Whole], m: u32, is_free: bool)
+        requires waiting { IsWaiting m numbers.now (last_place m numbers.now) self.old }
         requires wide { self.old.is_narrow ≡ false }
-        ensures offered { IsOffered m samples.old.items is_free self.old self.new }
+        ensures offered { IsOffered m numbers.now (last_place m numbers.now) is_free self.old self.new }
         ensures room { room_of self.new ≡ room_of self.old }
         ensures known { StayKnown self.old.entries.profile self.new.entries.profile }
-        ensures read { OnlyReads (2 * (windows (length samples.old.items) m + m)) samples.old samples.new }
     {
-        let is_coarse = next_wide_row(samples, m, &self.range, &mut self.wide);
+        let is_coarse = next_wide_row(numbers, m, &self.range, &mut self.wide);
         let last = self.entries.profile.len() as usize - 1;
         let end = count_offered(is_free, m, last);
         let sums = self.wide.sums.as_slice();
@@ -305,17 +323,16 @@ impl GrowingProfile {
     }
 
     /// The same in the bits of its row.
-    fn append_row(&mut self, samples: &mut Samples, m: u32, is_free: bool)
-        requires { IsWaiting m samples.old.items self.old }
-        ensures offered { IsOffered m samples.old.items is_free self.old self.new }
+    pub(crate) fn append_row(&mut self, numbers: &[Whole], m: u32, is_free: bool)
+        requires { IsWaiting m numbers.now (last_place m numbers.now) self.old }
+        ensures offered { IsOffered m numbers.now (last_place m numbers.now) is_free self.old self.new }
         ensures room { room_of self.new ≡ room_of self.old }
         ensures known { StayKnown self.old.entries.profile self.new.entries.profile }
-        ensures read { OnlyReads (2 * (windows (length samples.old.items) m + m)) samples.old samples.new }
     {
         if self.is_narrow {
-            self.append_narrow(samples, m, is_free);
+            self.append_narrow(numbers, m, is_free);
         } else {
-            self.append_wide(samples, m, is_free);
+            self.append_wide(numbers, m, is_free);
         }
     }
 
@@ -334,8 +351,10 @@ impl GrowingProfile {
     {
         let last = self.entries.profile.len();
         let is_free = samples.free(last, m);
+        let count = samples.len();
         self.grow(is_free);
-        self.append_row(samples, m, is_free);
+        let (numbers, _) = samples.parts(0, 0, count);
+        self.append_row(numbers, m, is_free);
     }
 
     /// Adds what the last sample brings.

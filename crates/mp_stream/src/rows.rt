@@ -10,7 +10,7 @@ ghost use Rattle.mp_stream.specs.Limits.{limit_of};
 ghost use Rattle.mp_stream.specs.Offers.{AreOffered, IsReady};
 ghost use Rattle.mp_stream.specs.Reads.{OnlyReads};
 ghost use Rattle.mp_stream.specs.Rows.{sum_at, HavePlaces, IsBefore, IsRow, LieClose, last_place};
-ghost use Rattle.mp_stream.specs.Rows.{last_distance, row_candidate};
+ghost use Rattle.mp_stream.specs.Rows.{distance_from, row_candidate};
 ghost use Rattle.mp_stream.specs.Streams.{IsTurned, wide_room};
 
 use crate::entries::Entries;
@@ -18,9 +18,10 @@ use crate::limits::COARSE_BITS;
 use crate::moves::Moves;
 use crate::narrow::Narrow;
 use crate::narrow_rows::take_row;
+use crate::queues::Queue;
 use crate::sums::move_sums;
 use crate::wide::Wide;
-use mp_nums::{Items, Memory, Slot};
+use mp_nums::{Memory, Slot, Whole};
 use mp_series::Samples;
 use mp_sums::{Range, window_sum};
 use std::alloc::Global;
@@ -38,23 +39,32 @@ fn sum_of(samples: &mut Samples, m: u32, i: u64, j: u64) -> u128
     window_sum(first, second)
 }
 
+/// The sum of the first window and the one at the last place.
+fn first_sum(numbers: &[Whole], m: u32, last: usize) -> u128
+    requires long { length numbers.now ≡ last + m }
+    requires width { m ≤ MAX_WINDOW }
+    ensures { result ≡ sum_at numbers.now m 0 last }
+{
+    window_sum(&numbers[..m as usize], &numbers[last..])
+}
+
 /// Makes the row of the last window in 128 bits from the row of the window before it. The result is whether the range
-/// of the samples tells that its sums have no more than `COARSE_BITS`.
-pub(crate) fn next_wide_row(samples: &mut Samples, m: u32, range: &Range, wide: &mut Wide) -> bool
-    requires before { IsBefore m samples.old.items wide.old.sums.items wide.old.next.items }
-    requires range { AreWithin range.now (numbers_in samples.old.items) }
-    ensures places { HavePlaces (windows (length samples.old.items) m) wide.new.sums.items wide.new.next.items }
-    ensures row { IsRow (numbers_in samples.old.items) m (last_place m samples.old.items) wide.new.sums.items }
+/// of the numbers tells that its sums have no more than `COARSE_BITS`.
+pub(crate) fn next_wide_row(numbers: &[Whole], m: u32, range: &Range, wide: &mut Wide) -> bool
+    requires before { IsBefore m numbers.now (last_place m numbers.now) wide.old.sums.items wide.old.next.items }
+    requires range { AreWithin range.now numbers.now }
+    ensures places { HavePlaces (last_place m numbers.now + 1) wide.new.sums.items wide.new.next.items }
+    ensures row { IsRow numbers.now m (last_place m numbers.now) wide.new.sums.items }
     ensures small { result ≡ true → (i : ℕ) → i < length wide.new.sums.items
         → slice_index wide.new.sums.items i < 2 ^ 79 }
     ensures room { wide_room wide.new ≡ wide_room wide.old }
-    ensures read { OnlyReads (2 * (windows (length samples.old.items) m + m)) samples.old samples.new }
 {
     let is_coarse = range.sums_fit(m, COARSE_BITS);
     let is_close = range.sums_fit(1, 64);
     let last = wide.sums.as_slice().len() - 1;
-    let first = sum_of(samples, m, 0, last as u64);
-    let (leaves, enters) = samples.parts(0, u64::from(m), last as u64);
+    let first = first_sum(numbers, m, last);
+    let leaves = &numbers[..last];
+    let enters = &numbers[m as usize..];
     let before = &wide.sums.as_slice()[..last];
     let next = wide.next.as_mut_slice();
     move_sums(first, before, enters, leaves, is_close, next);
@@ -65,32 +75,31 @@ pub(crate) fn next_wide_row(samples: &mut Samples, m: u32, range: &Range, wide: 
 /// Makes the row of the last window in 64 bits from the row of the window before it, and offers the last window to each
 /// free window before `end` on the right. The result is the nearest of these.
 pub(crate) fn next_narrow_row(
-    samples: &mut Samples,
+    numbers: &[Whole],
     m: u32,
     narrow: &mut Narrow,
     free: &[bool],
     end: usize,
     entries: &mut Entries,
 ) -> Slot
-    requires before { IsBefore m samples.old.items narrow.old.sums.items narrow.old.next.items }
-    requires close { LieClose m (numbers_in samples.old.items) }
-    requires frees { length free.now ≡ windows (length samples.old.items) m }
-    requires within { end ≤ last_place m samples.old.items }
-    requires ready { IsReady limit_of (last_place m samples.old.items) entries.old }
-    ensures turned { IsTurned m samples.old.items narrow.old narrow.new }
-    ensures offered { AreOffered limit_of free.now (last_distance m samples.old.items) (last_place m samples.old.items) 0 end
-        entries.old entries.new }
-    ensures best { result ≡ near (row_candidate free.now (last_distance m samples.old.items)) end }
-    ensures read { OnlyReads (2 * (windows (length samples.old.items) m + m)) samples.old samples.new }
+    requires before { IsBefore m numbers.now (last_place m numbers.now) narrow.old.sums.items narrow.old.next.items }
+    requires close { LieClose m numbers.now }
+    requires frees { length free.now ≡ last_place m numbers.now + 1 }
+    requires within { end ≤ last_place m numbers.now }
+    requires ready { IsReady limit_of (last_place m numbers.now) entries.old }
+    ensures turned { IsTurned m numbers.now (last_place m numbers.now) narrow.old narrow.new }
+    ensures offered { AreOffered limit_of free.now (distance_from m numbers.now (last_place m numbers.now))
+        (last_place m numbers.now) 0 end entries.old entries.new }
+    ensures best { result
+        ≡ near (row_candidate free.now (distance_from m numbers.now (last_place m numbers.now))) end }
 {
     let last = narrow.sums.as_slice().len() - 1;
-    let first = sum_of(samples, m, 0, last as u64) as u64;
-    let (leaves, enters) = samples.parts(0, u64::from(m), last as u64);
+    let first = first_sum(numbers, m, last) as u64;
     let moves = Moves {
         first,
         before: &narrow.sums.as_slice()[..last],
-        enters,
-        leaves,
+        enters: &numbers[m as usize..],
+        leaves: &numbers[..last],
         free,
     };
     let best = take_row(&moves, end, narrow.next.as_mut_slice(), entries);
@@ -104,7 +113,7 @@ pub(crate) fn last_row(
     samples: &mut Samples,
     m: u32,
     count: u64,
-) -> Result<Items<u128>, Memory>
+) -> Result<Queue<u128>, Memory>
     requires least { 1 ≤ m }
     requires width { m ≤ MAX_WINDOW }
     requires count { count ≡ windows (length samples.old.items) m }
@@ -114,7 +123,7 @@ pub(crate) fn last_row(
     ensures reads_rise { samples.old.reads ≤ samples.new.reads }
     ensures reads { samples.new.reads ≤ samples.old.reads + length samples.old.items * (2 * m) }
 {
-    let mut row = Items::new(alloc);
+    let mut row = Queue::new(alloc);
     row.reserve(count)?;
     for i in 0..count {
         row.push(sum_of(samples, m, i, count - 1))?;

@@ -4,6 +4,7 @@ ghost use Rattle.std.specs.Prelude.{◌≡◌, ℕ, ◌-◌, ◌^◌, ◌<◌, �
 ghost use Rattle.mp_nums.specs.Near.{nearer_of};
 ghost use Rattle.mp_defs.specs.Least.{near, near_at};
 ghost use Rattle.mp_partial.specs.Values.{offered};
+ghost use Rattle.mp_stream.specs.Blocks.{numbered};
 ghost use Rattle.mp_stream.specs.Limits.{limit_of, StartsAtMost};
 ghost use Rattle.mp_stream.specs.Offers.{AreOffered, IsReady, OnlyRightChanges};
 ghost use Rattle.mp_stream.specs.Rows.{row_candidate};
@@ -18,7 +19,7 @@ fn take_right(sum: u64, i: usize, j: usize, entries: &mut Entries)
     requires order { i < j }
     requires small { sum < 2 ^ 63 }
     requires ready { IsReady limit_of j entries.old }
-    ensures right { entries.new.profile.right ≡ offered entries.old.profile.right i (near_at j sum) }
+    ensures right { entries.new.profile.right ≡ offered entries.old.profile.right i (near_at (numbered entries.old.profile.first j) sum) }
     ensures only { OnlyRightChanges entries.old entries.new }
     ensures ready { IsReady limit_of j entries.new }
 {
@@ -55,8 +56,8 @@ fn take_window(is_free: bool, sum: u64, i: usize, j: usize, entries: &mut Entrie
     requires small { sum < 2 ^ 63 }
     requires ready { IsReady limit_of j entries.old }
     requires before { StartsAtMost i best.old.found }
-    ensures right { entries.new.profile.right ≡ (if is_free then offered entries.old.profile.right i (near_at j sum) else
-        entries.old.profile.right) }
+    ensures right { entries.new.profile.right ≡ (if is_free then offered entries.old.profile.right i
+        (near_at (numbered entries.old.profile.first j) sum) else entries.old.profile.right) }
     ensures only { OnlyRightChanges entries.old entries.new }
     ensures ready { IsReady limit_of j entries.new }
     ensures best { best.new.found ≡ (if is_free then nearer_of best.old.found (Some (near_at i sum)) else

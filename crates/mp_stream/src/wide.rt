@@ -1,14 +1,15 @@
 //! A row in sums of 128 bits.
 
-ghost use Rattle.std.specs.Prelude.{◌≡◌, ◌+◌, ◌<◌, ◌≤◌, ℕ, ◌++◌, ◌∷◌, [], length, slice_index, IsOk, OnOk};
+ghost use Rattle.std.specs.Prelude.{◌≡◌, ◌+◌, ◌<◌, ◌≤◌, ℕ, ◌++◌, ◌∷◌, [], drop, length, slice_index, IsOk, OnOk};
 
-use mp_nums::{Items, Memory};
+use crate::queues::Queue;
+use mp_nums::Memory;
 
 /// The sums of all windows with the last one, and a list for the next row.
 #[derive(Debug, Drop)]
 pub(crate) struct Wide {
-    pub(crate) sums: Items<u128>,
-    pub(crate) next: Items<u128>,
+    pub(crate) sums: Queue<u128>,
+    pub(crate) next: Queue<u128>,
 }
 
 /// Takes over sums of 64 bits.
@@ -52,5 +53,17 @@ impl Wide {
     {
         self.sums.push(0).unwrap();
         self.next.push(0).unwrap();
+    }
+
+    /// Drops the first window.
+    pub(crate) fn drop_first(&mut self)
+        requires sums { 0 < length self.old.sums.items }
+        requires next { 0 < length self.old.next.items }
+        ensures sums { self.new.sums.items ≡ drop 1 self.old.sums.items }
+        ensures next { self.new.next.items ≡ drop 1 self.old.next.items }
+        ensures room { wide_room self.new ≡ wide_room self.old + 1 }
+    {
+        self.sums.drop_first();
+        self.next.drop_first();
     }
 }

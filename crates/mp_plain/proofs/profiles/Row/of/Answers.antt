@@ -1,5 +1,6 @@
 use Rattle.std.proofs.Common.{◌+◌, sym, subst, arith}
 use Rattle.mp_defs.specs.Series.{series_of}
+use Rattle.mp_defs.specs.Window.{is_allowed}
 use Rattle.mp_plain.specs.declared.profiles.Row.{Row}
 use Rattle.mp_plain.proofs.Steps.{distance_found, distance_missing}
 use Rattle.mp_plain.proofs.Rows.{IsRowBelow, row_begins, row_skips, row_misses, row_takes, row_ends}
@@ -7,24 +8,24 @@ use Rattle.mp_plain.proofs.profiles.Row.of.Goals as goal
 use Rattle.mp_plain.proofs.profiles.Row.of.Goals.{then-allowed+in-Some, then-allowed+in_default, else-allowed}
 
 pub loop-j-init : goal.loop-j-init
-loop-j-init c = row_begins _ _ _
+loop-j-init c = row_begins _ _ _ _
 
 pub loop-j-preserved : goal.loop-j-preserved
 loop-j-preserved c =
-    let is_below : Row → Type 0 = λ row. IsRowBelow c.args.m (series_of c.args.samples.now) c.args.i
+    let is_below : Row → Type 0 = λ row. IsRowBelow (is_allowed c.args.m) c.args.m (series_of c.args.samples.now) c.args.i
     (c.loop-j.j + 1) row in
     let before = c.loop-j.invariant in
     elim c.if-allowed.branch [
       | then-allowed+in-Some w ↦ subst is_below (sym w.row-is)
-          (row_takes _ _ _ _ _ _ _ before (sym w.if-allowed.ensures)
+          (row_takes _ _ _ _ _ _ _ _ before (sym w.if-allowed.ensures)
           (distance_found _ _ w.in-Some.ensures.value) w.offer.ensures.all w.offer.ensures.left
           w.offer.ensures.right)
       | then-allowed+in_default w ↦ subst is_below (sym w.row-is)
-          (row_misses _ _ _ _ _ before (distance_missing _ w.in_default.ensures.value))
-      | else-allowed w ↦ subst is_below (sym w.row-is) (row_skips _ _ _ _ _ before (sym w.if-allowed.ensures))
+          (row_misses _ _ _ _ _ _ before (distance_missing _ w.in_default.ensures.value))
+      | else-allowed w ↦ subst is_below (sym w.row-is) (row_skips _ _ _ _ _ _ before (sym w.if-allowed.ensures))
     ]
 
 pub returns : goal.returns
 returns c =
-    let whole = row_ends _ _ _ _ _ c.loop-j.invariant (omega arith) in
+    let whole = row_ends _ _ _ _ _ _ c.loop-j.invariant (omega arith) in
     record { all = whole.all; left = whole.left; right = whole.right }

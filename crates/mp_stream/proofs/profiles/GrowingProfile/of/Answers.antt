@@ -6,7 +6,7 @@ use Rattle.mp_series.specs.Samples.{numbers_in}
 use Rattle.mp_nums.specs.declared.nearest.Near.{Near}
 use Rattle.mp_stream.specs.Limits.{AreLimits, limit_by}
 use Rattle.mp_stream.specs.Rows.{HavePlaces, IsRow}
-use Rattle.mp_stream.proofs.Growing.{kept_first}
+use Rattle.mp_stream.proofs.Growing.{all_first}
 use Rattle.mp_stream.proofs.profiles.GrowingProfile.of.Goals as goal
 
 pub returns-clause-is_of : goal.returns-clause-is_of
@@ -21,7 +21,7 @@ returns-clause-is_of c =
     c.windows-count.ensures ∙ ap (λ (n : ℕ). windows n m) (c.len.ensures.length ∙ ap length same) in
     let profile = c.in_ok-profile.ensures in
     let rows = c.in_ok-narrow.ensures in
-    kept_first m now _ (omega arith) (profile.left ∙ c.requires.profile.left_is)
+    all_first m now _ (omega arith) profile.first (profile.left ∙ c.requires.profile.left_is)
     (profile.right ∙ c.requires.profile.right_is)
     (c.in_ok-free.ensures.places ∙ count)
     (λ i lt. c.in_ok-free.ensures.free i (subst (λ (n : ℕ). i < n) (sym count) lt)
