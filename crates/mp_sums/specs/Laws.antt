@@ -1,5 +1,7 @@
 -- What holds of sums, of rounded samples and of residues, in the subject's own words.
-use Rattle.std.specs.Prelude.{◌≡◌, ℕ, ◌+◌, ◌^◌, ◌<◌, ◌≤◌, ℤ, ◌≤ℤ◌, ◌<ℤ◌, Some}
+use Rattle.std.specs.Prelude.{◌≡◌, ℕ, ◌+◌, ◌*◌, ◌^◌, ◌<◌, ◌≤◌, ℤ, negsuc, ◌+ℤ◌, ◌-ℤ◌, ◌≤ℤ◌, ◌<ℤ◌, Some, List, [], ◌∷◌}
+use Rattle.std.specs.Prelude.{length}
+use Rattle.std.specs.Int.{w32, int_wrap}
 use Rattle.mp_defs.specs.Series.{Series}
 use Rattle.mp_defs.specs.Distance.{squared_difference, distance}
 use Rattle.mp_sums.specs.declared.limits.Limit.{Limit}
@@ -9,6 +11,7 @@ use Rattle.mp_sums.specs.Ranges.{IsInRange, SumsFit}
 use Rattle.mp_sums.specs.Limits.{IsWithin, IsBeyond}
 use Rattle.mp_sums.specs.Rounding.{rounded, threshold}
 use Rattle.mp_sums.specs.Residues.{rounded_residue, residue, residue_limit, IsChange, moved}
+use Rattle.mp_sums.specs.Together.{sums_together, rounded_together, counted}
 
 -- ---- sums
 
@@ -72,3 +75,31 @@ pub record ResiduesTell : Type 0 where
   -- where samples aren't rounded, it is the distance's own
   pub unrounded : (m : ℕ) (a : Series) (i : ℕ) (b : Series) (j d : ℕ) → distance m a i b j ≡ Some d
       → rounded_residue m 0 a i b j ≡ residue d
+
+-- ---- several series together
+
+-- what the residues of windows i and j of several series tell together
+pub record SumsTellTogether : Type 0 where
+  pub no_series : (m i j : ℕ) → sums_together m [] i j ≡ 0
+  pub one_more : (m : ℕ) (x : ℕ → ℤ) (xs : List (ℕ → ℤ)) (i j : ℕ)
+      → sums_together m (x ∷ xs) i j ≡ square_sum m x i x j + sums_together m xs i j
+  pub no_rounded : (m shift i j : ℕ) → rounded_together m shift [] i j ≡ 0
+  pub one_more_rounded : (m shift : ℕ) (x : ℕ → ℤ) (xs : List (ℕ → ℤ)) (i j : ℕ)
+      → rounded_together m shift (x ∷ xs) i j
+      ≡ square_sum m (rounded shift x) i (rounded shift x) j + rounded_together m shift xs i j
+  -- where their sum is within a limit, that of the rounded numbers is within the threshold of as many samples
+  pub rounded : (m shift limit : ℕ) (xs : List (ℕ → ℤ)) (i j : ℕ) → sums_together m xs i j ≤ limit
+      → rounded_together m shift xs i j ≤ threshold (length xs * m) shift limit
+  -- no residue is taken for more than its sum, whatever wrapped
+  pub counts : (sum : ℕ) → counted (residue sum) ≤ sum
+  -- one residue more, from that of the sum 0 on
+  pub adds : (sum : ℕ) (r : ℤ) → negsuc 2147483646 ≤ℤ r
+      → int_wrap w32 (residue sum +ℤ (r -ℤ negsuc 2147483646)) ≡ residue (sum + counted r)
+  -- windows within a limit pass by the residue of their rounded sums, or of less
+  pub passes : (m shift : ℕ) (limit : Limit) (xs : List (ℕ → ℤ)) (i j sum : ℕ)
+      → IsWithin limit (sums_together m xs i j) → sum ≤ rounded_together m shift xs i j
+      → residue sum ≤ℤ residue_limit (length xs * m) shift limit
+  -- so where they don't, they lie beyond the limit
+  pub beyond : (m shift : ℕ) (limit : Limit) (xs : List (ℕ → ℤ)) (i j sum : ℕ)
+      → sum ≤ rounded_together m shift xs i j → residue_limit (length xs * m) shift limit <ℤ residue sum
+      → IsBeyond limit (sums_together m xs i j)

@@ -6,9 +6,11 @@ pub mod Rounding
 pub mod Residues
 pub mod Rows
 pub mod Lists
+pub mod Together
 pub mod Laws
 pub mod Products
 pub mod SumLaws
 pub mod RangeLaws
 pub mod RoundingLaws
 pub mod ResidueLaws
+pub mod TogetherLaws

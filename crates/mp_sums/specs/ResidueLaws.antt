@@ -72,7 +72,7 @@ small_residue q lt =
 residue_fits : (q : ℕ) → FitsSigned w32 (residue q)
 residue_fits q = SFits-int_wrap w32 (pos q -ℤ pos 2147483647)
 
-no_residue_above : (q : ℕ) → residue q ≤ℤ pos 2147483647
+pub no_residue_above : (q : ℕ) → residue q ≤ℤ pos 2147483647
 no_residue_above q = let fits = residue_fits q in omega (arith, ints, fits)
 
 pub up_to : (q t : ℕ) → q ≤ t → residue q ≤ℤ residue_up_to t
@@ -87,11 +87,11 @@ within_passes m shift limit x i y j le =
     up_to (square_sum m (rounded shift x) i (rounded shift y) j) (threshold m shift limit)
     (rounded_sums_are_near m shift limit x i y j le)
 
-by_test : (b : Bool) (r s t : ℤ) → b ≡ false → r ≤ℤ t → r ≤ℤ (if b then s else t)
+pub by_test : (b : Bool) (r s t : ℤ) → b ≡ false → r ≤ℤ t → r ≤ℤ (if b then s else t)
 by_test true r s t e le = absurd (cc)
 by_test false r s t e le = le
 
-some_distance : (d end : ℕ) → d < end → (end == 0) ≡ false
+pub some_distance : (d end : ℕ) → d < end → (end == 0) ≡ false
 some_distance d end lt = grind (arith, nat_tests)
 
 below_passes : (m shift end : ℕ) (x : ℕ → ℤ) (i : ℕ) (y : ℕ → ℤ) (j : ℕ) → square_sum m x i y j < end
@@ -113,7 +113,7 @@ pub passes : (m shift : ℕ) (limit : Limit) (a : Series) (i : ℕ) (b : Series)
 passes m shift limit a i b j d e h =
     sum_passes m shift limit (numbers_of a) i (numbers_of b) j d (distances_are_sums m a i b j d e) h
 
-not_within : (limit : Limit) (d : ℕ) → (IsWithin limit d → ⊥) → IsBeyond limit d
+pub not_within : (limit : Limit) (d : ℕ) → (IsWithin limit d → ⊥) → IsBeyond limit d
 not_within Every d never = never tt
 not_within (Within most) d never = elim (cases_lt most.0 d) [
   | inl lt ↦ lt
@@ -124,7 +124,7 @@ not_within (Below end) d never = elim (cases_lt d end.0) [
   | inr le ↦ le
 ]
 
-above_and_within : (r limit : ℤ) → limit <ℤ r → r ≤ℤ limit → ⊥
+pub above_and_within : (r limit : ℤ) → limit <ℤ r → r ≤ℤ limit → ⊥
 above_and_within r limit lt le = omega (arith, ints, lt, le)
 
 unrounded : (m : ℕ) (a : Series) (i : ℕ) (b : Series) (j d : ℕ) → distance m a i b j ≡ Some d

@@ -1,7 +1,7 @@
 //! What holds of sums and of residues, as the contracts of functions that do nothing.
 
 ghost use Rattle.mp_sums.specs.Laws.{SumsRunOn, DistancesAreSums, RangesBoundSums, RoundedSumsAreNear};
-ghost use Rattle.mp_sums.specs.Laws.{ResiduesMoveOn, ResiduesTell};
+ghost use Rattle.mp_sums.specs.Laws.{ResiduesMoveOn, ResiduesTell, SumsTellTogether};
 
 /// With one number more a sum grows by one square. One place on, one square goes and one comes in. The sums of two
 /// parts are together the sum of both. It is the same from either side. The first squares alone are no more than all.
@@ -34,4 +34,10 @@ pub fn residues_move_on()
 /// of its row's limit and that of its column's lies beyond both.
 pub fn residues_tell()
     ensures { ResiduesTell }
+{}
+
+/// Windows of several series that lie together within a limit pass together: the sum of what their residues are taken
+/// for has a residue that is not above the limit's, whatever wrapped. So where it is above, they lie beyond the limit.
+pub fn sums_tell_together()
+    ensures { SumsTellTogether }
 {}

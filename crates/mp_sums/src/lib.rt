@@ -15,7 +15,7 @@ mod rows;
 pub use distances::Grid;
 pub use laws::{
     distances_are_sums, ranges_bound_sums, residues_move_on, residues_tell, rounded_sums_are_near,
-    sums_run_on,
+    sums_run_on, sums_tell_together,
 };
 pub use limits::Limit;
 pub use lists::window_sum;
