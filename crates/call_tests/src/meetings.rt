@@ -30,7 +30,8 @@ fn two_workers_of_a_profile_meet(rt: HostRuntime) -> Result<(), Fail> {
     Ok(())
 }
 
-/// Lets the pieces of a profile's near windows pass, sixteen by two workers, and is a meeting from then on.
+/// Lets the pieces of a profile's near windows pass, two by two workers, and the first two of the others. It is a
+/// meeting from then on.
 #[derive(Drop)]
 struct LateGate {
     meeting: MeetGate,
@@ -38,7 +39,7 @@ struct LateGate {
 
 impl Gate for LateGate {
     fn pass(&self, worker: u32, piece: u64) {
-        if piece >= 16 {
+        if piece >= 2 {
             self.meeting.pass(worker, piece);
         }
     }

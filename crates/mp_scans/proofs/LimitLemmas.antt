@@ -20,7 +20,7 @@ use Rattle.mp_scans.specs.Blocks.{residue_in, AreAbove, in_strip}
 use Rattle.mp_scans.specs.Lanes.{IsAbove}
 use Rattle.mp_scans.specs.Limiting.{IsRowLimit, IsColumnLimit, AreLimits, IsKnown, IsQuiet, AreQuiet, AreKept}
 use Rattle.mp_scans.specs.Limiting.{first_row, first_on}
-use Rattle.mp_scans.specs.Offering.{only, in_row, in_block, IsOffering, IsLimiting}
+use Rattle.mp_scans.specs.Offering.{only, in_row, in_block, IsOffering, IsLimiting, TellsNothing}
 use Rattle.mp_scans.specs.Windows.{FitIn, AreScannedIn}
 use Rattle.mp_scans.proofs.FillLemmas.{set_at}
 use Rattle.mp_scans.proofs.StripLemmas.{scanned_next, more_columns}
@@ -61,6 +61,42 @@ never_column block keeps first c limit fits gap = record {
   above = λ p _ _ _ d is.
       absurd (both_ways _ (no_distance block.grid (block.row + p) (block.column + c) d is).1 gap);
 }
+
+-- the limit of a row that is told where no sample of it is missing
+pub row_told : (block : Block) (keeps : ℕ → ℕ → ℕ → Type 0) (p : ℕ) (free : Bool) (limit : ℤ)
+    → free ≡ is_free block.grid.m (series_of block.grid.rows.now) (block.row + p)
+    → FitsSigned w32 limit
+    → (free ≡ true → TellsNothing block.rounding.m block.rounding.shift (block.column + (p + 1 - 1)) (keeps (block.row + p)) limit)
+    → IsRowLimit block keeps p p limit
+row_told block keeps p false limit gap fits told = never_row block keeps p p limit fits (sym gap)
+row_told block keeps p true limit gap fits told =
+    let rows = series_of block.grid.rows.now in
+    let columns = series_of block.grid.columns.now in
+    let h = subst (λ m. TellsNothing m block.rounding.shift (block.column + (p + 1 - 1)) (keeps (block.row + p))
+    limit) block.same_length (told refl) in
+    record {
+      fits = fits;
+      above = λ c le above _ d is.
+          h.above rows (block.row + p) columns (block.column + c) d is above (block.column + c) (omega (arith, le));
+    }
+
+-- the same of a column
+pub column_told : (block : Block) (keeps : ℕ → ℕ → ℕ → Type 0) (width c : ℕ) (free : Bool) (limit : ℤ)
+    → free ≡ is_free block.grid.m (series_of block.grid.columns.now) (block.column + c)
+    → FitsSigned w32 limit
+    → (free ≡ true → TellsNothing block.rounding.m block.rounding.shift (block.row + (c + 1 - width)) (keeps (block.column + c)) limit)
+    → IsColumnLimit block keeps (first_on width c) c limit
+column_told block keeps width c false limit gap fits told = never_column block keeps (first_on width c) c limit fits (sym gap)
+column_told block keeps width c true limit gap fits told =
+    let rows = series_of block.grid.rows.now in
+    let columns = series_of block.grid.columns.now in
+    let h = subst (λ m. TellsNothing m block.rounding.shift (block.row + (c + 1 - width)) (keeps (block.column + c))
+    limit) block.same_length (told refl) in
+    record {
+      fits = fits;
+      above = λ p le above _ d is.
+          h.above rows (block.row + p) columns (block.column + c) d is above (block.row + p) (omega (arith, le));
+    }
 
 -- ---- limits of all rows and columns
 

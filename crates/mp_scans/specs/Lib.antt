@@ -7,3 +7,4 @@ pub mod Blocks
 pub mod Offering
 pub mod Slots
 pub mod Limiting
+pub mod Firsts

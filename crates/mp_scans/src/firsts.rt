@@ -64,7 +64,7 @@ fn fill_long(
 }
 
 /// What comes in and what goes where the windows from `start` on move on by one.
-pub(crate) fn fill_windows(
+pub fn fill_windows(
     rounding: &Rounding,
     samples: &[Sample],
     start: usize,
@@ -113,7 +113,7 @@ fn add_samples(plan: &Plan, row: usize, column: usize, taken: usize, residues: &
 }
 
 /// The first residues of a row and of the columns from one on.
-pub(crate) fn start_residues(plan: &Plan, row: usize, column: usize, residues: &mut [i32])
+pub fn start_residues(plan: &Plan, row: usize, column: usize, residues: &mut [i32])
     requires row { row < 2 ^ 31 }
     requires column { column < 2 ^ 31 }
     requires few { length residues.old ≤ GROUP }

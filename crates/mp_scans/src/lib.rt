@@ -18,7 +18,14 @@ mod slots;
 mod strips;
 mod vectors;
 
-pub use offers::Offers;
+pub use firsts::{fill_windows, start_residues};
+pub use marks::mark_free;
+pub use offers::{Firsts, Offers};
 pub use plans::Plan;
 pub use scans::scan;
+pub use sizes::{COLUMNS, GROUP, ROWS, SHORT};
 pub use slots::limit_of;
+pub use vectors::{
+    LANES, add_lanes, is_within, lanes_above, least_lane, load, next_clear, order_lanes,
+    raise_lanes, step, store,
+};

@@ -6,7 +6,7 @@ ghost use Rattle.mp_sums.specs.Residues.{item};
 ghost use Rattle.mp_scans.specs.Limiting.{IsRowLimit, IsColumnLimit, first_on};
 
 use crate::blocks::Block;
-use crate::offers::Offers;
+use crate::offers::{Firsts, Offers};
 use mp_sums::{Limit, NEVER};
 
 /// The limit of a row. Where a sample of it is missing, no pair passes.
@@ -45,9 +45,12 @@ pub(crate) fn fill_row_limits<O: Offers>(block: &Block, limits: &mut [i32], into
         → IsRowLimit block.now (O.keeps_row into.now) p p (item limits.new p) }
     ensures places { length limits.new ≡ length limits.old }
 {
-    for p in 0..block.rows.differences.len() {
-        limits[p] = row_limit::<O>(block, p, into);
-    }
+    let firsts = Firsts {
+        first: block.column as u64,
+        lead: 1,
+    };
+    let row = block.row as u64;
+    O::fill_row_bounds(into, &block.rounding, row, firsts, block.free_rows, limits);
 }
 
 /// The limits of all columns, to which rows are offered on the block's first diagonals, as many as `width` says.
@@ -62,9 +65,19 @@ pub(crate) fn fill_column_limits<O: Offers>(
         → IsColumnLimit block.now (O.keeps_column into.now) (first_on width c) c (item limits.new c) }
     ensures places { length limits.new ≡ length limits.old }
 {
-    for c in 0..block.columns.differences.len() {
-        limits[c] = column_limit::<O>(block, (c + 1).saturating_sub(width), c, into);
-    }
+    let firsts = Firsts {
+        first: block.row as u64,
+        lead: width,
+    };
+    let column = block.column as u64;
+    O::fill_column_bounds(
+        into,
+        &block.rounding,
+        column,
+        firsts,
+        block.free_columns,
+        limits,
+    );
 }
 
 /// Whether a distance is within a limit.

@@ -95,7 +95,7 @@ fn mark_each(samples: &[Sample], m: usize, start: usize, marks: &mut [bool])
 }
 
 /// Marks the windows of `m` samples from `start` on of which no sample is missing: mostly all.
-pub(crate) fn mark_free(samples: &[Sample], m: usize, start: usize, marks: &mut [bool])
+pub fn mark_free(samples: &[Sample], m: usize, start: usize, marks: &mut [bool])
     requires some { 1 ≤ m }
     requires end { start + m + length marks.old < 2 ^ 62 }
     ensures marks { AreFree m (series_of samples.now) start marks.new }

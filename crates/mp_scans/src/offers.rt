@@ -1,16 +1,39 @@
 //! How the windows of a pair are offered, and what of them is kept.
 
-ghost use Rattle.std.specs.Prelude.{ℕ, ◌+◌, ◌^◌, ◌<◌, ◌≤◌, ◌≡◌, Bool, Some, false};
+ghost use Rattle.std.specs.Prelude.{ℕ, ◌+◌, ◌^◌, ◌<◌, ◌≤◌, ◌≡◌, Bool, Some, true, false, length, slice_index_or};
+ghost use Rattle.std.specs.Prelude.{FitsSigned};
+ghost use Rattle.std.specs.Int.{w32};
 ghost use Rattle.mp_series.specs.declared.limits.TheConstants.{MAX_SAMPLES};
 ghost use Rattle.mp_defs.specs.Series.{Series};
 ghost use Rattle.mp_defs.specs.Distance.{distance};
 ghost use Rattle.mp_defs.specs.Profile.{windows_of};
 ghost use Rattle.mp_sums.specs.Limits.{IsBeyond};
+ghost use Rattle.mp_sums.specs.Residues.{item};
+ghost use Rattle.mp_scans.specs.Firsts.{first_at};
 ghost use Rattle.mp_scans.specs.Offering.{only, IsOffering, IsLimiting, TellsNothing};
 
 use crate::limits::is_within;
 use mp_nums::Sq;
-use mp_sums::{Limit, Rounding};
+use mp_sums::{Limit, NEVER, Rounding};
+
+/// From which window on each of successive ones is compared: from `first` on up to place `lead`, and behind it from one
+/// later on than the one before.
+#[derive(Clone, Copy)]
+pub struct Firsts {
+    pub first: u64,
+    pub lead: usize,
+}
+
+impl Firsts {
+    /// From which window on the one at a place is compared.
+    #[inline]
+    pub fn at(&self, place: usize) -> u64
+        requires { self.now.first + place + 1 < 2 ^ 64 }
+        ensures { result ≡ first_at self.now place }
+    {
+        self.first + (place + 1).saturating_sub(self.lead) as u64
+    }
+}
 
 /// A way to offer the windows of a pair. One window of the pair is a row and one a column.
 pub trait Offers {
@@ -84,6 +107,60 @@ pub trait Offers {
         ensures { TellsNothing rounding.now.m rounding.now.shift first (keeps_column into.now column) result }
     {
         rounding.residue_limit(Self::column_limit(into, column, first))
+    }
+
+    /// Such residues for successive rows from `row` on of which no sample is missing.
+    fn fill_row_bounds(
+        into: &Self::Into,
+        rounding: &Rounding,
+        row: u64,
+        firsts: Firsts,
+        free: &[bool],
+        bounds: &mut [i32],
+    )
+        requires places { length free.now ≤ length bounds.old }
+        requires row { row + length free.now < 2 ^ 63 }
+        requires first { firsts.first + length free.now < 2 ^ 63 }
+        ensures bounds { (k : ℕ) → k < length free.now → slice_index_or free.now k false ≡ true
+            → TellsNothing rounding.now.m rounding.now.shift (first_at firsts k) (keeps_row into.now (row + k))
+            (item bounds.new k) }
+        ensures fit { (k : ℕ) → k < length free.now → FitsSigned w32 (item bounds.new k) }
+        ensures places { length bounds.new ≡ length bounds.old }
+    {
+        for k in 0..free.len() {
+            bounds[k] = if free[k] {
+                Self::row_bound(into, rounding, row + k as u64, firsts.at(k))
+            } else {
+                NEVER
+            };
+        }
+    }
+
+    /// Such residues for successive columns from `column` on of which no sample is missing.
+    fn fill_column_bounds(
+        into: &Self::Into,
+        rounding: &Rounding,
+        column: u64,
+        firsts: Firsts,
+        free: &[bool],
+        bounds: &mut [i32],
+    )
+        requires places { length free.now ≤ length bounds.old }
+        requires column { column + length free.now < 2 ^ 63 }
+        requires first { firsts.first + length free.now < 2 ^ 63 }
+        ensures bounds { (k : ℕ) → k < length free.now → slice_index_or free.now k false ≡ true
+            → TellsNothing rounding.now.m rounding.now.shift (first_at firsts k) (keeps_column into.now (column + k))
+            (item bounds.new k) }
+        ensures fit { (k : ℕ) → k < length free.now → FitsSigned w32 (item bounds.new k) }
+        ensures places { length bounds.new ≡ length bounds.old }
+    {
+        for k in 0..free.len() {
+            bounds[k] = if free[k] {
+                Self::column_bound(into, rounding, column + k as u64, firsts.at(k))
+            } else {
+                NEVER
+            };
+        }
     }
 
     /// Offers of more pairs give what these pairs give together.

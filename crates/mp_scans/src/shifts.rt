@@ -35,7 +35,7 @@ fn count_far(distances: &[u128], shift: u32) -> usize
 {
     let mut far = 0;
     for k in 0..distances.len() {
-        if distances[k] >> (2 * shift) >= 1 << 29 {
+        if distances[k] >> (2 * shift) >= 1 << 27 {
             far += 1;
         }
     }

@@ -1,19 +1,19 @@
 //! How much is scanned at once.
 
 /// The most diagonals in a group.
-pub(crate) const GROUP: usize = 2_048;
+pub const GROUP: usize = 2_048;
 
 /// The most rows in a block. What its rows and columns are compared with stays in a small cache.
-pub(crate) const ROWS: usize = 1_024;
+pub const ROWS: usize = 1_024;
 
 /// The most columns in a block.
-pub(crate) const COLUMNS: usize = ROWS + GROUP;
+pub const COLUMNS: usize = ROWS + GROUP;
 
 /// How many samples of a window are taken at once.
 pub(crate) const TAKEN: usize = 256;
 
 /// The most samples of windows whose numbers are taken once for what comes in and for what goes.
-pub(crate) const SHORT: usize = 1_024;
+pub const SHORT: usize = 1_024;
 
 /// The room for what is told of a block's rows and columns: the differences and sums of both, and rounded samples.
 pub(crate) const ROOM: usize = 2 * ROWS + 2 * COLUMNS + COLUMNS + SHORT;

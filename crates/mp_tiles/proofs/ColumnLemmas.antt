@@ -1,6 +1,6 @@
 -- Columns of nearest windows that are cleared or merged place by place, and what residues tell of them.
 use Rattle.std.proofs.Common.{◌≡◌, ◌≢◌, ℕ, ◌+◌, ◌<◌, ◌≤◌, inl, inr, List, length, get_or, set, refl, sym, ap, ◌∙◌}
-use Rattle.std.proofs.Common.{arith, subst, replicate, ℤ, pos}
+use Rattle.std.proofs.Common.{arith, subst, replicate, ℤ, pos, Bool, true, false, w32, FitsSigned}
 use Rattle.std.specs.Prelude.{Option, Some, None}
 use Rattle.std.proofs.lemmas.Bool.{cases_eq}
 use Rattle.std.proofs.lemmas.Bool.Decides.{nat_tests}
@@ -155,4 +155,31 @@ within_tells m shift first None bound e = record {
 within_tells m shift first (Some near) bound e = record {
   above = λ a i b j d there above index le.
       far near index d ((is_limit m shift (Within near.dist) bound e).beyond a i b j d there above);
+}
+
+-- ---- bounds of successive windows
+
+before_or_at : (q k : ℕ) → q < k + 1 → q ≢ k → q < k
+before_or_at q k lt other = omega (arith, lt, other)
+
+-- what is told of the first places is told of one more
+pub told_next : (m shift : ℕ) (first : ℕ → ℕ) (gives_nothing : ℕ → ℕ → ℕ → Type 0) (free : List Bool) (bounds : List ℤ)
+    (places k : ℕ) (bound : ℤ) → k < length bounds → length bounds ≡ places
+    → ((q : ℕ) → q < k → get_or free q false ≡ true
+    → TellsNothing m shift (first q) (gives_nothing q) (item bounds q))
+    → ((q : ℕ) → q < k → FitsSigned w32 (item bounds q))
+    → (get_or free k false ≡ true → TellsNothing m shift (first k) (gives_nothing k) bound) → FitsSigned w32 bound
+    → record {
+      places : length (set bounds k bound) ≡ places;
+      done : (q : ℕ) → q < k + 1 → get_or free q false ≡ true
+          → TellsNothing m shift (first q) (gives_nothing q) (item (set bounds k bound) q);
+      fit : (q : ℕ) → q < k + 1 → FitsSigned w32 (item (set bounds k bound) q);
+    }
+told_next m shift first gives_nothing free bounds places k bound lt same done fit told fits = record {
+  places = length-set bounds k bound ∙ same;
+  done = λ q below.
+      set_at (λ q b. get_or free q false ≡ true → TellsNothing m shift (first q) (gives_nothing q) b) (pos 0) bounds k
+      bound lt told q (λ other. done q (before_or_at q k below other));
+  fit = λ q below.
+      set_at (λ q b. FitsSigned w32 b) (pos 0) bounds k bound lt fits q (λ other. fit q (before_or_at q k below other));
 }

@@ -11,7 +11,6 @@ use Rattle.mp_defs.specs.Window.{excl, is_allowed}
 use Rattle.mp_defs.specs.Profile.{profile, matrix_profile, windows_of}
 use Rattle.mp_defs.specs.Laws.{IsIrreflexive, IsSymmetric}
 use Rattle.mp_defs.specs.ColumnLaws.{columns_by_choice}
-use Rattle.mp_defs.specs.NearestLaws.{zone_is_mutual}
 use Rattle.mp_partial.specs.Values.{Value, merged_columns, empty_columns, merged_over}
 use Rattle.mp_cuts.specs.declared.cuts.Tile.{Tile}
 use Rattle.mp_cuts.specs.Pairs.{has_pair, no_tile}
@@ -107,28 +106,41 @@ any_tiles may irreflexive symmetric m a tiles once =
     ap (λ p. p || some_has 0 tiles j i) (has i j lt') ∙ ap (λ p. (nat_lt i j && may i j) || p) (has j i lt)
     ∙ one_side (may i j) (may j i) i j (symmetric i j) (λ e. subst (λ (k : ℕ). may i k ≡ false) e (irreflexive i)))
 
--- pairs that may be compared add nothing to the matrix profile
-pub among_within : (pairs : ℕ → ℕ → Bool) (m : ℕ) (a : Series)
-    → ((i j : ℕ) → (either_way pairs i j || is_allowed m i j) ≡ is_allowed m i j)
-    → merged_columns (columns_value (profile_among pairs m a)) (columns_value (matrix_profile m a))
+-- some pairs and others that together may be compared make the matrix profile
+pub among_and_others : (pairs others : ℕ → ℕ → Bool) (m : ℕ) (a : Series)
+    → ((i j : ℕ) → i < windows_of m a → j < windows_of m a → (either_way pairs i j || others i j) ≡ is_allowed m i j)
+    → merged_columns (columns_value (profile_among pairs m a)) (columns_value (profile others m a))
     ≡ columns_value (matrix_profile m a)
-among_within pairs m a may =
-    sym (value_either (either_way pairs) (is_allowed m) m a)
-    ∙ value_same (λ i j. either_way pairs i j || is_allowed m i j) (is_allowed m) m a (λ i j _ _. may i j)
+among_and_others pairs others m a may =
+    sym (value_either (either_way pairs) others m a)
+    ∙ value_same (λ i j. either_way pairs i j || others i j) (is_allowed m) m a may
 
 -- ---- the cut outside the exclusion zone
 
 outside_zone : (e i j : ℕ) → (nat_lt i j && nat_lt (i + e) j) ≡ (nat_lt i j && nat_lt e (abs_diff i j))
 outside_zone e i j = grind (arith, nat_tests)
 
-own_tiles_hold_each_once : (m w width : ℕ) → 0 < width → HoldEachOnce (is_allowed m) w (own_tiles w (excl m) width)
-own_tiles_hold_each_once m w width pos i j lt =
-    cuts_hold_each_pair_once.own w (excl m) width pos i j lt ∙ ap (λ t. if t then 1 else 0) (outside_zone (excl m) i j)
+own_tiles_hold_each_once : (zone w width : ℕ) → 0 < width
+    → HoldEachOnce (λ i j. nat_lt zone (abs_diff i j)) w (own_tiles w zone width)
+own_tiles_hold_each_once zone w width pos i j lt =
+    cuts_hold_each_pair_once.own w zone width pos i j lt ∙ ap (λ t. if t then 1 else 0) (outside_zone zone i j)
+
+apart_never : (zone : ℕ) → IsIrreflexive (λ i j. nat_lt zone (abs_diff i j))
+apart_never zone i = grind (arith, nat_tests)
+
+apart_both : (zone : ℕ) → IsSymmetric (λ i j. nat_lt zone (abs_diff i j))
+apart_both zone i j = grind (arith, nat_tests)
+
+-- the cut of the windows that start further apart than a zone is their profile
+pub tiles_apart : (m width zone : ℕ) (a : Series) → 0 < width
+    → tiles_value m a (own_tiles (windows_of m a) zone width)
+    ≡ columns_value (profile (λ i j. nat_lt zone (abs_diff i j)) m a)
+tiles_apart m width zone a pos =
+    any_tiles (λ i j. nat_lt zone (abs_diff i j)) (apart_never zone) (apart_both zone) m a
+    (own_tiles (windows_of m a) zone width) (own_tiles_hold_each_once zone (windows_of m a) width pos)
 
 pub make_the_profile : TilesMakeTheProfile
 make_the_profile = record {
   any = any_tiles;
-  own = λ m width a pos.
-      any_tiles (is_allowed m) (zone_is_mutual.irreflexive m) (zone_is_mutual.symmetric m) m a
-      (own_tiles (windows_of m a) (excl m) width) (own_tiles_hold_each_once m (windows_of m a) width pos);
+  own = λ m width a pos. tiles_apart m width (excl m) a pos;
 }

@@ -22,14 +22,14 @@ abbrev pub bands_of : Bands → List Tile
 bands_of bands = map (band_at bands) (range_with_len 0 (div_ceil bands.rows bands.height))
 
 -- what the numbers of bands keep to: their diagonals go from start on and, where they have rows, end before a number of
--- windows
+-- windows, and they have all rows of the first one
 pub record IsBands (start w : ℕ) (bands : Bands) : Type 0 where
   pub high : 0 < bands.height
   pub low : bands.height ≤ band_rows
-  pub after : start ≤ bands.first
+  pub from : bands.first ≡ start
   pub ordered : bands.first ≤ bands.last
   pub within : 0 < bands.rows → bands.last < w
-  pub few : bands.rows ≤ w
+  pub all : bands.rows ≡ w - start
 
 -- the bands are of pairs of windows outside the exclusion zone of a series
 pub record IsNear (plan : Plan) (bands : Bands) : Type 0 where

@@ -1,8 +1,12 @@
 //! The nearest windows on one side, and what residues tell of them.
 
-ghost use Rattle.std.specs.Prelude.{◌≡◌, ℕ, ◌+◌, ◌^◌, ◌<◌, ◌≤◌, [], length, slice_index_or, IfOk, None, true};
+ghost use Rattle.std.specs.Prelude.{◌≡◌, ℕ, ◌+◌, ◌^◌, ◌<◌, ◌≤◌, [], length, slice_index_or, IfOk, None, true, false};
+ghost use Rattle.std.specs.Prelude.{FitsSigned};
+ghost use Rattle.std.specs.Int.{w32};
 ghost use Rattle.mp_series.specs.declared.limits.TheConstants.{MAX_SAMPLES};
 ghost use Rattle.mp_sums.specs.Limits.{IsBeyond};
+ghost use Rattle.mp_sums.specs.Residues.{item};
+ghost use Rattle.mp_scans.specs.Firsts.{first_at};
 ghost use Rattle.mp_scans.specs.Offering.{TellsNothing};
 ghost use Rattle.mp_scans.specs.Slots.{Covers};
 ghost use Rattle.mp_partial.specs.Values.{empty_column, merged_column, offered};
@@ -11,8 +15,8 @@ ghost use Rattle.mp_tiles.specs.Scanning.{taken};
 
 use crate::compact::{Compact, fill_with_copies, fill_with_none, slot_at};
 use mp_nums::{Memory, Near, Slot, Slots};
-use mp_scans::limit_of;
-use mp_sums::{ALWAYS, Limit, Rounding, ZERO};
+use mp_scans::{Firsts, limit_of};
+use mp_sums::{ALWAYS, Limit, NEVER, Rounding, ZERO};
 use std::alloc::Global;
 use std::marker::Model;
 
@@ -131,6 +135,50 @@ fn bound_from(rounding: &Rounding, slot: Slot, within: i32, first: u64) -> i32
     match slot {
         Some(near) if near.index <= first => rounding.limit_before(near.dist, within),
         _ => within,
+    }
+}
+
+/// The same for the window at a place, of slots that have these bounds.
+#[inline]
+fn bound_at(rounding: &Rounding, slots: &[Compact], bounds: &[i32], place: usize, first: u64) -> i32
+    requires place { place < length slots.now }
+    requires bounds { AreBounds rounding.now.m rounding.now.shift slots.now bounds.now }
+    ensures { TellsNothing rounding.now.m rounding.now.shift first (Covers (slice_index_or slots.now place None))
+        result }
+{
+    let within = bounds[place];
+    if is_apart(rounding, within) {
+        within
+    } else {
+        bound_from(rounding, slot_at(slots, place), within, first)
+    }
+}
+
+/// The same for successive windows of which no sample is missing.
+fn fill_alike(
+    rounding: &Rounding,
+    slots: &[Compact],
+    within: &[i32],
+    firsts: Firsts,
+    free: &[bool],
+    bounds: &mut [i32],
+)
+    requires slots { length free.now ≤ length slots.now }
+    requires places { length free.now ≤ length bounds.old }
+    requires first { firsts.first + length free.now < 2 ^ 63 }
+    requires within { AreBounds rounding.now.m rounding.now.shift slots.now within.now }
+    ensures bounds { (k : ℕ) → k < length free.now → slice_index_or free.now k false ≡ true
+        → TellsNothing rounding.now.m rounding.now.shift (first_at firsts k)
+        (Covers (slice_index_or slots.now k None)) (item bounds.new k) }
+    ensures fit { (k : ℕ) → k < length free.now → FitsSigned w32 (item bounds.new k) }
+    ensures places { length bounds.new ≡ length bounds.old }
+{
+    for k in 0..free.len() {
+        bounds[k] = if free[k] {
+            bound_at(rounding, slots, within, k, firsts.at(k))
+        } else {
+            NEVER
+        };
     }
 }
 
@@ -369,6 +417,68 @@ impl Column {
             }
         } else {
             rounding.residue_limit(self.limit(place, first))
+        }
+    }
+
+    /// Such residues for successive windows of which no sample is missing.
+    pub(crate) fn fill_bounds(
+        &self,
+        rounding: &Rounding,
+        place: u64,
+        firsts: Firsts,
+        free: &[bool],
+        bounds: &mut [i32],
+    )
+        requires places { length free.now ≤ length bounds.old }
+        requires place { place + length free.now < 2 ^ 63 }
+        requires first { firsts.first + length free.now < 2 ^ 63 }
+        ensures bounds { (k : ℕ) → k < length free.now → slice_index_or free.now k false ≡ true
+            → TellsNothing rounding.now.m rounding.now.shift (first_at firsts k)
+            (Covers (slice_index_or self.now (place + k) None)) (item bounds.new k) }
+        ensures fit { (k : ℕ) → k < length free.now → FitsSigned w32 (item bounds.new k) }
+        ensures places { length bounds.new ≡ length bounds.old }
+    {
+        let at = place as usize;
+        let end = at + free.len();
+        if end <= self.slots.len() && are_alike(&self.rounding, rounding) {
+            let (slots, within) = (self.slots.as_slice(), self.bounds.as_slice());
+            fill_alike(
+                rounding,
+                &slots[at..end],
+                &within[at..end],
+                firsts,
+                free,
+                bounds,
+            );
+        } else {
+            self.fill_each(rounding, place, firsts, free, bounds);
+        }
+    }
+
+    /// The same, window by window.
+    fn fill_each(
+        &self,
+        rounding: &Rounding,
+        place: u64,
+        firsts: Firsts,
+        free: &[bool],
+        bounds: &mut [i32],
+    )
+        requires places { length free.now ≤ length bounds.old }
+        requires place { place + length free.now < 2 ^ 63 }
+        requires first { firsts.first + length free.now < 2 ^ 63 }
+        ensures bounds { (k : ℕ) → k < length free.now → slice_index_or free.now k false ≡ true
+            → TellsNothing rounding.now.m rounding.now.shift (first_at firsts k)
+            (Covers (slice_index_or self.now (place + k) None)) (item bounds.new k) }
+        ensures fit { (k : ℕ) → k < length free.now → FitsSigned w32 (item bounds.new k) }
+        ensures places { length bounds.new ≡ length bounds.old }
+    {
+        for k in 0..free.len() {
+            bounds[k] = if free[k] {
+                self.bound(rounding, place + k as u64, firsts.at(k))
+            } else {
+                NEVER
+            };
         }
     }
 }

@@ -17,13 +17,13 @@ use crate::offers::OnBothSides;
 use crate::scans::scan_tile;
 use mp_cuts::Tile;
 use mp_nums::{Memory, Near, Slots, Sq, nearer};
-use mp_scans::{Offers, Plan};
+use mp_scans::{Firsts, Offers, Plan};
 use mp_sums::{Limit, Rounding};
 use std::alloc::Global;
 use std::marker::Model;
 
-/// What was found for each window, by its start: the nearest of the windows that start earlier, and the nearest of those
-/// that start later. A window takes 40 bytes.
+/// What was found for each window, by its start: the nearest of the windows that start earlier, and the nearest of
+/// those that start later. A window takes 40 bytes.
 #[derive(Debug, Drop)]
 pub(crate) struct Found {
     left: Column,
@@ -166,7 +166,8 @@ impl Found {
 /// Merges both sides of the profile of a tile's pairs into what was found.
 pub(crate) fn take_tile(plan: &Plan, tile: &Tile, into: &mut Found)
     requires same { plan.now.grid.columns.now ≡ plan.now.grid.rows.now }
-    requires tile { IsTileBetween (zone plan.now.grid.m + 1) (windows_in (length plan.now.grid.rows.now) plan.now.grid.m)
+    requires tile { IsTileBetween (zone plan.now.grid.m + 1)
+        (windows_in (length plan.now.grid.rows.now) plan.now.grid.m)
         (windows_in (length plan.now.grid.rows.now) plan.now.grid.m) tile.now }
     requires places { length into.old.left ≡ windows_in (length plan.now.grid.rows.now) plan.now.grid.m }
     ensures value { into.new.left ∷ into.new.right ∷ [] ≡ merged_columns (into.old.left ∷ into.old.right ∷ [])
@@ -284,5 +285,28 @@ impl Offers for OnBothSides {
     #[inline]
     fn column_bound(into: &Found, rounding: &Rounding, column: u64, first: u64) -> i32 {
         into.left.bound(rounding, column, first)
+    }
+
+    fn fill_row_bounds(
+        into: &Found,
+        rounding: &Rounding,
+        row: u64,
+        firsts: Firsts,
+        free: &[bool],
+        bounds: &mut [i32],
+    ) {
+        into.right.fill_bounds(rounding, row, firsts, free, bounds);
+    }
+
+    fn fill_column_bounds(
+        into: &Found,
+        rounding: &Rounding,
+        column: u64,
+        firsts: Firsts,
+        free: &[bool],
+        bounds: &mut [i32],
+    ) {
+        into.left
+            .fill_bounds(rounding, column, firsts, free, bounds);
     }
 }

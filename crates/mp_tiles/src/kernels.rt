@@ -5,7 +5,6 @@ ghost use Rattle.mp_series.specs.declared.limits.TheConstants.{MAX_SAMPLES, MAX_
 ghost use Rattle.mp_defs.specs.Series.{series_of};
 ghost use Rattle.mp_defs.specs.Window.{windows as windows_in, excl as zone};
 ghost use Rattle.mp_defs.specs.Profile.{matrix_profile};
-ghost use Rattle.mp_partial.specs.Values.{merged_columns};
 ghost use Rattle.mp_tiles.specs.Pieces.{sides_value};
 
 use crate::near::{Bands, NearTiles};
@@ -19,12 +18,13 @@ use mp_sums::Grid;
 use std::alloc::Global;
 use std::marker::Model;
 
-/// The tiles of a series as the pieces of a kernel, whose values together are both sides of the matrix profile.
+/// The tiles of a series as the pieces of a kernel. The values of all tiles together are both sides of the matrix
+/// profile.
 #[derive(Drop)]
 pub struct OwnTiles<'a> {
     /// The windows, each a row and a column.
-    plan: Plan<'a>,
-    cut: Cut,
+    pub(crate) plan: Plan<'a>,
+    pub(crate) cut: Cut,
 }
 
 impl<'a> Model for OwnTiles<'a> {
@@ -66,16 +66,13 @@ impl<'a> OwnTiles<'a> {
         }
     }
 
-    /// The pairs of windows that start close together, outside the exclusion zone, in so many bands of rows. Merged
-    /// into both sides of the matrix profile they change nothing. It takes no memory.
+    /// The tiles of the windows that start close together, outside the exclusion zone, in so many bands of rows. It
+    /// takes no memory.
     pub fn near(&self, bands: u32) -> NearTiles<'a>
         requires some { 1 ≤ bands }
         ensures samples { result.samples ≡ self.now.samples }
         ensures m { result.m ≡ self.now.m }
         ensures few { length result.tiles ≤ MAX_TILES }
-        ensures within { merged_columns (own_together result)
-            (sides_value (matrix_profile self.now.m (series_of self.now.samples)))
-            ≡ sides_value (matrix_profile self.now.m (series_of self.now.samples)) }
     {
         let windows = self.size();
         NearTiles {

@@ -3,17 +3,26 @@
 ghost use Rattle.std.specs.Prelude.{◌≡◌, ◌+◌, ◌<◌, ◌≤◌, length};
 ghost use Rattle.std.specs.Int.{div_ceil};
 ghost use Rattle.mp_series.specs.declared.limits.TheConstants.{MAX_SAMPLES, MAX_WINDOW};
+ghost use Rattle.mp_defs.specs.Series.{series_of};
+ghost use Rattle.mp_defs.specs.Profile.{matrix_profile};
+ghost use Rattle.mp_partial.specs.Values.{merged_columns};
 ghost use Rattle.mp_tiles.specs.Near.{IsBands, band_at, bands_of};
+ghost use Rattle.mp_tiles.specs.Pieces.{own_together, sides_value};
 
+use crate::kernels::OwnTiles;
 use crate::sides::Sides;
-use mp_cuts::{MAX_ROWS, Tile};
+use mp_cuts::{MAX_ROWS, MAX_TILE, MAX_TILES, Tile, cut_own};
 use mp_partial::Kernel;
 use mp_scans::Plan;
 use mp_series::windows;
 use std::marker::Model;
 
-/// How many diagonals have near windows. In measured series these have most of what lowers limits for the others.
-const NEAR: u64 = 256;
+/// How many diagonals there are for each one that has near windows. In measured series these have most of what lowers
+/// limits for the others.
+const DIAGONALS_FOR_A_NEAR_ONE: u64 = 16;
+
+/// The least number of diagonals that have near windows.
+const LEAST_NEAR: u64 = 256;
 
 /// The rows of some diagonals, band by band. The last band may have fewer.
 #[derive(Clone, Copy)]
@@ -34,9 +43,10 @@ impl Bands {
     {
         let first = excl + 1;
         let rows = windows.saturating_sub(first);
+        let near = (rows / DIAGONALS_FOR_A_NEAR_ONE).max(LEAST_NEAR);
         Bands {
             first,
-            last: first + rows.clamp(1, NEAR) - 1,
+            last: first + rows.clamp(1, near) - 1,
             rows,
             height: rows.div_ceil(u64::from(bands)).clamp(1, MAX_ROWS),
         }
@@ -68,8 +78,7 @@ impl Bands {
     }
 }
 
-/// The tiles of the windows that start close together as the pieces of a kernel. What they have together is part of
-/// both sides of the matrix profile.
+/// The tiles of the windows that start close together as the pieces of a kernel.
 #[derive(Drop)]
 pub struct NearTiles<'a> {
     /// The windows, each a row and a column.
@@ -86,6 +95,24 @@ impl<'a> Model for NearTiles<'a> {
     ghost view = { λ near. record { samples = near.plan.grid.rows.now; m = near.plan.grid.m; tiles = bands_of near.bands } };
 
     ghost invariant = { λ near. IsNear near.plan near.bands };
+}
+
+impl<'a> NearTiles<'a> {
+    /// The tiles of at most `tile` diagonals of the windows that start further apart. It takes no memory.
+    pub fn others(&self, tile: u32) -> OwnTiles<'a>
+        requires least { 1 ≤ tile }
+        requires greatest { tile ≤ MAX_TILE }
+        ensures samples { result.samples ≡ self.now.samples }
+        ensures m { result.m ≡ self.now.m }
+        ensures few { length result.tiles ≤ MAX_TILES }
+        ensures together { merged_columns (own_together self.now) (own_together result)
+            ≡ sides_value (matrix_profile self.now.m (series_of self.now.samples)) }
+    {
+        OwnTiles {
+            plan: self.plan,
+            cut: cut_own(self.size(), self.bands.last, tile),
+        }
+    }
 }
 
 impl<'a> Kernel for NearTiles<'a> {

@@ -18,9 +18,6 @@ use std::thread::Threads;
 /// For how many pairs of windows a worker is started. Fewer pairs take less time than the start of a thread.
 const PAIRS_FOR_A_WORKER: u64 = 262_144;
 
-/// How many bands of near windows there are for each worker, so that a slow one leaves some to others.
-const BANDS_FOR_A_WORKER: u32 = 8;
-
 /// How many of the workers so many pairs of windows are worth, at least one.
 fn worth(pairs: u64, workers: u32) -> u32
     requires { 1 ≤ workers }
@@ -36,15 +33,20 @@ fn pairs(first: &[Sample], second: &[Sample]) -> u64 {
 }
 
 /// Both sides of the matrix profile of the tiles' samples. Several workers compare near windows first, since what these
-/// find lets most of the others be passed over, and each begins the tiles with what all of them found.
+/// find lets most of the others be passed over, and each begins the tiles of the others, of at most `tile` diagonals,
+/// with what all of them found. There is a band of near windows for each worker: the windows behind a band's end are
+/// near to its last rows, and would be compared with little known of them once more for each band.
 fn both_sides<R: Threads + Sync, G: Gate>(
     rt: &R,
     alloc: Global,
     tiles: &OwnTiles,
+    tile: u32,
     workers: u32,
     gate: &G,
 ) -> Result<Sides, Memory>
     requires few { length tiles.now.tiles ≤ MAX_TILES }
+    requires least { 1 ≤ tile }
+    requires greatest { tile ≤ MAX_TILE }
     requires some { 1 ≤ workers }
     requires workers { workers ≤ MAX_WORKERS }
     requires together { own_together tiles.now
@@ -56,8 +58,8 @@ fn both_sides<R: Threads + Sync, G: Gate>(
     if workers == 1 {
         return run_all(rt, alloc, tiles, tiles.pieces(), workers, gate);
     }
-    let near = tiles.near(BANDS_FOR_A_WORKER * workers);
-    run_one_after_another(rt, alloc, &near, tiles, workers, gate)
+    let near = tiles.near(workers);
+    run_one_after_another(rt, alloc, &near, &near.others(tile), workers, gate)
 }
 
 /// The matrix profile of the samples at window length `m`, computed in tiles of at most `tile` diagonals by so many
@@ -85,7 +87,7 @@ pub fn self_join<R: Threads + Sync, G: Gate>(
     let tiles = OwnTiles::new(samples, m, tile);
     let room = Profile::with_capacity(alloc, tiles.size())?;
     let workers = worth(pairs(samples, samples) / 2, workers);
-    let sides = both_sides(rt, alloc, &tiles, workers, gate)?;
+    let sides = both_sides(rt, alloc, &tiles, tile, workers, gate)?;
     Ok(profile_of(rt, &sides, workers, room))
 }
 

@@ -1,16 +1,10 @@
-use Rattle.std.proofs.Common.{◌∙◌, arith, pos}
-use Rattle.std.proofs.lemmas.List.{length-set}
-use Rattle.mp_scans.specs.Limiting.{IsRowLimit}
-use Rattle.mp_scans.proofs.FillLemmas.{set_next}
-use Rattle.mp_scans.proofs.LimitLemmas.{handed_on}
+use Rattle.std.proofs.Common.{◌<◌, length, arith, get_or, false}
+use Rattle.mp_scans.proofs.LimitLemmas.{row_told}
 use Rattle.mp_scans.proofs.limits.fill_row_limits.Goals as goal
 
-pub loop-p-preserved : goal.loop-p-preserved
-loop-p-preserved g c =
-    let limit = IsRowLimit c.args.block.now (g.O.Offers.keeps_row c.args.into.now) in
-    let p = c.loop-p.p in
-    record {
-      places = length-set _ _ _ ∙ c.loop-p.invariant.places;
-      done = set_next (λ q. limit q q) (pos 0) c.loop-p.limits p _ (omega arith) c.loop-p.invariant.done
-          (handed_on (limit p p) _ c.row_limit.ensures.fits c.row_limit.ensures);
-    }
+pub returns-clause-limits : goal.returns-clause-limits
+returns-clause-limits g c = λ p lt.
+    let block = c.args.block.now in
+    let there : p < length block.free_rows.now = omega (arith, lt, block.row_places) in
+    row_told block (g.O.Offers.keeps_row c.args.into.now) p (get_or block.free_rows.now p false) _
+    (block.row_marks.each p there) (c.fill_row_bounds.ensures.fit p there) (c.fill_row_bounds.ensures.bounds p there)

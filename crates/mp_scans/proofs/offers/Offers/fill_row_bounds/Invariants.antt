@@ -1,0 +1,14 @@
+use Rattle.std.proofs.Common.{◌≡◌, ℕ, ◌+◌, ◌<◌, length, get_or, true, false, w32, FitsSigned}
+use Rattle.mp_sums.specs.Residues.{item}
+use Rattle.mp_scans.specs.Firsts.{first_at}
+use Rattle.mp_scans.specs.Offering.{TellsNothing}
+use Rattle.mp_scans.proofs.offers.Offers.fill_row_bounds.Given as goal
+
+abbrev pub invariant-loop-k : goal.invariant-loop-k
+invariant-loop-k g l = record {
+  places : length l.bounds ≡ length l.initial.bounds;
+  done : (q : ℕ) → q < l.k → get_or l.free q false ≡ true
+      → TellsNothing l.rounding.m l.rounding.shift (first_at l.firsts q) (g.Self.Offers.keeps_row l.into (l.row + q))
+      (item l.bounds q);
+  fit : (q : ℕ) → q < l.k → FitsSigned w32 (item l.bounds q);
+}
