@@ -1,20 +1,21 @@
 -- Files by which a load is prepared, whatever the shelf tells.
 use Rattle.std.proofs.Common.{◌≡◌, ℕ, ◌+◌, Bool, true, false, List, [], length, nat_lt, refl, replicate, ap, ◌∙◌, sym}
 use Rattle.std.proofs.Common.{arith}
-use Rattle.std.specs.Prelude.{cond, is_none, unwrap_or, Some, None, Result, Ok, Err, IfOk, OnErr}
+use Rattle.std.specs.Prelude.{cond, is_none, unwrap_or, Option, Some, None, Result, Ok, Err, IfOk, OnErr}
 use Rattle.std.specs.Cmp.Lexicographic.{slice_cmp}
 use Rattle.std.specs.FinMap.{empty, get-empty, get-insert, insert}
 use Rattle.std.specs.Ordering.{nat_cmp}
 use Rattle.std.proofs.lemmas.Bool.Decides.{nat_tests}
 use Rattle.std.proofs.lemmas.Cmp.{eq_by_cmp_equiv, nat_list_cmp_total}
 use Rattle.std.proofs.lemmas.List.{length-replicate}
+use Rattle.mp_replies.specs.declared.causes.Cause.{Cause}
 use Rattle.mp_replies.specs.declared.causes.Cause.TheVariants.{File, FileSize}
 use Rattle.mp_replies.specs.Conditions.{first_cause}
 use Rattle.mp_replies.specs.Limits.{max_file}
 use Rattle.mp_replies.specs.Line.{Asked}
 use Rattle.mp_replies.specs.LoadCommand.{file_conditions, file_in, load_conditions}
 use Rattle.mp_replies.specs.Numbers.{columns}
-use Rattle.mp_replies.specs.State.{Files, Store}
+use Rattle.mp_replies.specs.State.{Files, State, Store}
 use Rattle.mp_replies.specs.Step.{fetches_by}
 use Rattle.mp_stores.specs.Stores.{StandFor, Stored}
 use Rattle.mp_requests.specs.declared.context.Context.{Context}
@@ -22,7 +23,8 @@ use Rattle.mp_requests.specs.Answering.{state_over}
 use Rattle.mp_commands.specs.declared.prepared.Prepared.{Prepared}
 use Rattle.mp_commands.specs.declared.requests.Load.{Load}
 use Rattle.mp_commands.specs.Commands.{asks_for}
-use Rattle.mp_commands.specs.Preparing.{IsPrepared, IsPreparedBySome, NeedsNoFile}
+use Rattle.mp_outside.specs.declared.shelves.Shelf as shelves
+use Rattle.mp_commands.specs.Preparing.{IsAsked, IsPrepared, IsPreparedBySome, NeedsFile}
 
 pub no_file : Files
 no_file = empty
@@ -76,15 +78,30 @@ pub on_err : {T E : Type 0} {P : Type 0} (r : Result T E) → P → OnErr r P
 on_err (Ok x) p = tt
 on_err (Err e) p = p
 
--- a load that nothing refuses without its file wants it
-pub wants_file : (context : Context) (load : Load) (held : Stored)
+-- whether a load needs its file: where nothing refuses it without that
+pub load_needs : (context : Context) (load : Load) (held : Stored) (why : Option Cause)
     → ((stores : List Store) → StandFor held stores
-    → first_cause (load_conditions stores load.slot (unwrap_or (columns load.columns.field.now) [])) ≡ None)
-    → NeedsNoFile context (asks_for load) held → ⊥
-wants_file context load held unrefused none =
-    let wanted : fetches_by (state_over context held none.stores) (asks_for load) ≡ true =
-    ap is_none (unrefused none.stores none.stand) in
-    let clash : true ≡ false = sym wanted ∙ none.none in
+    → first_cause (load_conditions stores load.slot (unwrap_or (columns load.columns.field.now) [])) ≡ why)
+    → (file : Bool) → NeedsFile context (asks_for load) held file → file ≡ is_none why
+load_needs context load held why cause file needs = sym needs.is ∙ ap is_none (cause needs.stores needs.stand)
+
+-- a shelf isn't asked where no file is needed
+pub unasked : {H : Type 0} {shelf : shelves.Ghosts H} {needs : Bool → Type 0} {failed : Type 0} (same : H)
+    → (needs true → ⊥) → (failed → ⊥) → IsAsked shelf needs failed same same
+unasked same none calm = record {
+  files = refl;
+  fault = λ failed. absurd (calm failed);
+  calm = λ fine. refl;
+  fetched = λ needs. absurd (none needs);
+  unfetched = λ needs. refl;
+  no_fault = λ needs failed. calm failed;
+}
+
+-- a line of which no state asks for a file needs none
+pub needs_none : (context : Context) (what : Asked) (held : Stored) → ((state : State) → fetches_by state what ≡ false)
+    → NeedsFile context what held true → ⊥
+needs_none context what held none needs =
+    let clash : true ≡ false = sym needs.is ∙ none (state_over context held needs.stores) in
     absurd (cc clash)
 
 -- ---- one that is there

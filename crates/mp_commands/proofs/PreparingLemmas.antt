@@ -1,5 +1,5 @@
 -- What was prepared for a command, told of the line that asks for it.
-use Rattle.std.proofs.Common.{◌≡◌, ◌∙◌, ℕ, List, length, Bool, true, refl, ap, sym, subst, arith}
+use Rattle.std.proofs.Common.{◌≡◌, ◌∙◌, ℕ, List, length, Bool, true, false, refl, ap, sym, subst, arith}
 use Rattle.std.specs.Prelude.{Result, Ok, Err, IfOk, Option, Some, None}
 use Rattle.mp_defs.specs.Series.{series_of}
 use Rattle.mp_replies.specs.declared.causes.Cause.{Cause}
@@ -11,7 +11,7 @@ use Rattle.mp_replies.specs.Conditions.{first_cause}
 use Rattle.mp_replies.specs.LimitLaws.{limits_kept}
 use Rattle.mp_replies.specs.Line.{Asked, Nothing, Asks, Faulty, asked_of, ends}
 use Rattle.mp_replies.specs.State.{Files, State, first_version}
-use Rattle.mp_replies.specs.Step.{change_in, conditions, verdict_by, verdict_of}
+use Rattle.mp_replies.specs.Step.{change_in, conditions, fetches_by, verdict_by, verdict_of}
 use Rattle.mp_stores.specs.Stores.{StandAsBefore, Stored}
 use Rattle.mp_stores.specs.StoreLaws.{channel_lasts, items_last}
 use Rattle.mp_requests.specs.declared.answers.Answer.{Answer}
@@ -80,6 +80,16 @@ compared_keeps Mpdist a b = tt
 reports_keep : (request : ReportRequest) → AsksForReport (reported_in request)
 reports_keep (Compare pair) = compared_keeps pair.by pair.a pair.b
 reports_keep other = tt
+
+none_in : (state : State) (what : Asked) → AsksForReport what → fetches_by state what ≡ false
+none_in state Nothing h = refl
+none_in state (Faulty cause) h = refl
+none_in state (Asks (asked.Load slot file columns header)) h = absurd h
+none_in state (Asks other) h = refl
+
+-- none of them needs a file
+pub report_needs_none : (state : State) (request : ReportRequest) → fetches_by state (reported_in request) ≡ false
+report_needs_none state request = none_in state (reported_in request) (reports_keep request)
 
 pub prepared_report : (state : State) (files : Files) (request : ReportRequest) (prepared : Prepared) (answer : Answer)
     → IsAnswer state files (reported_in request) answer → prepared.answer ≡ answer → prepared.change ≡ Keep

@@ -1,5 +1,5 @@
 -- What a shelf gives for a load.
-use Rattle.std.specs.Prelude.{◌≡◌, ℕ, Bool, List, Option, Some}
+use Rattle.std.specs.Prelude.{◌≡◌, ℕ, Bool, true, false, List, Option, Some}
 use Rattle.mp_replies.specs.declared.causes.Cause.{Cause}
 use Rattle.mp_replies.specs.Conditions.{first_cause}
 use Rattle.mp_replies.specs.LoadCommand.{file_conditions, file_in}
@@ -19,14 +19,15 @@ pub record IsRefusedFile (tells : Option Files) (name : List ℕ) (cause : Cause
   pub files : Files
   pub some : FileRefuses files name cause
 
--- what is known of the shelf, by other words for what isn't wanted and what failed
-pub reworded : {H : Type 0} {shelf : shelves.Ghosts H} {unwanted also failed stopped : Type 0} {old new : H}
-    → IsAsked shelf unwanted failed old new → (also → unwanted) → (stopped → failed) → (failed → stopped)
-    → IsAsked shelf also stopped old new
+-- what is known of the shelf, by other words for what is needed and what failed
+pub reworded : {H : Type 0} {shelf : shelves.Ghosts H} {needs also : Bool → Type 0} {failed stopped : Type 0}
+    {old new : H} → IsAsked shelf needs failed old new → ((file : Bool) → also file → needs file)
+    → (stopped → failed) → (failed → stopped) → IsAsked shelf also stopped old new
 reworded asked wants to from = record {
   files = asked.files;
   fault = λ stop. asked.fault (to stop);
   calm = λ none. asked.calm (λ failed. none (from failed));
-  unfetched = λ also. asked.unfetched (wants also);
-  no_fault = λ also stop. asked.no_fault (wants also) (to stop);
+  fetched = λ also. asked.fetched (wants true also);
+  unfetched = λ also. asked.unfetched (wants false also);
+  no_fault = λ also stop. asked.no_fault (wants false also) (to stop);
 }

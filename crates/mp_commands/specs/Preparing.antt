@@ -13,7 +13,7 @@ use Rattle.mp_replies.specs.Limits.{slot_count}
 use Rattle.mp_replies.specs.Line.{Asked, Asks, is_end}
 use Rattle.mp_replies.specs.State.{Files, State, Store}
 use Rattle.mp_replies.specs.Step.{change_in, fetches_by, verdict_of}
-use Rattle.mp_outside.specs.Counts.{Rose}
+use Rattle.mp_outside.specs.Counts.{Rose, raised}
 use Rattle.mp_outside.specs.declared.shelves.Shelf as shelves
 use Rattle.mp_stores.specs.Stores.{Stored, AreEven, CanOpen, HaveRoom, StandFor, lists_in, series_in, streams_at}
 use Rattle.mp_requests.specs.declared.context.Context.{Context}
@@ -129,17 +129,19 @@ pub record IsReady (what : Asked) (held : Stored) (prepared : Prepared) : Type 0
   pub names : NamesChannels held prepared.answer
   pub ends : is_ended (kind_by prepared.answer) ≡ is_end what
 
--- it asks for no file where the slots stand for some stores
-pub record NeedsNoFile (context : Context) (what : Asked) (held : Stored) : Type 0 where
+-- whether it asks for a file where the slots stand for some stores
+pub record NeedsFile (context : Context) (what : Asked) (held : Stored) (file : Bool) : Type 0 where
   pub stores : List Store
   pub stand : StandFor held stores
-  pub none : fetches_by (state_over context held stores) what ≡ false
+  pub is : fetches_by (state_over context held stores) what ≡ file
 
--- the shelf tells the files that it told. Its faults rise exactly where it failed, and it isn't asked where no file is
--- wanted
-pub record IsAsked {H : Type 0} (shelf : shelves.Ghosts H) (unwanted failed : Type 0) (old new : H) : Type 0 where
+-- The shelf tells the files that it told. Its faults rise exactly where it failed. It is asked once where a file is
+-- needed, and isn't asked where none is
+pub record IsAsked {H : Type 0} (shelf : shelves.Ghosts H) (needs : Bool → Type 0) (failed : Type 0) (old new : H)
+    : Type 0 where
   pub files : shelf.files new ≡ shelf.files old
   pub fault : failed → Rose (shelf.faults old) (shelf.faults new)
   pub calm : ¬ failed → shelf.faults new ≡ shelf.faults old
-  pub unfetched : unwanted → new ≡ old
-  pub no_fault : unwanted → failed → ⊥
+  pub fetched : needs true → shelf.fetches new ≡ raised 1 (shelf.fetches old)
+  pub unfetched : needs false → new ≡ old
+  pub no_fault : needs false → failed → ⊥

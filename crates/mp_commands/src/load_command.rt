@@ -1,7 +1,7 @@
 //! `load S FILE COL,COL`, or with `header` behind: columns of a file in place of what stood in a slot.
 
 ghost use Rattle.std.specs.Prelude.{◌≡◌, ◌<◌, ◌≤◌, List, [], All, length};
-ghost use Rattle.std.specs.Prelude.{option_map, unwrap_or, vec_len, Some, None, IfErr, IfNone, IfOk, IsErrOf};
+ghost use Rattle.std.specs.Prelude.{option_map, unwrap_or, vec_len, true, Some, None, IfErr, IfNone, IfOk, IsErrOf};
 ghost use Rattle.mp_defs.specs.Limits.{max_samples};
 ghost use Rattle.mp_replies.specs.Limits.{max_file, slot_count};
 ghost use Rattle.mp_replies.specs.LoadCommand.{file_in, load_conditions};
@@ -10,7 +10,7 @@ ghost use Rattle.mp_replies.specs.State.{Files, Store};
 ghost use Rattle.mp_requests.specs.Answering.{IsCause, state_over};
 ghost use Rattle.mp_commands.specs.Commands.{asks_for};
 ghost use Rattle.mp_commands.specs.Fetching.{IsRefusedFile};
-ghost use Rattle.mp_commands.specs.Preparing.{IsAsked, IsPrepared, IsPreparedBySome, IsReady, IsTaken, NeedsNoFile};
+ghost use Rattle.mp_commands.specs.Preparing.{IsAsked, IsPrepared, IsPreparedBySome, IsReady, IsTaken, NeedsFile};
 ghost use Rattle.mp_commands.specs.Preparing.{cause_by};
 ghost use Rattle.mp_text.specs.Table.{told};
 ghost use Rattle.mp_stores.specs.Stores.{HaveWindow, StandFor, items_in, streams_at};
@@ -44,7 +44,7 @@ pub(crate) fn prepare_load<R: Threads + Sync, H: Shelf, G: Gate>(
     ensures prepared { IsTaken (H.files shelf.old) context (asks_for load.entry) stores.now result }
     ensures some_files { IfOk result (IsPreparedBySome context (asks_for load.entry) stores.now) }
     ensures ready { IfOk result (IsReady (asks_for load.entry) stores.now) }
-    ensures shelf { IsAsked H.Shelf (NeedsNoFile context (asks_for load.entry) stores.now)
+    ensures shelf { IsAsked H.Shelf (NeedsFile context (asks_for load.entry) stores.now)
         (IsErrOf result Stop.ShelfFault) shelf.old shelf.new }
 {
     if let Some(cause) = load_cause(stores, load.slot, load.columns) {
@@ -84,7 +84,7 @@ fn fetch_file<H: Shelf>(
     ensures found { (files : Files) → H.files shelf.old ≡ Some files
         → IfOk result (λ fetched. IfOk fetched (λ bytes. file_in files name.now ≡ Some bytes.items)) }
     ensures refused { IfOk result (λ fetched. IfErr fetched (IsRefusedFile (H.files shelf.old) name.now)) }
-    ensures shelf { IsAsked H.Shelf ⊥ (IsErrOf result Stop.ShelfFault) shelf.old shelf.new }
+    ensures shelf { IsAsked H.Shelf (λ file. file ≡ true) (IsErrOf result Stop.ShelfFault) shelf.old shelf.new }
 {
     match shelf.fetch(alloc, name, MAX_FILE) {
         Ok(bytes) => Ok(Ok(bytes)),

@@ -7,7 +7,7 @@ ghost use Rattle.mp_requests.specs.Answering.{version_in};
 ghost use Rattle.mp_requests.specs.Reads.{AreUnread, IsKept};
 ghost use Rattle.mp_requests.specs.Requests.{IsWithinLimits, is_accepted, is_ended, kind_by};
 ghost use Rattle.mp_commands.specs.Commands.{changed_in};
-ghost use Rattle.mp_commands.specs.Preparing.{IsAsked, IsPreparedBySome, IsReady, IsTaken, NeedsNoFile};
+ghost use Rattle.mp_commands.specs.Preparing.{IsAsked, IsPreparedBySome, IsReady, IsTaken, NeedsFile};
 ghost use Rattle.mp_stores.specs.Stores.{StandAsBefore};
 
 use crate::append_command::prepare_append;
@@ -42,7 +42,7 @@ pub fn prepare<R: Threads + Sync, H: Shelf, G: Gate>(
     ensures unread { IfOk result (λ prepared. is_accepted (kind_by prepared.answer) ≡ false
         → AreUnread stores.old stores.new) }
 
-    ensures shelf { IsAsked H.Shelf (NeedsNoFile context (asked_of (version_in context) line.now) stores.old)
+    ensures shelf { IsAsked H.Shelf (NeedsFile context (asked_of (version_in context) line.now) stores.old)
         (IsErrOf result Stop.ShelfFault) shelf.old shelf.new }
 {
     let command = match parse_line(line) {
@@ -71,7 +71,7 @@ fn prepare_command<R: Threads + Sync, H: Shelf, G: Gate>(
     ensures unread { IfOk result (λ prepared. is_accepted (kind_by prepared.answer) ≡ false
         → AreUnread stores.old stores.new) }
 
-    ensures shelf { IsAsked H.Shelf (NeedsNoFile context (asked_by command.entry) stores.old)
+    ensures shelf { IsAsked H.Shelf (NeedsFile context (asked_by command.entry) stores.old)
         (IsErrOf result Stop.ShelfFault) shelf.old shelf.new }
 {
     match Request::of(command) {
@@ -97,7 +97,7 @@ fn prepare_change<R: Threads + Sync, H: Shelf, G: Gate>(
     ensures ready { IfOk result (IsReady (changed_in request.entry) stores.new) }
     ensures stands { StandAsBefore stores.old stores.new }
     ensures unread { AreUnread stores.old stores.new }
-    ensures shelf { IsAsked H.Shelf (NeedsNoFile context (changed_in request.entry) stores.old)
+    ensures shelf { IsAsked H.Shelf (NeedsFile context (changed_in request.entry) stores.old)
         (IsErrOf result Stop.ShelfFault) shelf.old shelf.new }
 {
     match request {

@@ -3,3 +3,4 @@ pub mod Filed
 pub mod Planned
 pub mod States
 pub mod Stored
+pub mod Taking

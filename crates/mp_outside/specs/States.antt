@@ -1,4 +1,4 @@
--- What is seen of a source and of a sink.
+-- What is seen of a source, of a sink, and of a shelf of the system's files.
 use Rattle.std.specs.Prelude.{ℕ, ◌+◌, ◌-◌, ◌^◌, min, nat_le, Bool, false, if◌then◌else◌, List, [], ◌∷◌, ◌++◌, length}
 use Rattle.std.specs.Prelude.{drop, Option, None, Some}
 
@@ -43,6 +43,11 @@ pub record StdSourceState (I : Type 0) : Type 0 where
 pub record StdSinkState (O : Type 0) : Type 0 where
   pub output : O
   pub flushed : Bool
+  pub faults : ℕ
+
+-- how often a file was asked for, and how often that failed
+pub record DiskShelfState : Type 0 where
+  pub fetches : ℕ
   pub faults : ℕ
 
 -- a byte that is given again and again, how many times more, and how many times it was

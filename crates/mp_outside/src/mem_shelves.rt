@@ -27,13 +27,14 @@ impl Model for MemShelf {
 
     ghost coded = { mem_shelf_code };
 
-    ghost view = { λ a. record { files = a.shelf; plan = a.plan } };
+    ghost view = { λ a. record { files = a.shelf.files; plan = a.plan } };
 }
 
 impl MemShelf {
     /// A shelf without files. The fetches with the numbers in `fail`, counted from 0, fail.
     pub fn new(alloc: Global, fail: Vec<u64>) -> MemShelf
         ensures files { ⟦<MemShelf as Shelf>⟧.files result ≡ Some map.empty }
+        ensures fetches { ⟦<MemShelf as Shelf>⟧.fetches result ≡ 0 }
         ensures faults { ⟦<MemShelf as Shelf>⟧.faults result ≡ 0 }
         ensures plan { result.plan ≡ record { fail = fail.items; calls = 0; faults = 0 } }
     {
@@ -56,7 +57,11 @@ impl MemShelf {
 impl Shelf for MemShelf {
     ghost files = { λ it. Some it.files };
 
+    ghost fetches = { λ it. min it.plan.calls (2 ^ 128 - 1) };
+
     ghost faults = { λ it. min it.plan.faults (2 ^ 64 - 1) };
+
+    ghost fetches_fit = { Prim.search rules };
 
     ghost faults_fit = { Prim.search rules };
 

@@ -1,10 +1,13 @@
 -- Runs of lines, one behind another.
-use Rattle.std.proofs.Common.{◌≡◌, ℕ, ◌+◌, Bool, true, false, ◌||◌, List, [], ◌∷◌, ◌++◌, map, refl, arith, ap, ◌∙◌, sym}
+use Rattle.std.proofs.Common.{◌≡◌, ℕ, ◌+◌, ◌-◌, ◌^◌, ◌≤◌, Bool, true, false, ◌||◌, List, [], ◌∷◌, ◌++◌, map, refl, arith, ap, ◌∙◌, sym}
 use Rattle.std.proofs.Common.{subst, length-append, ⊎_elim}
 use Rattle.std.proofs.Math.Bool.{or-false, or-true, or_assoc}
 use Rattle.std.specs.Prelude.{is_some, Option}
 use Rattle.std.proofs.lemmas.Bool.{or_parts, cases_Bool}
+use Rattle.mp_outside.specs.Counts.{Rose, raised}
+use Rattle.mp_outside.specs.declared.shelves.Shelf as shelves
 use Rattle.mp_outside.specs.declared.sinks.Sink.{Ghosts}
+use Rattle.mp_feed.specs.Reading.{bit}
 use Rattle.mp_feed.specs.Writing.{none}
 use Rattle.mp_feed.specs.WritingLaws.{wrote_on}
 use Rattle.mp_bytes.specs.Lines.{cut}
@@ -13,9 +16,9 @@ use Rattle.mp_replies.specs.State.{Files, State, version_of}
 use Rattle.mp_replies.specs.Step.{cause, after, fetches}
 use Rattle.mp_replies.specs.Output.{reply, replies, state_after, some_refused, some_ends, until_end}
 use Rattle.mp_replies.specs.Line.{asked_of, ends}
-use Rattle.mp_commands.specs.Preparing.{ToldFor}
-use Rattle.mp_session.specs.Sessions.{AsksNoFile, SessionParts, StandsFor, ToldForAll, some_fetch}
-use Rattle.mp_session.specs.Running.{HaveRun, Course, WereRun, course_at}
+use Rattle.mp_commands.specs.Preparing.{IsAsked, ToldFor}
+use Rattle.mp_session.specs.Sessions.{AsksFile, SessionParts, StandsFor, ToldForAll, fetch_count, some_fetch}
+use Rattle.mp_session.specs.Running.{HaveAsked, HaveRun, Course, WereRun, course_at}
 
 pub not_both : {P : Type 0} {b : Bool} → b ≡ true → b ≡ false → P
 not_both t f = cc
@@ -74,6 +77,14 @@ some_fetch-append state files (line ∷ ran) more =
     ap (λ b. fetches state line || b) (some_fetch-append (after state line files) files ran more)
     ∙ sym (or_assoc (fetches state line) (some_fetch (after state line files) files ran)
     (some_fetch (state_after (after state line files) files ran) files more))
+
+pub fetch_count-append : (state : State) (files : Files) (ran more : List (List ℕ))
+    → fetch_count state files (ran ++ more)
+    ≡ fetch_count state files ran + fetch_count (state_after state files ran) files more
+fetch_count-append state files [] more = omega arith
+fetch_count-append state files (line ∷ ran) more =
+    let rest = fetch_count-append (after state line files) files ran more in
+    omega (arith, rest)
 
 -- what is told for all lines is told for the first of them
 pub told_first : {told : Option Files} (state : State) (files : Files) (ran more : List (List ℕ))
@@ -150,11 +161,61 @@ have_run_one told line text old new refused text_is later is count = record {
 
 -- a line that can't fail where it asks for no file asks for one, where it failed
 pub asks_where : (session : SessionParts) (state : State) (line : List ℕ) → StandsFor session state
-    → (AsksNoFile line session → ⊥) → fetches state line ≡ true
+    → (AsksFile line session false → ⊥) → fetches state line ≡ true
 asks_where session state line h failed =
     ⊎_elim (λ (asks : fetches state line ≡ true). asks)
-    (λ (asks : fetches state line ≡ false). absurd (failed (record { state = state; stand = h; none = asks })))
+    (λ (asks : fetches state line ≡ false). absurd (failed (record { state = state; stand = h; is = asks })))
     (cases_Bool (fetches state line))
+
+-- ---- fetches
+
+pub have_asked_none : {told : Option Files} {session : SessionParts} (fetched : ℕ) → fetched ≤ 2 ^ 128 - 1
+    → HaveAsked told [] session fetched fetched
+have_asked_none fetched fits = record { count = λ state files h t. omega (arith, fits) }
+
+-- by one line, whether it was answered or the run stopped at it
+pub have_asked_one : {H : Type 0} {shelf : shelves.Ghosts H} {told : Option Files} {session : SessionParts}
+    {line : List ℕ} {failed : Type 0} {old new : H} → IsAsked shelf (AsksFile line session) failed old new
+    → shelf.fetches old ≤ 2 ^ 128 - 1
+    → HaveAsked told (line ∷ []) session (shelf.fetches old) (shelf.fetches new)
+have_asked_one {shelf = shelf} {line = line} {old = old} {new = new} asked fits = record {
+  count = λ state files h t. ⊎_elim
+      (λ (asks : fetches state line ≡ true).
+      asked.fetched (record { state = state; stand = h; is = asks })
+      ∙ ap (λ b. raised (bit b + 0) (shelf.fetches old)) (sym asks))
+      (λ (asks : fetches state line ≡ false).
+      let same = ap shelf.fetches (asked.unfetched (record { state = state; stand = h; is = asks })) in
+      let kept : shelf.fetches new ≡ raised 0 (shelf.fetches old) = omega (arith, same, fits) in
+      kept ∙ ap (λ b. raised (bit b + 0) (shelf.fetches old)) (sym asks))
+      (cases_Bool (fetches state line));
+}
+
+-- what is known of a shelf behind lines that left its files and its faults as they were
+pub asked_behind : {H : Type 0} {shelf : shelves.Ghosts H} {needs : Bool → Type 0} {failed stopped : Type 0}
+    {first old new : H} → IsAsked shelf needs failed old new → shelf.files old ≡ shelf.files first
+    → shelf.faults old ≡ shelf.faults first → (stopped → failed) → (failed → stopped)
+    → IsAsked shelf (λ file. ⊥) stopped first new
+asked_behind {shelf = shelf} {new = new} asked files calm to from = record {
+  files = asked.files ∙ files;
+  fault = λ stop. subst (λ before. Rose before (shelf.faults new)) calm (asked.fault (to stop));
+  calm = λ none. asked.calm (λ failed. none (from failed)) ∙ calm;
+  fetched = λ none. absurd none;
+  unfetched = λ none. absurd none;
+  no_fault = λ none stop. none;
+}
+
+pub have_asked_on : {told : Option Files} {lines more texts : List (List ℕ)} {old mid : SessionParts}
+    {refused : Bool} {first then last : ℕ}
+    → HaveRun told lines texts old mid refused → HaveAsked told lines old first then → HaveAsked told more mid then last
+    → HaveAsked told (lines ++ more) old first last
+have_asked_on {lines = lines} {more = more} run one two = record {
+  count = λ state files h t.
+      let first = one.count state files h (told_first state files lines more t) in
+      let then = two.count (state_after state files lines) files (run.stands state files h
+      (told_first state files lines more t)) (told_then state files lines more t) in
+      let all = fetch_count-append state files lines more in
+      omega (arith, first, then, all);
+}
 
 -- ---- sessions and sinks
 

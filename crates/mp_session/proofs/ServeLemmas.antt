@@ -14,6 +14,7 @@ use Rattle.std.proofs.Math.Seq.{get_or-append_seam, take-append_seam}
 use Rattle.mp_outside.specs.declared.sinks.Sink.{Ghosts}
 use Rattle.mp_bytes.specs.Lines.{cut, lines, ended_lines}
 use Rattle.mp_feed.specs.Feeding.{nothing, lines_left}
+use Rattle.mp_feed.specs.Reading.{bit}
 use Rattle.mp_feed.specs.Writing.{TellsPrefix}
 use Rattle.mp_feed.specs.WritingLaws.{front_told, wrote_flushed, wrote_nothing, wrote_told}
 use Rattle.mp_replies.specs.CutLaws.{after_cut, cause_cut, ends_cut, fetches_cut, reply_cut}
@@ -29,14 +30,14 @@ use Rattle.mp_session.specs.declared.halts.Halt.{Halt}
 use Rattle.mp_session.specs.declared.halts.Halt.TheVariants as halts
 use Rattle.mp_session.specs.declared.top.Status.{Status}
 use Rattle.mp_session.specs.declared.top.Status.TheVariants as statuses
-use Rattle.mp_session.specs.Sessions.{StandsFor, ToldForAll, some_fetch}
+use Rattle.mp_session.specs.Sessions.{StandsFor, ToldForAll, fetch_count, some_fetch}
 use Rattle.mp_session.specs.Statuses.{is_whole, ran, status_by}
 use Rattle.mp_session.specs.Running.{AreFirst, Course, IsPast, IsWithin, RanAll, RanEnded, RanInto, RanSome, RanToFile}
-use Rattle.mp_session.specs.Running.{WereRun}
+use Rattle.mp_session.specs.Running.{HaveAsked, WereRun}
 use Rattle.mp_session.specs.Calls.{AsksSession, AsksSummary, Call, HasRoom, Outside, ToldForRun, ToldTaken, ToldToFile}
 use Rattle.mp_session.specs.Serving.{EndsByCause, IsServed, ReadsInput, RefusesWords, WritesOutput, WritesSummary}
-use Rattle.mp_outside.specs.Counts.{Rose}
-use Rattle.mp_session.proofs.RunLemmas.{not_both, replies-append, some_ends_cut, some_fetch-append, told_first}
+use Rattle.mp_outside.specs.Counts.{Rose, raised}
+use Rattle.mp_session.proofs.RunLemmas.{fetch_count-append, not_both, replies-append, some_ends_cut, some_fetch-append, told_first}
 use Rattle.mp_session.proofs.RunLemmas.{told_then}
 
 -- all of the text is a front of it
@@ -72,6 +73,12 @@ some_fetch_cut : (state : State) (files : Files) (ran : List (List ℕ))
 some_fetch_cut state files [] = refl
 some_fetch_cut state files (line ∷ ran) =
     rw (fetches_cut state line, after_cut state files line, some_fetch_cut (after state line files) files ran) refl
+
+fetch_count_cut : (state : State) (files : Files) (ran : List (List ℕ))
+    → fetch_count state files (map cut ran) ≡ fetch_count state files ran
+fetch_count_cut state files [] = refl
+fetch_count_cut state files (line ∷ ran) =
+    rw (fetches_cut state line, after_cut state files line, fetch_count_cut (after state line files) files ran) refl
 
 until_end_cut : (ran : List (List ℕ)) → until_end (map cut ran) ≡ map cut (until_end ran)
 until_end_cut [] = refl
@@ -240,6 +247,16 @@ module _ {Out : Type 0} {sink : Ghosts Out} {shelf : Option Files} {old new : Co
       ∙ (ap (some_refused state files) (sym (ran.lines_are bytes b.source) ∙ run_of bytes)
       ∙ some_refused_cut state files (lines_run bytes))
 
+  pub all_asked : {limit : ℕ} {refused : Bool} {first last : ℕ} (ran : RanAll sink shelf limit old new refused)
+      → HaveAsked shelf ran.lines old.session first last
+      → last ≡ raised (fetch_count state files (lines_run bytes)) first
+  unfolding all_some
+  all_asked {first = first} ran asked =
+      asked.count state files b.stands (told_in b (all_some ran).first)
+      ∙ ap (λ n. raised n first)
+      (ap (fetch_count state files) (sym (ran.lines_are bytes b.source) ∙ run_of bytes)
+      ∙ fetch_count_cut state files (lines_run bytes))
+
   -- a sink that nothing was to be written to
   pub some_quiet : RanSome sink shelf old new → session_output state files bytes ≡ [] → new.out ≡ old.out
   some_quiet ran none =
@@ -309,8 +326,10 @@ module _ {Out : Type 0} {sink : Ghosts Out} {shelf : Option Files} {old new : Co
       )
 
   -- the lines before the one that asks for a file, in whole lines of the input
-  pub told_to_file : RanToFile sink shelf old new → ToldToFile state files bytes before (sink.written new.out)
-  told_to_file ran =
+  pub told_to_file : {Sh : Type 0} {call : Call Sh Out} (ran : RanToFile sink shelf old new)
+      → HaveAsked shelf (ran.some.lines ++ ran.line ∷ []) old.session call.old.fetched call.new.fetched
+      → call.new.written ≡ sink.written new.out → ToldToFile call state files bytes before
+  told_to_file ran asked written =
       let all = lines_run bytes in
       let count = length ran.some.lines in
       let more = ran.next.more bytes k.begins.source in
@@ -320,6 +339,7 @@ module _ {Out : Type 0} {sink : Ghosts Out} {shelf : Option Files} {old new : Co
       omega (arith, sym (length-map all cut), ap length split, length-append ran.some.lines (ran.line ∷ more.0)) in
       let front : map cut (take count all) ≡ ran.some.lines =
       sym (take-map cut count all) ∙ (ap (take count) split ∙ take-append_seam ran.some.lines (ran.line ∷ more.0)) in
+      let wants = ran.asks state files k.begins.stands (told_in k.begins ran.some.first) in
       let here : cut (get_or all count []) ≡ ran.line =
       sym (get_or-map cut all count [] [] within)
       ∙ (ap (λ ls. get_or ls count []) split ∙ get_or-append_seam ran.some.lines ran.line more.0 []) in
@@ -332,8 +352,15 @@ module _ {Out : Type 0} {sink : Ghosts Out} {shelf : Option Files} {old new : Co
             ∙ (sym (fetches_cut (state_after state files (map cut (take count all))) (get_or all count []))
             ∙ (ap (fetches (state_after state files (map cut (take count all)))) here
             ∙ (ap (λ ls. fetches (state_after state files ls) ran.line) front
-            ∙ ran.asks state files k.begins.stands (told_in k.begins ran.some.first))));
-        told = told_lines ran.some (take count all) front;
+            ∙ wants)));
+        count =
+            let before = ap (fetch_count state files) front in
+            let same = fetch_count_cut state files (take count all) in
+            let both = fetch_count-append state files ran.some.lines (ran.line ∷ []) in
+            let one = ap bit wants in
+            let is = asked.count state files k.begins.stands (told_in k.begins ran.next) in
+            omega (arith, before, same, both, one, is);
+        told = written ∙ told_lines ran.some (take count all) front;
       }
 
   ended_told : {overs : ℕ} (ran : RanEnded sink shelf overs old new)
@@ -505,6 +532,7 @@ unread call none within given = record {
   read = λ setup bytes asks e goes_on whole. absurd (none setup asks whole);
   within = λ setup bytes asks e goes_on whole. absurd (none setup asks whole);
   end_within = λ setup bytes asks e whole. absurd (none setup asks whole);
+  fetched = λ setup files bytes asks input whole. absurd (none setup asks whole);
   past = λ bytes e is. absurd (within is);
   over = λ is. absurd (within is);
   given = omega (arith, given);

@@ -21,8 +21,8 @@ use Rattle.mp_requests.specs.declared.context.Context.{Context}
 use Rattle.mp_requests.specs.declared.replies.Reply.{Reply}
 use Rattle.mp_requests.specs.Answering.{state_over}
 use Rattle.mp_commands.specs.declared.prepared.Prepared.{Prepared}
-use Rattle.mp_commands.specs.Preparing.{IsPrepared, NeedsNoFile, ToldFor}
-use Rattle.mp_session.specs.Sessions.{AsksNoFile, HasCommitted, IsReplyBy, SessionParts, StandsFor, version_at}
+use Rattle.mp_commands.specs.Preparing.{IsPrepared, NeedsFile, ToldFor}
+use Rattle.mp_session.specs.Sessions.{AsksFile, HasCommitted, IsReplyBy, SessionParts, StandsFor, version_at}
 
 -- ---- kinds
 
@@ -203,15 +203,15 @@ replied old new stores state files line prepared made accepted m last text kind 
           (subst (HasCommitted mid new prepared.change) same committed);
     }
 
--- a line that asks for no file there
-pub needs_no_file : (context : Context) (session : SessionParts) (line : List ℕ)
+-- a line that asks for a file there, or for none
+pub needs_file : (context : Context) (session : SessionParts) (line : List ℕ)
     → ((stores : List Store) → state_over context session.stores stores ≡ state_of session stores)
-    → session.stores.m ≡ session.settings.window → AsksNoFile line session
-    → NeedsNoFile context (asked_of (version_at session) line) session.stores
-needs_no_file context session line over m asks = record {
+    → session.stores.m ≡ session.settings.window → (file : Bool) → AsksFile line session file
+    → NeedsFile context (asked_of (version_at session) line) session.stores file
+needs_file context session line over m file asks = record {
   stores = asks.state.stores;
   stand = asks.stand.stores_stand;
-  none = ap (λ (s : State). fetches_by s (asked_of (version_at session) line))
+  is = ap (λ (s : State). fetches_by s (asked_of (version_at session) line))
       (over asks.state.stores ∙ state_is session asks.state m asks.stand)
-      ∙ (sym (fetches_is asks.state line) ∙ asks.none);
+      ∙ (sym (fetches_is asks.state line) ∙ asks.is);
 }

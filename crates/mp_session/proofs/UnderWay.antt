@@ -16,7 +16,7 @@ use Rattle.mp_replies.specs.Output.{some_ends, state_after, until_end}
 use Rattle.mp_replies.specs.State.{Files, State}
 use Rattle.mp_replies.specs.Step.{fetches}
 use Rattle.mp_session.specs.Sessions.{SessionParts, StandsFor}
-use Rattle.mp_session.specs.Running.{Course, WasBegun, WereRun, course_at}
+use Rattle.mp_session.specs.Running.{Course, HaveAsked, WasBegun, WereRun, course_at}
 use Rattle.mp_session.specs.Running.{AreFirst, IsWithin, RanAll, RanEnded, RanInto, RanSome, RanToFile, ends_within}
 use Rattle.mp_session.proofs.RunLemmas.{not_both, some_ends-append, some_ends_cut, until_end-append, until_end-one}
 use Rattle.mp_session.proofs.RunLemmas.{were_run_none, were_run_on}
@@ -54,6 +54,11 @@ module _ {Out : Type 0} {sink : Ghosts Out} {told : Option Files} where
     gave = gave_none (at_start limit) old.left;
   }
 
+  pub under_way_asked : {first : ℕ} (limit : ℕ) (old : Course Out) → HaveAsked told [] old.session first first
+      → (u : IsUnderWay sink told limit old old (at_start limit) false) × HaveAsked told u.lines old.session first first
+  unfolding under_way_start
+  under_way_asked limit old asked = (under_way_start limit old, asked)
+
 -- ---- what comes next
 
 module _ {Out : Type 0} {sink : Ghosts Out} {told : Option Files} {limit : ℕ} {old now : Course Out} {reader : Reading}
@@ -83,21 +88,25 @@ module _ {Out : Type 0} {sink : Ghosts Out} {told : Option Files} {limit : ℕ} 
       → (bytes : List ℕ) → old.left ≡ Some bytes → IsAll bytes (u.lines ++ given) limit next later
   taken_all gave none within dry = lines_at_end (gave_on u.gave gave) none within (dry_on u.gave dry)
 
-  pub all_at_end : {next : Reading} {later : Option (List ℕ)} → IsNext reader next now.left later End
-      → RanAll sink told limit old (course_at now.session later now.out) refused
-  all_at_end {later = later} comes =
-      let all = taken_all comes.gave comes.rest.unread comes.within comes.dry in
-      record {
-        lines = u.lines;
-        run = run_still later;
-        lines_are = λ bytes e.
-            ap until_end
-            ((all bytes e).lines_are
-            ∙ (ap (λ ls. (u.lines ++ []) ++ ls) comes.none_left ∙ append-nil (u.lines ++ [])))
-            ∙ (until_end-append u.lines [] u.none_ends ∙ append-nil u.lines);
-        read = λ bytes e goes_on. ((all bytes e).read, (all bytes e).within);
-        within = λ bytes e. inl (all bytes e).within;
-      }
+  pub all_at_end : {next : Reading} {later : Option (List ℕ)} {first last : ℕ} → IsNext reader next now.left later End
+      → HaveAsked told u.lines old.session first last
+      → (ran : RanAll sink told limit old (course_at now.session later now.out) refused)
+      × HaveAsked told ran.lines old.session first last
+  all_at_end {later = later} comes asked =
+      let all = taken_all comes.gave comes.rest.unread comes.within comes.dry in (
+        record {
+          lines = u.lines;
+          run = run_still later;
+          lines_are = λ bytes e.
+              ap until_end
+              ((all bytes e).lines_are
+              ∙ (ap (λ ls. (u.lines ++ []) ++ ls) comes.none_left ∙ append-nil (u.lines ++ [])))
+              ∙ (until_end-append u.lines [] u.none_ends ∙ append-nil u.lines);
+          read = λ bytes e goes_on. ((all bytes e).read, (all bytes e).within);
+          within = λ bytes e. inl (all bytes e).within;
+        },
+        asked,
+      )
 
   pub some_lines : {also : Bool} {session : SessionParts} {later : Option (List ℕ)} {out : Out}
       → WereRun sink told [] (course_at now.session later now.out) (course_at session later out) also
@@ -148,40 +157,48 @@ module _ {Out : Type 0} {sink : Ghosts Out} {told : Option Files} {limit : ℕ} 
       (some_ends-append u.lines (next.holding.kept ∷ []) ∙ rw (u.none_ends, ← line_is, ended) refl) bytes e)
 
   -- the last line was run
-  pub all_to_last : {also : Bool} {line : List ℕ} {session : SessionParts} {out : Out} (next : Reading)
-      (later : Option (List ℕ)) (final : Bool) → IsNext reader next now.left later (Line final)
+  pub all_to_last : {also : Bool} {line : List ℕ} {session : SessionParts} {out : Out} {first last : ℕ}
+      (next : Reading) (later : Option (List ℕ)) (final : Bool) → IsNext reader next now.left later (Line final)
       → line ≡ next.holding.kept → final ≡ true
       → WereRun sink told (line ∷ []) (course_at now.session later now.out) (course_at session later out) also
-      → RanAll sink told limit old (course_at session later out) (refused || also)
-  all_to_last {line = line} next later true comes line_is is_final run =
-      let all = taken_all comes.gave comes.rest.unread comes.within comes.dry in
-      record {
-        lines = u.lines ++ line ∷ [];
-        run = run_on run;
-        lines_are = λ bytes e.
-            ap until_end
-            ((all bytes e).lines_are
-            ∙ (ap (λ ls. (u.lines ++ []) ++ ls) (comes.line_is ∙ ap (λ l. l ∷ []) (sym line_is))
-            ∙ ap (λ ls. ls ++ (line ∷ [])) (append-nil u.lines)))
-            ∙ (until_end-append u.lines (line ∷ []) u.none_ends ∙ ap (λ ls. u.lines ++ ls) (until_end-one line));
-        read = λ bytes e goes_on. ((all bytes e).read, (all bytes e).within);
-        within = λ bytes e. inl (all bytes e).within;
-      }
-  all_to_last next later false comes line_is is_final run = not_both is_final refl
+      → HaveAsked told (u.lines ++ line ∷ []) old.session first last
+      → (ran : RanAll sink told limit old (course_at session later out) (refused || also))
+      × HaveAsked told ran.lines old.session first last
+  all_to_last {line = line} next later true comes line_is is_final run asked =
+      let all = taken_all comes.gave comes.rest.unread comes.within comes.dry in (
+        record {
+          lines = u.lines ++ line ∷ [];
+          run = run_on run;
+          lines_are = λ bytes e.
+              ap until_end
+              ((all bytes e).lines_are
+              ∙ (ap (λ ls. (u.lines ++ []) ++ ls) (comes.line_is ∙ ap (λ l. l ∷ []) (sym line_is))
+              ∙ ap (λ ls. ls ++ (line ∷ [])) (append-nil u.lines)))
+              ∙ (until_end-append u.lines (line ∷ []) u.none_ends ∙ ap (λ ls. u.lines ++ ls) (until_end-one line));
+          read = λ bytes e goes_on. ((all bytes e).read, (all bytes e).within);
+          within = λ bytes e. inl (all bytes e).within;
+        },
+        asked,
+      )
+  all_to_last next later false comes line_is is_final run asked = not_both is_final refl
 
   -- a line was run that doesn't end the run
-  pub under_way_on : {also : Bool} {line : List ℕ} {last : Bool} {session : SessionParts} {out : Out} (next : Reading)
-      (later : Option (List ℕ)) → IsNext reader next now.left later (Line false) → line ≡ next.holding.kept
+  pub under_way_on : {also : Bool} {line : List ℕ} {last : Bool} {session : SessionParts} {out : Out}
+      {before after : ℕ} (next : Reading) (later : Option (List ℕ)) → IsNext reader next now.left later (Line false) → line ≡ next.holding.kept
       → WereRun sink told (line ∷ []) (course_at now.session later now.out) (course_at session later out) also
-      → last ≡ ends line → last ≡ false
-      → IsUnderWay sink told limit old (course_at session later out) (after_line next) (refused || also)
-  under_way_on {line = line} {last = last} next later comes line_is run is goes_on = record {
-    lines = u.lines ++ line ∷ [];
-    run = run_on run;
-    none_ends = line_ends line last is ∙ goes_on;
-    gave = gave_on u.gave
-        (subst (λ l. Gave (l ∷ []) reader (after_line next) now.left later) (sym line_is) comes.gave);
-  }
+      → last ≡ ends line → last ≡ false → HaveAsked told (u.lines ++ line ∷ []) old.session before after
+      → (on : IsUnderWay sink told limit old (course_at session later out) (after_line next) (refused || also))
+      × HaveAsked told on.lines old.session before after
+  under_way_on {line = line} {last = last} next later comes line_is run is goes_on asked = (
+    record {
+      lines = u.lines ++ line ∷ [];
+      run = run_on run;
+      none_ends = line_ends line last is ∙ goes_on;
+      gave = gave_on u.gave
+          (subst (λ l. Gave (l ∷ []) reader (after_line next) now.left later) (sym line_is) comes.gave);
+    },
+    asked,
+  )
 
 -- ---- a line came
 
@@ -190,20 +207,25 @@ module _ {Out : Type 0} {sink : Ghosts Out} {told : Option Files} {limit : ℕ} 
     (later : Option (List ℕ)) (final : Bool) (comes : IsNext reader next now.left later (Line final))
     (line_is : line ≡ next.holding.kept) where
   -- it ended the run
-  pub all_to_end : {also last : Bool} {session : SessionParts} {out : Out}
+  pub all_to_end : {also last : Bool} {session : SessionParts} {out : Out} {before after : ℕ}
       → WereRun sink told (line ∷ []) (course_at now.session later now.out) (course_at session later out) also
-      → last ≡ ends line → last ≡ true → RanAll sink told limit old (course_at session later out) (refused || also)
-  all_to_end {last = last} run is ended = record {
-    lines = u.lines ++ line ∷ [];
-    run = run_on u run;
-    lines_are = λ bytes e.
-        let comes_next = line_comes next later u.gave final comes bytes e in
-        ap until_end (comes_next.1 ∙ ap (λ l. u.lines ++ (l ∷ comes_next.0)) (sym line_is))
-        ∙ (until_end-append u.lines (line ∷ comes_next.0) u.none_ends
-        ∙ ap (λ b. u.lines ++ (line ∷ (if b then [] else until_end comes_next.0))) (sym is ∙ ended));
-    read = λ bytes e goes_on. not_both ended (sym (line_ends u line last is) ∙ goes_on);
-    within = end_within u next later final comes line_is (sym is ∙ ended);
-  }
+      → last ≡ ends line → last ≡ true → HaveAsked told (u.lines ++ line ∷ []) old.session before after
+      → (ran : RanAll sink told limit old (course_at session later out) (refused || also))
+      × HaveAsked told ran.lines old.session before after
+  all_to_end {last = last} run is ended asked = (
+    record {
+      lines = u.lines ++ line ∷ [];
+      run = run_on u run;
+      lines_are = λ bytes e.
+          let comes_next = line_comes next later u.gave final comes bytes e in
+          ap until_end (comes_next.1 ∙ ap (λ l. u.lines ++ (l ∷ comes_next.0)) (sym line_is))
+          ∙ (until_end-append u.lines (line ∷ comes_next.0) u.none_ends
+          ∙ ap (λ b. u.lines ++ (line ∷ (if b then [] else until_end comes_next.0))) (sym is ∙ ended));
+      read = λ bytes e goes_on. not_both ended (sym (line_ends u line last is) ∙ goes_on);
+      within = end_within u next later final comes line_is (sym is ∙ ended);
+    },
+    asked,
+  )
 
   -- the lines before it, and it
   with_line : AreFirst (u.lines ++ line ∷ []) old
@@ -233,14 +255,19 @@ module _ {Out : Type 0} {sink : Ghosts Out} {told : Option Files} {limit : ℕ} 
   }
 
   -- it asks for a file, and none was fetched
-  pub to_file : {also : Bool} {session : SessionParts} {out : Out}
+  pub to_file : {also : Bool} {session : SessionParts} {out : Out} {first last : ℕ}
       → WereRun sink told [] (course_at now.session later now.out) (course_at session later out) also
       → ((state : State) → StandsFor now.session state → fetches state line ≡ true)
-      → RanToFile sink told old (course_at session later out)
+      → HaveAsked told (u.lines ++ line ∷ []) old.session first last
+      → (ran : RanToFile sink told old (course_at session later out))
+      × HaveAsked told (ran.some.lines ++ ran.line ∷ []) old.session first last
   unfolding some_lines
-  to_file run asks = record {
-    some = some_lines u run;
-    line = line;
-    next = with_line;
-    asks = λ state files h t. asks (state_after state files u.lines) (u.run.run.stands state files h t);
-  }
+  to_file run asks asked = (
+    record {
+      some = some_lines u run;
+      line = line;
+      next = with_line;
+      asks = λ state files h t. asks (state_after state files u.lines) (u.run.run.stands state files h t);
+    },
+    asked,
+  )

@@ -1,6 +1,6 @@
 -- A call that serves an input: what stands outside before and after it, and what is told of that.
 use Rattle.std.specs.Prelude.{◌≡◌, ℕ, ◌+◌, ◌≤◌, Bool, true, List, ◌∷◌, ◌++◌, length, Option, Some}
-use Rattle.mp_outside.specs.Counts.{Rose}
+use Rattle.mp_outside.specs.Counts.{Rose, raised}
 use Rattle.mp_outside.specs.declared.shelves.Shelf as shelves
 use Rattle.mp_outside.specs.declared.sources.Source as sources
 use Rattle.mp_outside.specs.declared.sinks.Sink.{Ghosts}
@@ -11,7 +11,7 @@ use Rattle.mp_replies.specs.Step.{fetches}
 use Rattle.mp_replies.specs.Words.{Setup, job, job_with, session_job}
 use Rattle.mp_replies.specs.declared.makes.Make.{Make}
 use Rattle.mp_session.specs.declared.top.Status.{Status}
-use Rattle.mp_session.specs.Sessions.{ToldForAll}
+use Rattle.mp_session.specs.Sessions.{ToldForAll, fetch_count}
 
 -- ---- what is told of a run
 
@@ -24,16 +24,6 @@ pub record ToldTaken (state : State) (files : Files) (bytes : List ℕ) (left : 
   pub bytes_are : bytes ≡ taken ++ rest
   pub left_is : left ≡ Some rest
   pub told : now ≡ Some (before ++ reports state files (ended_lines taken))
-
--- Of the lines of this input that are run, those before one that asks for a file were. A sink that told what was before
--- tells their reports.
-pub record ToldToFile (state : State) (files : Files) (bytes before : List ℕ) (now : Option (List ℕ)) : Type 0 where
-  pub ran : List (List ℕ)
-  pub line : List ℕ
-  pub others : List (List ℕ)
-  pub lines_are : lines_run bytes ≡ ran ++ line ∷ others
-  pub asks : fetches (state_after state files ran) line ≡ true
-  pub told : now ≡ Some (before ++ reports state files ran)
 
 -- where a line of this input that is run asks for a file, the shelf tells these files
 abbrev pub ToldForRun : Option Files → State → Files → List ℕ → Type 0
@@ -50,8 +40,9 @@ ToldForWords told words files bytes =
 -- What stands outside at one moment: a shelf and a sink, and what these and the source tell.
 pub record Outside (Sh Out : Type 0) : Type 0 where
   pub shelf : Sh
-  -- the files of the shelf, where it tells them, and how many fetches failed
+  -- the files of the shelf, where it tells them, how often it was asked for one, and how many fetches failed
   pub files : Option Files
+  pub fetched : ℕ
   pub fetch_faults : ℕ
   -- the bytes that the source has left, where it tells them, how many it gave, and how many reads failed
   pub left : Option (List ℕ)
@@ -70,6 +61,7 @@ abbrev pub outside_at : {Sh In Out : Type 0} → shelves.Ghosts Sh → sources.G
 outside_at shelf_tells source_tells sink_tells shelf source sink = record {
   shelf = shelf;
   files = shelf_tells.files shelf;
+  fetched = shelf_tells.fetches shelf;
   fetch_faults = shelf_tells.faults shelf;
   left = source_tells.left source;
   given = source_tells.given source;
@@ -113,6 +105,19 @@ pub record IsTold {Sh Out : Type 0} (call : Call Sh Out) (setup : Setup) (files 
   pub setup_is : AsksSession call setup
   pub input : TellsInput call files bytes
   pub room : HasRoom call before (output call.words files bytes)
+
+-- Of the lines of this input that are run, those before one that asks for a file were. The count of fetches says which
+-- one it is: it rose by as many as ask for a file before it, and by one for this line. A sink that told what was before
+-- tells the reports of those before it.
+pub record ToldToFile {Sh Out : Type 0} (call : Call Sh Out) (state : State) (files : Files) (bytes before : List ℕ)
+    : Type 0 where
+  pub ran : List (List ℕ)
+  pub line : List ℕ
+  pub others : List (List ℕ)
+  pub lines_are : lines_run bytes ≡ ran ++ line ∷ others
+  pub asks : fetches (state_after state files ran) line ≡ true
+  pub count : call.new.fetched ≡ raised (fetch_count state files ran + 1) call.old.fetched
+  pub told : call.new.written ≡ Some (before ++ reports state files ran)
 
 -- no fault of the outside was counted
 pub record IsCalm {Sh Out : Type 0} (call : Call Sh Out) : Type 0 where

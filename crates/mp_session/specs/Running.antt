@@ -1,7 +1,7 @@
 -- What runs of lines do to a session and to a sink.
 use Rattle.std.specs.Prelude.{◌≡◌, ◌⊎◌, ℕ, ◌+◌, ◌<◌, ◌≤◌, Bool, true, false, List, [], ◌∷◌, ◌++◌, length, take}
 use Rattle.std.specs.Prelude.{IsErrOf, Option, Some, None, Result}
-use Rattle.mp_outside.specs.Counts.{Rose}
+use Rattle.mp_outside.specs.Counts.{Rose, raised}
 use Rattle.mp_outside.specs.declared.sources.Source as sources
 use Rattle.mp_outside.specs.declared.sinks.Sink.{Ghosts}
 use Rattle.mp_feed.specs.Feeding.{nothing, lines_left, ended_lines_left}
@@ -10,7 +10,7 @@ use Rattle.mp_replies.specs.State.{Files, State}
 use Rattle.mp_bytes.specs.Lines.{ended_lines}
 use Rattle.mp_replies.specs.Output.{some_ends, some_refused, state_after, until_end, replies}
 use Rattle.mp_replies.specs.Step.{fetches}
-use Rattle.mp_session.specs.Sessions.{SessionParts, StandsFor, ToldForAll}
+use Rattle.mp_session.specs.Sessions.{SessionParts, StandsFor, ToldForAll, fetch_count}
 use Rattle.mp_feed.specs.declared.readers.Next.{Next}
 use Rattle.mp_feed.specs.declared.readers.Next.TheVariants.{Line, End}
 use Rattle.mp_feed.specs.Writing.{Wrote, WroteFront}
@@ -27,6 +27,12 @@ pub record HaveRun (told : Option Files) (lines texts : List (List ℕ)) (old ne
   pub refused_is : (state : State) (files : Files) → StandsFor old state → ToldForAll told state files lines
       → refused ≡ some_refused state files lines
   pub count : new.lines ≡ old.lines + length lines
+
+-- Each of these lines that asks for a file has asked for it once, one line behind the other, with a shelf that tells
+-- these files: its count of fetches was the first number before them, and is the second.
+pub record HaveAsked (told : Option Files) (lines : List (List ℕ)) (old : SessionParts) (before now : ℕ) : Type 0 where
+  pub count : (state : State) (files : Files) → StandsFor old state → ToldForAll told state files lines
+      → now ≡ raised (fetch_count state files lines) before
 
 -- what a run works on: its session, the bytes that its source has left, where they are told, and its sink
 pub record Course (Out : Type 0) : Type 0 where

@@ -4,7 +4,7 @@ use Rattle.mp_session.specs.Calls.{Call, TellsInput, HasRoom, AsksSession, AsksS
 use Rattle.mp_session.specs.Calls.{ToldToFile}
 use Rattle.std.specs.Prelude.{◌≡◌, ◌⊎◌, ℕ, ◌+◌, ◌<◌, ◌≤◌, true, false, IsTrue, List, [], ◌++◌, length, take, Some}
 use Rattle.std.specs.Prelude.{None}
-use Rattle.mp_outside.specs.Counts.{Rose}
+use Rattle.mp_outside.specs.Counts.{Rose, raised}
 use Rattle.mp_feed.specs.Writing.{TellsPrefix}
 use Rattle.mp_replies.specs.State.{Files, opening}
 use Rattle.mp_bytes.specs.Lines.{ended_lines}
@@ -13,7 +13,7 @@ use Rattle.mp_replies.specs.Summary.{summary_of}
 use Rattle.mp_replies.specs.Words.{Setup, job}
 use Rattle.mp_replies.specs.declared.makes.Make.{Make}
 use Rattle.mp_session.specs.declared.top.Status.TheVariants as statuses
-use Rattle.mp_session.specs.Sessions.{some_fetch}
+use Rattle.mp_session.specs.Sessions.{fetch_count, some_fetch}
 use Rattle.mp_session.specs.Statuses.{is_whole, ran}
 
 -- What is written: the whole output, or a front of it where the run ended early.
@@ -25,14 +25,14 @@ pub record WritesOutput {Sh Out : Type 0} (call : Call Sh Out) : Type 0 where
       → HasRoom call before (output call.words files bytes)
       → TellsPrefix call.new.written before (output call.words files bytes)
   -- Which front it is: behind a failed read of the input, the reports of all lines that an LF ended before it; behind
-  -- a failed read of a file, those of all lines before the one that asks for it; behind the limit on input, those of
+  -- a failed read of a file, those of all lines before the one that asked for it; behind the limit on input, those of
   -- the lines ended within it; for want of memory, those of whole lines.
   pub read_fault : (setup : Setup) (files : Files) (bytes before : List ℕ) → IsTold call setup files bytes before
       → call.status ≡ statuses.ReadFault
       → (Rose call.old.read_faults call.new.read_faults
       × ToldTaken (opening setup.window setup.scale) files bytes call.new.left before call.new.written)
       ⊎ (Rose call.old.fetch_faults call.new.fetch_faults
-      × ToldToFile (opening setup.window setup.scale) files bytes before call.new.written)
+      × ToldToFile call (opening setup.window setup.scale) files bytes before)
   pub input_limit : (setup : Setup) (files : Files) (bytes before : List ℕ) → IsTold call setup files bytes before
       → call.status ≡ statuses.InputLimit
       → call.new.written
@@ -65,6 +65,11 @@ pub record ReadsInput {Sh Out : Type 0} (call : Call Sh Out) : Type 0 where
   -- and where one does, its LF, if it has one, stands within the limit
   pub end_within : (setup : Setup) (bytes : List ℕ) → AsksSession call setup → call.old.left ≡ Some bytes
       → IsTrue (is_whole call.status) → IsWithin call.limit bytes
+  -- and each line that asks for a file has asked for it once
+  pub fetched : (setup : Setup) (files : Files) (bytes : List ℕ) → AsksSession call setup
+      → TellsInput call files bytes → IsTrue (is_whole call.status)
+      → call.new.fetched
+      ≡ raised (fetch_count (opening setup.window setup.scale) files (lines_run bytes)) call.old.fetched
   -- `InputLimit` comes only of an input that isn't within the limit, and only where more bytes were given
   pub past : (bytes : List ℕ) → call.old.left ≡ Some bytes → call.status ≡ statuses.InputLimit
       → IsPast call.limit bytes

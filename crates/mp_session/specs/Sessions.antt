@@ -1,6 +1,7 @@
 -- What a session holds, and the states that it stands for.
 use Rattle.std.specs.Prelude.{◌≡◌, ℕ, ◌+◌, ◌≤◌, ◌==◌, Bool, true, false, ◌||◌, List, [], ◌∷◌, All, length}
 use Rattle.std.specs.Prelude.{Option, Some, Result, IfOk, OnOk, OnErr}
+use Rattle.mp_feed.specs.Reading.{bit}
 use Rattle.mp_replies.specs.declared.causes.Cause.{Cause}
 use Rattle.mp_replies.specs.declared.causes.Cause.TheVariants.{File, FileSize, Record, Rows}
 use Rattle.mp_replies.specs.Command.{OpenAnew, Load, Append}
@@ -137,16 +138,21 @@ pub record WereReadBy {E : Type 0} (what : Asked) (old new : Stored) (result : R
 
 -- ---- files
 
--- the session stands for a state in which the line asks for no file
-pub record AsksNoFile (line : List ℕ) (session : SessionParts) : Type 0 where
+-- the session stands for a state in which the line asks for a file, or for none
+pub record AsksFile (line : List ℕ) (session : SessionParts) (file : Bool) : Type 0 where
   pub state : State
   pub stand : StandsFor session state
-  pub none : fetches state line ≡ false
+  pub is : fetches state line ≡ file
 
 -- whether one of these lines, run one behind the other, asks for a file
 abbrev pub some_fetch : State → Files → List (List ℕ) → Bool
 some_fetch state files [] = false
 some_fetch state files (line ∷ rest) = fetches state line || some_fetch (after state line files) files rest
+
+-- how many of these lines, run one behind the other, ask for a file
+abbrev pub fetch_count : State → Files → List (List ℕ) → ℕ
+fetch_count state files [] = 0
+fetch_count state files (line ∷ rest) = bit (fetches state line) + fetch_count (after state line files) files rest
 
 -- where one of these lines asks for a file, the shelf tells these files
 abbrev pub ToldForAll : Option Files → State → Files → List (List ℕ) → Type 0

@@ -1,14 +1,14 @@
 //! Lines run one after another, each with its report.
 
-ghost use Rattle.std.specs.Prelude.{◌≡◌, ◌⊎◌, ◌+◌, ◌-◌, ◌^◌, ◌<◌, ◌≤◌, [], ◌∷◌, length, IfOk, OnErr, IsErrOf};
+ghost use Rattle.std.specs.Prelude.{◌≡◌, ◌⊎◌, ◌+◌, ◌-◌, ◌^◌, ◌<◌, ◌≤◌, [], ◌∷◌, ◌++◌, length, IfOk, OnErr, IsErrOf};
 ghost use Rattle.std.specs.Prelude.{IsTrue, Some, false};
 ghost use Rattle.mp_feed.specs.Reading.{IsFailed, IsNext, bit};
 ghost use Rattle.mp_outside.specs.Counts.{Rose};
 ghost use Rattle.mp_replies.specs.Line.{ends};
 ghost use Rattle.mp_commands.specs.Preparing.{IsAsked};
-ghost use Rattle.mp_session.specs.Running.{RanAll, RanEnded, RanInto, RanSome, RanToFile};
+ghost use Rattle.mp_session.specs.Running.{HaveAsked, RanAll, RanEnded, RanInto, RanSome, RanToFile};
 ghost use Rattle.mp_session.specs.Running.{WasBegun, WasTaken, WereRun, course_at, next_by};
-ghost use Rattle.mp_session.specs.Sessions.{AsksNoFile};
+ghost use Rattle.mp_session.specs.Sessions.{AsksFile};
 
 use crate::halts::Halt;
 use crate::sessions::Session;
@@ -55,7 +55,7 @@ fn run_line<R: Threads + Sync, H: Shelf, K: Sink, G: Gate>(
     ensures shelf_fault { (left : _) → IsErrOf result Halt.ShelfFault
         → WereRun K.Sink (H.files shelf.old) [] (course_at session.old left out.old)
         (course_at session.new left out.new) false }
-    ensures shelf { IsAsked H.Shelf (AsksNoFile line.now session.old) (IsErrOf result Halt.ShelfFault) shelf.old
+    ensures shelf { IsAsked H.Shelf (AsksFile line.now session.old) (IsErrOf result Halt.ShelfFault) shelf.old
         shelf.new }
     ensures only { OnErr result ((result ≡ Err Halt.WriteFault)
         ⊎ ((result ≡ Err Halt.Memory) ⊎ (result ≡ Err Halt.ShelfFault))) }
@@ -113,9 +113,10 @@ pub(crate) fn run_lines<R: Threads + Sync, H: Shelf, S: Source, K: Sink, G: Gate
     requires lines { session.old.lines + limit < 2 ^ 64 - 1 }
     requires given { S.given input.old ≤ 2 ^ 127 }
 
-    ensures all { IfOk result (λ refused. RanAll K.Sink (H.files shelf.old) limit
+    ensures all { IfOk result (λ refused. (ran : RanAll K.Sink (H.files shelf.old) limit
         (course_at session.old (S.left input.old) out.old)
-        (course_at session.new (S.left input.new) out.new) refused) }
+        (course_at session.new (S.left input.new) out.new) refused)
+        × HaveAsked (H.files shelf.old) ran.lines session.old (H.fetches shelf.old) (H.fetches shelf.new)) }
 
     // What was run where the run ended early, and why it did.
     ensures read_fault { IsErrOf result Halt.ReadFault
@@ -132,10 +133,12 @@ pub(crate) fn run_lines<R: Threads + Sync, H: Shelf, S: Source, K: Sink, G: Gate
         → (RanInto K.Sink (H.files shelf.old) (course_at session.old (S.left input.old) out.old)
         (course_at session.new (S.left input.new) out.new)) × Rose (K.faults out.old) (K.faults out.new) }
     ensures shelf_fault { IsErrOf result Halt.ShelfFault
-        → RanToFile K.Sink (H.files shelf.old) (course_at session.old (S.left input.old) out.old)
-        (course_at session.new (S.left input.new) out.new) }
+        → (ran : RanToFile K.Sink (H.files shelf.old) (course_at session.old (S.left input.old) out.old)
+        (course_at session.new (S.left input.new) out.new))
+        × HaveAsked (H.files shelf.old) (ran.some.lines ++ ran.line ∷ []) session.old (H.fetches shelf.old)
+        (H.fetches shelf.new) }
 
-    ensures shelf { IsAsked H.Shelf ⊥ (IsErrOf result Halt.ShelfFault) shelf.old shelf.new }
+    ensures shelf { IsAsked H.Shelf (λ _. ⊥) (IsErrOf result Halt.ShelfFault) shelf.old shelf.new }
     ensures source { WasTaken S.Source limit result input.old input.new }
 {
     let mut reader = LineReader::new(with.alloc, limit)?;

@@ -40,7 +40,7 @@ impl Session {
     ghost use Rattle.mp_commands.specs.Preparing.{CanMake, IsAsked, ToldFor, adds, puts};
     ghost use Rattle.mp_commands.specs.Reads.{append_reads};
     ghost use Rattle.mp_stores.specs.Stores.{reads_at};
-    ghost use Rattle.mp_session.specs.Sessions.{AddsEach, AsksNoFile, HasCommitted, IsReplyBy, IsReplyBySome};
+    ghost use Rattle.mp_session.specs.Sessions.{AddsEach, AsksFile, HasCommitted, IsReplyBy, IsReplyBySome};
     ghost use Rattle.mp_session.specs.Sessions.{IsReplyOverAny, StandsFor, WasCounted, WereReadBy, version_at};
 
     /// Slot 0 is open with one empty channel, all other slots are closed, and no line was run.
@@ -92,7 +92,7 @@ impl Session {
         ensures ends { IfOk result (λ r. is_ended r.kind ≡ ends line.now) }
         ensures counted { WasCounted self.old self.new result }
         ensures reads { WereReadBy (asked_of (version_at self.old) line.now) self.old.stores self.new.stores result }
-        ensures shelf { IsAsked H.Shelf (AsksNoFile line.now self.old) (IsErrOf result Stop.ShelfFault) shelf.old
+        ensures shelf { IsAsked H.Shelf (AsksFile line.now self.old) (IsErrOf result Stop.ShelfFault) shelf.old
             shelf.new }
     {
         let context = Context {

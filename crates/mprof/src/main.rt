@@ -16,7 +16,15 @@ use std::rt::{Env, Files};
 use std::thread::Threads;
 
 fn main(rt: HostRuntime) -> ExitCode {
-    exit_code(run(&rt, &rt))
+    serve_shell(&rt, &rt)
+}
+
+/// Serves standard input as `run` does. The code says how that ended.
+fn serve_shell<R: AllocGlobal + Clone + Files + Threads + Sync, E: Env + Input + Print>(
+    rt: &R,
+    shell: &E,
+) -> ExitCode {
+    exit_code(run(rt, shell))
 }
 
 /// The code that the program exits with: the number of the run's status, that of `Memory` where there was none to begin

@@ -1,11 +1,11 @@
-use crate::run;
+use crate::serve_shell;
 use std::alloc::Allocator;
 use std::cell::RefCell;
 use std::env::{Env, FillError};
 use std::fmt::Display;
 use std::io;
 use std::io::{BufRead, ErrorKind, Input, Lines, Print};
-use std::process::Abort;
+use std::process::{Abort, ExitCode};
 use std::rt::Files;
 use std::thread::Threads;
 
@@ -76,7 +76,7 @@ impl Print for Shell {
     }
 }
 
-/// The words of a shell, what is typed, what is printed, and the number of the status.
+/// The words of a shell, what is typed, what is printed, and the status that the program exits with.
 type Row = (&'static [&'static [u8]], &'static [u8], &'static [u8], u8);
 
 const WINDOW_OF_3: &[&[u8]] = &[b"mprof", b"--window", b"3"];
@@ -136,8 +136,7 @@ fn check<R: Abort + AllocGlobal + Clone + Files + Threads + Sync>(rt: &R, row: &
         typed,
         printed: RefCell::new(Vec::new(rt.alloc())),
     };
-    let ended = run(rt, &shell).expect(rt, "memory is short");
-    assert_eq!(rt; ended as u8, status);
+    assert_eq!(rt; serve_shell(rt, &shell), ExitCode::from(status));
     let text = shell.printed.into_inner();
     assert_eq!(rt; text.as_slice(), printed);
 }

@@ -1,5 +1,5 @@
 use super::fetch;
-use crate::disk_shelves::first_bytes;
+use crate::disk_shelves::bytes_within;
 use crate::{DiskShelf, Shelf, ShelfAnswer};
 use std::fs::{File, Permissions};
 use std::io::Read;
@@ -87,17 +87,19 @@ impl<F: Read> Read for Counted<F> {
     }
 }
 
-// Expects 11 bytes of a file of 200,000, and then the rest of it in two pieces.
-fn expect_pieces<R: Abort + AllocGlobal, F: Read>(rt: &R, counted: &mut Counted<F>) {
-    let few = first_bytes(rt.alloc(), counted, 11).expect(rt, "the file is there");
-    assert_eq!(rt; (few.len(), counted.given), (11, 11));
-    let many = first_bytes(rt.alloc(), counted, 150_000).expect(rt, "the file is there");
-    let rest = first_bytes(rt.alloc(), counted, 150_000).expect(rt, "the file is there");
-    assert_eq!(rt; (many.len(), rest.len()), (150_000, 49_989));
+// Expects that a file of 200,000 bytes is read up to one byte past each limit, and then to its end.
+fn expect_limits<R: Abort + AllocGlobal, F: Read>(rt: &R, counted: &mut Counted<F>) {
+    for (limit, given) in [(10, 11), (150_000, 150_012)] {
+        let answer = bytes_within(rt.alloc(), counted, limit);
+        assert_eq!(rt; answer.err(), Some(ShelfAnswer::TooLarge));
+        assert_eq!(rt; counted.given, given);
+    }
+    let rest = bytes_within(rt.alloc(), counted, 49_988).expect(rt, "the file is there");
+    assert_eq!(rt; (rest.len(), counted.given), (49_988, 200_000));
 }
 
 #[test]
-fn no_more_of_a_file_is_read_than_asked(rt: HostRuntime) {
+fn no_more_of_a_file_is_read_than_a_byte_past_the_limit(rt: HostRuntime) {
     let bytes = vec![in rt.alloc(); b'1'; 200_000].expect(&rt, "memory is short");
     assert!(rt; fs::write(&rt, "large.csv", bytes.as_slice()).is_ok());
     let mut shelf = DiskShelf::new(&rt).expect(&rt, "memory is short");
@@ -106,6 +108,6 @@ fn no_more_of_a_file_is_read_than_asked(rt: HostRuntime) {
         file: File::open(&rt, "large.csv").expect(&rt, "the file is there"),
         given: 0,
     };
-    expect_pieces(&rt, &mut counted);
+    expect_limits(&rt, &mut counted);
     assert!(rt; fs::remove_file(&rt, "large.csv").is_ok());
 }

@@ -1,5 +1,6 @@
 use super::{read_four, read_to_end, write_and_flush};
-use crate::{Failed, Sink, Source, StdSink, StdSource};
+use crate::disk_shelves::bytes_within;
+use crate::{Failed, ShelfAnswer, Sink, Source, StdSink, StdSource};
 use std::alloc::Allocator;
 use std::cell::RefCell;
 use std::fmt::Display;
@@ -12,6 +13,7 @@ use std::test::Fail;
 enum Turn {
     Gives(&'static [u8]),
     IsInterrupted,
+    WouldBlock,
     Fails,
 }
 
@@ -34,6 +36,7 @@ impl Read for Script {
                 Ok(count)
             }
             Turn::IsInterrupted => Err(ErrorKind::Interrupted.into()),
+            Turn::WouldBlock => Err(ErrorKind::WouldBlock.into()),
             Turn::Fails => Err(ErrorKind::BrokenPipe.into()),
         }
     }
@@ -65,6 +68,49 @@ fn an_interrupted_read_is_tried_again(rt: HostRuntime) -> Result<(), Fail> {
     assert_eq!(rt; read_four(&mut source), Err(Failed));
     assert_eq!(rt; source.read(&mut [0; 4]), Ok(0));
     Ok(())
+}
+
+// A call that is made again gets what comes behind.
+#[test]
+fn a_read_that_would_block_fails(rt: HostRuntime) -> Result<(), Fail> {
+    let turns = &[Turn::WouldBlock, Turn::Gives(b"ab")];
+    let mut source = StdSource::over(Script { turns });
+    assert_eq!(rt; read_four(&mut source), Err(Failed));
+    assert_eq!(rt; read_four(&mut source), Ok(*b"ab.."));
+    let mut script = Script { turns };
+    let blocked = bytes_within(rt.alloc(), &mut script, 4);
+    assert_eq!(rt; blocked.err(), Some(ShelfAnswer::Failed));
+    let bytes = bytes_within(rt.alloc(), &mut script, 4)?;
+    assert_eq!(rt; bytes.as_slice(), b"ab".as_slice());
+    Ok(())
+}
+
+// A writer that would block at its first write.
+#[derive(Drop)]
+struct Busy {
+    writes: u32,
+}
+
+impl Write for Busy {
+    fn write(&mut self, bytes: &[u8]) -> io::Result<usize> {
+        self.writes = self.writes.saturating_add(1);
+        if self.writes == 1 {
+            return Err(ErrorKind::WouldBlock.into());
+        }
+        Ok(bytes.len())
+    }
+
+    fn flush(&mut self) -> io::Result<()> {
+        Ok(())
+    }
+}
+
+#[test]
+fn a_write_that_would_block_fails(rt: HostRuntime) {
+    let mut busy = Busy { writes: 0 };
+    let mut sink = StdSink::over(&mut busy);
+    assert_eq!(rt; sink.write(b"01"), Err(Failed));
+    assert_eq!(rt; sink.write(b"01"), Ok(2));
 }
 
 // A writer that notes what it is given, three bytes at a time. Its second write finds it full, its third is interrupted

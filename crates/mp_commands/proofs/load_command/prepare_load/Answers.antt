@@ -1,10 +1,10 @@
-use Rattle.std.proofs.Common.{◌∙◌, [], ap, sym}
-use Rattle.std.specs.Prelude.{Some, is_none, unwrap_or}
+use Rattle.std.proofs.Common.{◌≡◌, ◌∙◌, true, false, [], ap, sym}
+use Rattle.std.specs.Prelude.{None, Some, is_none, unwrap_or}
 use Rattle.mp_replies.specs.Numbers.{columns}
 use Rattle.mp_requests.specs.Answering.{state_over}
 use Rattle.mp_commands.specs.Commands.{asks_for}
 use Rattle.mp_commands.specs.Fetching.{reworded}
-use Rattle.mp_commands.proofs.FileLemmas.{no_file, on_err, prepared_by, wants_file}
+use Rattle.mp_commands.proofs.FileLemmas.{load_needs, no_file, on_err, prepared_by, unasked}
 use Rattle.mp_commands.proofs.LoadLemmas.{file_refused, load_refused}
 use Rattle.mp_commands.proofs.load_command.prepare_load.Goals as goal
 
@@ -75,11 +75,20 @@ returns-in-Err-clause-some_files g c =
 pub returns-in-Ok-clause-shelf : goal.returns-in-Ok-clause-shelf
 returns-in-Ok-clause-shelf g c =
     reworded c.in_ok-fetched.ensures.shelf
-    (wants_file c.args.context c.args.load c.args.stores.now c.in_default.ensures.cause)
+    (load_needs c.args.context c.args.load c.args.stores.now None c.in_default.ensures.cause)
     (λ fault. absurd (c.prepare_table.ensures.calm fault)) (λ fault. absurd (cc fault))
 
 pub returns-in-Err-clause-shelf : goal.returns-in-Err-clause-shelf
 returns-in-Err-clause-shelf g c =
     reworded c.in_ok-fetched.ensures.shelf
-    (wants_file c.args.context c.args.load c.args.stores.now c.in_default.ensures.cause)
+    (load_needs c.args.context c.args.load c.args.stores.now None c.in_default.ensures.cause)
     (λ fault. absurd (cc fault)) (λ fault. absurd (cc fault))
+
+pub returns-in-Some-clause-shelf : goal.returns-in-Some-clause-shelf
+returns-in-Some-clause-shelf g c =
+    unasked c.args.shelf.now
+    (λ needs.
+    let clash : true ≡ false =
+    load_needs c.args.context c.args.load c.args.stores.now (Some c.in-Some.cause) c.in-Some.ensures.cause true needs in
+    absurd (cc clash))
+    (λ fault. absurd (cc fault))

@@ -1,5 +1,8 @@
+use Rattle.std.proofs.Common.{ap, sym}
 use Rattle.mp_lines.specs.Lines.{asked_by, cause_of}
 use Rattle.mp_replies.specs.Line.{asked_of}
+use Rattle.mp_replies.specs.Step.{fetches_by}
+use Rattle.mp_commands.proofs.FileLemmas.{needs_none, unasked}
 use Rattle.mp_commands.proofs.PreparingLemmas.{ends_of, limits_by, prepared_faulty, refused_ends}
 use Rattle.mp_commands.proofs.preparing.prepare.Goals as goal
 use Rattle.mp_replies.specs.State.{first_version}
@@ -22,3 +25,10 @@ pub returns-clause-ends : goal.returns-clause-ends
 returns-clause-ends g c =
     ends_of c.prepare_command.result c.args.line.now (asked_by c.in-Ok.command) c.prepare_command.new.stores
     c.in-Ok.ensures c.prepare_command.ensures.ready
+
+pub returns-in-Err-clause-shelf : goal.returns-in-Err-clause-shelf
+returns-in-Err-clause-shelf g c =
+    unasked c.args.shelf.now
+    (needs_none c.args.context (asked_of first_version c.args.line.now) c.args.stores.now
+    (λ state. ap (fetches_by state) (sym c.in-Err.ensures)))
+    (λ fault. absurd (cc fault))

@@ -1,13 +1,14 @@
-use Rattle.std.proofs.Common.{Ok, ◌∙◌, ap, subst}
+use Rattle.std.proofs.Common.{Ok, ◌∙◌, ap, rules, subst, sym}
 use Rattle.mp_lines.specs.Lines.{asked_by}
 use Rattle.mp_replies.specs.Line.{Asked}
+use Rattle.mp_replies.specs.Step.{fetches_by}
 use Rattle.mp_requests.specs.Requests.{is_ended, kind_by, reported_in}
 use Rattle.mp_requests.specs.Answering.{state_over}
 use Rattle.mp_requests.specs.declared.answers.Answer.{Answer}
 use Rattle.mp_commands.specs.Preparing.{IsPreparedBySome, IsReady}
-use Rattle.mp_commands.proofs.FileLemmas.{no_file}
+use Rattle.mp_commands.proofs.FileLemmas.{needs_none, no_file, unasked}
 use Rattle.mp_commands.proofs.PreparingLemmas.{can_keep, keep_adds, keep_puts, names_last, prepared_quiet}
-use Rattle.mp_commands.proofs.PreparingLemmas.{prepared_report, taken_for}
+use Rattle.mp_commands.proofs.PreparingLemmas.{prepared_report, report_needs_none, taken_for}
 use Rattle.mp_commands.proofs.preparing.prepare_command.Goals as goal
 
 pub returns-in_ok-answer-in-Report-clause-prepared : goal.returns-in_ok-answer-in-Report-clause-prepared
@@ -63,3 +64,24 @@ returns-in_ok-answer-in-Report-clause-ready g c =
       names = rw same (names_last c.args.stores.now new c.in_ok-answer-in-Report.field-0 last told.names);
       ends = ap (λ (a : Answer). is_ended (kind_by a)) same ∙ told.ends;
     })
+
+pub returns-in-Blank-clause-shelf : goal.returns-in-Blank-clause-shelf
+returns-in-Blank-clause-shelf g c =
+    unasked c.args.shelf.now
+    (needs_none c.args.context (asked_by c.args.command) c.args.stores.now
+    (λ state. ap (fetches_by state) (sym c.in-Blank.ensures)))
+    (λ fault. absurd (cc fault))
+
+pub returns-in_ok-answer-in-Report-clause-shelf : goal.returns-in_ok-answer-in-Report-clause-shelf
+returns-in_ok-answer-in-Report-clause-shelf g c =
+    unasked c.args.shelf.now
+    (needs_none c.args.context (asked_by c.args.command) c.args.stores.now
+    (λ state. ap (fetches_by state) (sym c.in-Report.ensures) ∙ report_needs_none state c.in-Report.request))
+    (λ fault. absurd (cc fault))
+
+pub returns-in_err-answer-in-Report-clause-shelf : goal.returns-in_err-answer-in-Report-clause-shelf
+returns-in_err-answer-in-Report-clause-shelf g c =
+    unasked c.args.shelf.now
+    (needs_none c.args.context (asked_by c.args.command) c.args.stores.now
+    (λ state. ap (fetches_by state) (sym c.in-Report.ensures) ∙ report_needs_none state c.in-Report.request))
+    (search rules)

@@ -1,5 +1,5 @@
-use Rattle.std.proofs.Common.{ℕ, List, ◌++◌, Option, None, Some, sym, ap, ◌∙◌, append_assoc, arith}
-use Rattle.std.proofs.lemmas.List.{length-take}
+use Rattle.std.proofs.Common.{ℕ, List, ◌++◌, take, Option, None, Some, sym, ap, ◌∙◌, append_assoc, arith}
+use Rattle.std.proofs.lemmas.List.{length-take, length-append}
 use Rattle.std.specs.Io.KnownBytes.{Consumes}
 use Rattle.mp_outside.proofs.disk_shelves.first_bytes.Goals as goal
 
@@ -20,3 +20,11 @@ loop-left-preserved g c =
       taken = rw appended.items (Consumes-both _ _ _ _ _ c.loop-left.invariant.taken read.bytes.0);
       room = c.loop-left.invariant.room;
     }
+
+pub returns-in_err-extend_from_slice-clause-most : goal.returns-in_err-extend_from_slice-clause-most
+returns-in_err-extend_from_slice-clause-most g c =
+    let read = c.in_ok-read.ensures in (
+      c.loop-left.bytes.items ++ take c.in_ok-read.read c.read_some.new.buf,
+      Consumes-both _ _ _ _ _ c.loop-left.invariant.taken read.bytes.0,
+      omega (arith, c.loop-left.invariant.counted, read.within, length-append {A = ℕ}, length-take {A = ℕ}),
+    )

@@ -18,20 +18,20 @@ returns-in-Err-ShelfFault-clause-shelf_fault g c = λ left _.
 
 pub returns-in-Err-ShelfFault-clause-shelf : goal.returns-in-Err-ShelfFault-clause-shelf
 returns-in-Err-ShelfFault-clause-shelf g c =
-    reworded c.in-Err-ShelfFault.ensures.shelf (λ none. none) (λ _. ap Err c.in-Err-ShelfFault.field-0-is) (λ _. refl)
+    reworded c.in-Err-ShelfFault.ensures.shelf (λ file asks. asks) (λ _. ap Err c.in-Err-ShelfFault.field-0-is) (λ _. refl)
 
 pub returns-in-Err-Memory-clause-shelf : goal.returns-in-Err-Memory-clause-shelf
 returns-in-Err-Memory-clause-shelf g c =
-    reworded c.in-Err-Memory.ensures.shelf (λ none. none) (λ fault. absurd (cc fault))
+    reworded c.in-Err-Memory.ensures.shelf (λ file asks. asks) (λ fault. absurd (cc fault))
     (λ fault. absurd (cc (c.in-Err-Memory.field-0-is, fault)))
 
 pub returns-in-Err-clause-shelf : goal.returns-in-Err-clause-shelf
 returns-in-Err-clause-shelf g c =
-    reworded c.in-Ok.ensures.shelf (λ none. none) (λ fault. absurd (cc fault)) (λ fault. absurd (cc fault))
+    reworded c.in-Ok.ensures.shelf (λ file asks. asks) (λ fault. absurd (cc fault)) (λ fault. absurd (cc fault))
 
 pub returns-clause-shelf : goal.returns-clause-shelf
 returns-clause-shelf g c =
-    reworded c.in-Ok.ensures.shelf (λ none. none) (λ fault. absurd (cc fault)) (λ fault. absurd (cc fault))
+    reworded c.in-Ok.ensures.shelf (λ file asks. asks) (λ fault. absurd (cc fault)) (λ fault. absurd (cc fault))
 
 pub returns-clause-run : goal.returns-clause-run
 returns-clause-run g c = λ left.

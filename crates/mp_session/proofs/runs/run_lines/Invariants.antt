@@ -1,7 +1,7 @@
 use Rattle.std.proofs.Common.{◌≡◌, ◌+◌, ◌≤◌, length}
 use Rattle.std.specs.Prelude.{IsTrue}
 use Rattle.mp_feed.specs.Reading.{bit}
-use Rattle.mp_session.specs.Running.{course_at}
+use Rattle.mp_session.specs.Running.{HaveAsked, course_at}
 use Rattle.mp_session.proofs.UnderWay.{IsUnderWay}
 use Rattle.mp_session.proofs.runs.run_lines.Given as goal
 
@@ -18,6 +18,8 @@ invariant-loop-reader g l = record {
   sink_faults : g.K.Sink.faults l.initial.out ≤ g.K.Sink.faults l.out;
   calm : g.H.Shelf.faults l.shelf ≡ g.H.Shelf.faults l.initial.shelf;
   files : g.H.Shelf.files l.shelf ≡ g.H.Shelf.files l.initial.shelf;
+  asked : HaveAsked (g.H.Shelf.files l.initial.shelf) run.lines l.initial.session
+      (g.H.Shelf.fetches l.initial.shelf) (g.H.Shelf.fetches l.shelf);
 }
 
 abbrev pub decreases-loop-reader : goal.decreases-loop-reader

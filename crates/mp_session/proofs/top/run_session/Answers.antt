@@ -1,5 +1,6 @@
-use Rattle.std.proofs.Common.{⊎_elim, ◌⊎◌, true, ℕ, List, ◌++◌, ap, ◌∙◌, ◌≡◌, ◌≢◌, sym, inl, inr, subst, arith}
+use Rattle.std.proofs.Common.{⊎_elim, ◌⊎◌, true, ℕ, List, ◌++◌, ap, refl, ◌∙◌, ◌≡◌, ◌≢◌, sym, inl, inr, subst, arith}
 use Rattle.std.specs.Prelude.{Some}
+use Rattle.std.proofs.lemmas.Result.{IfOk-weaker}
 use Rattle.mp_feed.specs.Writing.{TellsPrefix}
 use Rattle.mp_replies.specs.Output.{output}
 use Rattle.mp_replies.specs.State.{Files, opening}
@@ -8,7 +9,7 @@ use Rattle.mp_session.specs.declared.top.Status.TheVariants as statuses
 use Rattle.mp_session.specs.Calls.{HasRoom, TellsInput, outside_at}
 use Rattle.mp_session.specs.Running.{course_at}
 use Rattle.mp_session.specs.Statuses.{ran as ran_by}
-use Rattle.mp_session.proofs.ServeLemmas.{Begins, Tells, all_read, all_refused, all_told, by_touch, into_front}
+use Rattle.mp_session.proofs.ServeLemmas.{Begins, Tells, all_asked, all_read, all_refused, all_told, by_touch, into_front}
 use Rattle.mp_session.proofs.ServeLemmas.{into_quiet, no_job, no_refusal, no_summary, not_both_jobs, not_past}
 use Rattle.mp_session.proofs.ServeLemmas.{nothing_done, on_input_limit, on_memory, on_read_fault, on_shelf_fault}
 use Rattle.mp_session.proofs.ServeLemmas.{on_whole, on_words, on_write_fault, output_is, past_limit, ran_in}
@@ -32,8 +33,8 @@ returns g c = λ words asked.
     let r = c.run_lines-outcome.result in
     let status = c.status_of.result in
     let by = c.status_of.ensures in
-    let ran = ran_in r status by lines.all lines.read_fault lines.input_limit lines.memory
-    (λ e. (lines.write_fault e).0) lines.shelf_fault in
+    let ran = ran_in r status by (IfOk-weaker r _ _ (λ refused all. all.0) lines.all) lines.read_fault lines.input_limit lines.memory
+    (λ e. (lines.write_fault e).0) (λ e. (lines.shelf_fault e).0) in
     let is_output = λ (files : Files) (bytes : List ℕ).
     output_is words (Some (session_job settings)) files bytes (sym asked) in
     let same = λ (setup : Setup). same_setup words settings setup (sym asked) in
@@ -57,7 +58,7 @@ returns g c = λ words asked.
     record {
       writes = record {
         whole = λ files bytes before input room whole.
-            on_whole r status by whole lines.all (λ _ is all. all_told (tells files bytes before input room) all)
+            on_whole r status by whole lines.all (λ _ is all. all_told (tells files bytes before input room) all.0)
             ∙ ap (λ t. Some (before ++ t)) (is_output files bytes);
         front = λ files bytes before input room.
             let k = tells files bytes before input room in
@@ -67,7 +68,9 @@ returns g c = λ words asked.
             rw (← same setup told.setup_is)
             (let k = tells files bytes before told.input told.room in
             ⊎_elim (λ e. inl (lines.source.fault e, told_taken k (lines.read_fault e)))
-            (λ e. inr (lines.shelf.fault e, told_to_file k (lines.shelf_fault e))) (on_read_fault r status by is));
+            (λ e.
+            let stopped = lines.shelf_fault e in
+            inr (lines.shelf.fault e, told_to_file k stopped.0 stopped.1 refl)) (on_read_fault r status by is));
         input_limit = λ setup files bytes before told is.
             rw (← same setup told.setup_is)
             (told_within (tells files bytes before told.input told.room)
@@ -86,13 +89,17 @@ returns g c = λ words asked.
         refused = λ setup files bytes asks input whole.
             rw (← same setup asks)
             (on_whole r status by whole lines.all
-            (λ refused is all. is ∙ ap ran_by (all_refused (begins files bytes input) all)));
+            (λ refused is all. is ∙ ap ran_by (all_refused (begins files bytes input) all.0)));
         read = λ setup bytes asks e goes_on whole.
-            on_whole r status by whole lines.all (λ _ is all. (all_read all bytes e goes_on).0);
+            on_whole r status by whole lines.all (λ _ is all. (all_read all.0 bytes e goes_on).0);
         within = λ setup bytes asks e goes_on whole.
-            on_whole r status by whole lines.all (λ _ is all. (all_read all bytes e goes_on).1);
+            on_whole r status by whole lines.all (λ _ is all. (all_read all.0 bytes e goes_on).1);
         end_within = λ setup bytes asks e whole.
-            on_whole r status by whole lines.all (λ _ is all. all.within bytes e);
+            on_whole r status by whole lines.all (λ _ is all. all.0.within bytes e);
+        fetched = λ setup files bytes asks input whole.
+            rw (← same setup asks)
+            (on_whole r status by whole lines.all
+            (λ _ is all. all_asked (begins files bytes input) all.0 all.1));
         past = λ bytes e is. past_limit (lines.input_limit (on_input_limit r status by is)) bytes e;
         over = λ is. lines.source.over (on_input_limit r status by is);
         given = lines.source.given;
@@ -104,7 +111,7 @@ returns g c = λ words asked.
             ⊎_elim (λ e. inl (lines.source.fault e)) (λ e. inr (lines.shelf.fault e)) (on_read_fault r status by is);
         write_fault = λ is. (lines.write_fault (on_write_fault r status by is)).1;
         limited = λ setup bytes asks e past.
-            when_early r status by lines.all (λ _ all. not_past bytes (all.within bytes e) past);
+            when_early r status by lines.all (λ _ all. not_past bytes (all.0.within bytes e) past);
         complete = λ setup bytes asks calm e within.
             when_calm r status by (λ f. calm.reads (lines.source.fault f)) (λ f. calm.fetches (lines.shelf.fault f))
             (λ f. calm.writes (lines.write_fault f).1)
@@ -116,7 +123,7 @@ returns g c = λ words asked.
         calm = λ is. lines.shelf.calm (λ f. is (on_shelf_fault r status by f));
         fileless = λ setup files bytes asks e goes_on.
             lines.shelf.calm (λ f.
-            stopped_at_file (lines.shelf_fault f) state files bytes c.in-Ok.ensures.opening e
+            stopped_at_file (lines.shelf_fault f).0 state files bytes c.in-Ok.ensures.opening e
             (rw (← same setup asks) at goes_on));
       };
     }

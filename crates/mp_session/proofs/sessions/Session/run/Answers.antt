@@ -3,11 +3,11 @@ use Rattle.mp_replies.specs.Line.{asked_of}
 use Rattle.mp_requests.specs.Requests.{is_accepted}
 use Rattle.mp_requests.specs.declared.replies.Stop.{Stop}
 use Rattle.mp_commands.specs.Fetching.{reworded}
-use Rattle.mp_session.specs.Sessions.{AsksNoFile, SessionParts, StandsFor, WereReadBy}
+use Rattle.mp_session.specs.Sessions.{AsksFile, SessionParts, StandsFor, WereReadBy}
 use Rattle.mp_session.proofs.AnyShelf.{over_any}
 use Rattle.mp_session.proofs.EndLemmas.{no_shelf_fault, on_err, passed_back, passed_on}
 use Rattle.mp_session.proofs.ReadLemmas.{answered_reads, stopped_reads}
-use Rattle.mp_session.proofs.StepLemmas.{needs_no_file, prepared_by, prepared_in, replied, stands_still}
+use Rattle.mp_session.proofs.StepLemmas.{needs_file, prepared_by, prepared_in, replied, stands_still}
 use Rattle.mp_session.proofs.sessions.Session.run.Goals as goal
 use Rattle.mp_replies.specs.State.{first_version}
 
@@ -30,8 +30,8 @@ pub returns-in_err-prepared-clause-shelf : goal.returns-in_err-prepared-clause-s
 returns-in_err-prepared-clause-shelf g c =
     let line = c.args.line.now in
     reworded c.in_err-prepared.ensures.shelf
-    (λ none. needs_no_file _ _ line (λ stores. refl) c.self.invariant
-    (subst (λ (s : SessionParts). AsksNoFile line s) (sym c.self.view_is) none))
+    (λ file asks. needs_file _ _ line (λ stores. refl) c.self.invariant file
+    (subst (λ (s : SessionParts). AsksFile line s file) (sym c.self.view_is) asks))
     (passed_on c.from_residual.result _ _ c.from_residual.ensures.1)
     (passed_back c.from_residual.result _ _ c.from_residual.ensures.1)
 
@@ -52,8 +52,8 @@ pub returns-in_err-reply-clause-shelf : goal.returns-in_err-reply-clause-shelf
 returns-in_err-reply-clause-shelf g c =
     let line = c.args.line.now in
     reworded c.in_ok-prepared.ensures.shelf
-    (λ none. needs_no_file _ _ line (λ stores. refl) c.self.invariant
-    (subst (λ (s : SessionParts). AsksNoFile line s) (sym c.self.view_is) none))
+    (λ file asks. needs_file _ _ line (λ stores. refl) c.self.invariant file
+    (subst (λ (s : SessionParts). AsksFile line s file) (sym c.self.view_is) asks))
     (λ fault. absurd
     (no_shelf_fault c.from_residual-in_err-reply.result c.from_residual-in_err-reply.ensures.1 fault))
     (λ fault. absurd (cc fault))
@@ -105,6 +105,6 @@ pub returns-clause-shelf : goal.returns-clause-shelf
 returns-clause-shelf g c =
     let line = c.args.line.now in
     reworded c.in_ok-prepared.ensures.shelf
-    (λ none. needs_no_file _ _ line (λ stores. refl) c.self.invariant
-    (subst (λ (s : SessionParts). AsksNoFile line s) (sym c.self.view_is) none))
+    (λ file asks. needs_file _ _ line (λ stores. refl) c.self.invariant file
+    (subst (λ (s : SessionParts). AsksFile line s file) (sym c.self.view_is) asks))
     (λ fault. absurd (cc fault)) (λ fault. absurd (cc fault))
