@@ -1,5 +1,5 @@
-//! Finds the centre of the samples of its input, cut into series of one length, or joins each two of these and takes the
-//! centre of the joins. It prints the centre. With the word `timed` it also prints the time that this took.
+//! Finds the centre of the samples of its input, cut into series of one length, or joins each two of these and takes
+//! the centre of the joins. It prints the centre. With the word `timed` it also prints the time that this took.
 #![tactic(auto)]
 
 mod bodies;

@@ -101,9 +101,9 @@ fn counterparts(
 /// the one that starts first. `nearest` has one window for each place: the nearest one, and at the centre's own place
 /// the centre itself. A series that is named twice stands at two places, and no window is too near to be compared.
 ///
-/// The centre is the consensus motif of the Matrix Profile papers; the order among equals is this project's own. Workers
-/// look at blocks of windows of one series, and tell each other the least radius that they have found. A window is given
-/// up as soon as it is farther than that from all windows of some other series.
+/// The centre is the consensus motif of the Matrix Profile papers; the order among equals is this project's own.
+/// Workers look at blocks of windows of one series, and tell each other the least radius that they have found. A
+/// window is given up as soon as it is farther than that from all windows of some other series.
 pub fn consensus<R: Threads + Sync, G: Gate>(
     rt: &R,
     alloc: Global,

@@ -81,9 +81,12 @@ fn read_cell(
     width: Width,
 ) -> Result<Sample, TableFault>
     requires { scale ≤ 9 }
-    ensures fine { OnOk result (cell_fault (reading width scale) number column (field_at (fields_of row.now) column) ≡ None) }
-    ensures sample { IfOk result (λ sample. reading_of sample ≡ cell (reading width scale) (field_at (fields_of row.now) column)) }
-    ensures fault { IfErr result (λ fault. cell_fault (reading width scale) number column (field_at (fields_of row.now) column) ≡ Some fault) }
+    ensures fine { OnOk result
+        (cell_fault (reading width scale) number column (field_at (fields_of row.now) column) ≡ None) }
+    ensures sample { IfOk result (λ sample. reading_of sample
+        ≡ cell (reading width scale) (field_at (fields_of row.now) column)) }
+    ensures fault { IfErr result (λ fault.
+        cell_fault (reading width scale) number column (field_at (fields_of row.now) column) ≡ Some fault) }
 {
     let Some(text) = row.get(column as usize) else {
         return Err(TableFault::NoField { number, column });
@@ -134,7 +137,8 @@ fn gather(
     ensures fine { OnOk result (record_fault (reading width scale) number (fields_of row.now) columns.now ≡ None) }
     ensures fault { IfErr result (λ fault. fault ≢ TableFault.Memory →
         record_fault (reading width scale) number (fields_of row.now) columns.now ≡ Some fault) }
-    ensures series { OnOk result ((rows : List Fields) → series_in series.old ≡ map (column_of (reading width scale) rows) columns.now →
+    ensures series { OnOk result ((rows : List Fields)
+        → series_in series.old ≡ map (column_of (reading width scale) rows) columns.now →
         series_in series.new ≡ map (column_of (reading width scale) (rows ++ fields_of row.now ∷ [])) columns.now) }
     ensures len { vec_len series.new ≡ vec_len series.old }
 {
