@@ -4,6 +4,7 @@ use Rattle.std.proofs.Common.{arith}
 use Rattle.std.specs.Prelude.{All, Some, None, Option, slice_get}
 use Rattle.std.proofs.lemmas.Bool.{cases_eq}
 use Rattle.std.proofs.lemmas.List.{length-set, length-map, get_or-map, get_or-set_same, get_or-set_other, map-set}
+use Rattle.std.proofs.lemmas.List.{set-get_or}
 use Rattle.std.proofs.lemmas.Option.{slice_get_within}
 use Rattle.mp_partial.specs.Values.{Value}
 use Rattle.mp_claims.specs.declared.states.WorkerState.{WorkerState}
@@ -26,6 +27,14 @@ mapped_at : {X Y : Type 0} (f : X → Y) (xs : List X) (i : ℕ) (read : X) (d :
 mapped_at f xs i read d lt at = get_or-map f xs i read d lt ∙ ap f (sym at)
 
 -- ---- parts
+
+-- a part that is put back with the room that it had
+pub rooms_kept : {X : Type 0} (room_of : X → ℕ) (parts : List X) (w : ℕ) (read new : X) → w < length parts
+    → read ≡ get_or parts w read → room_of new ≡ room_of read → map room_of (set parts w new) ≡ map room_of parts
+rooms_kept room_of parts w read new lt at same =
+    map-set room_of parts w new
+    ∙ ap (set (map room_of parts) w) (same ∙ sym (mapped_at room_of parts w read (room_of read) lt at))
+    ∙ set-get_or (map room_of parts) w (room_of read)
 
 pub size_at : {X : Type 0} (size_of : X → ℕ) (parts : List X) (w size : ℕ) (read : X)
     → All (λ n. n ≡ size) (map size_of parts) → w < length parts → read ≡ get_or parts w read → size_of read ≡ size

@@ -6,12 +6,13 @@ use Rattle.mp_claims.specs.declared.states.WorkerState.TheVariants.{Holds}
 use Rattle.mp_partial.specs.Values.{Value, merged_over}
 use Rattle.mp_claims.specs.Cores.{CoreState, finished_pieces, delivered_pieces}
 
--- its state, the size of its values, the total's value, and the value of each worker's partial
+-- its state, the size of its values, the total's value, the value of each worker's partial, and the room of all of them
 pub record Cored : Type 0 where
   pub state : CoreState
   pub size : ℕ
   pub total : Value
   pub partials : List Value
+  pub rooms : List ℕ
 
 -- The total is the merge of the values of the delivered pieces. Each worker has a partial, the merge of the values of
 -- the pieces that it has finished and not delivered.

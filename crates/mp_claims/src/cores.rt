@@ -25,7 +25,7 @@ pub struct Core<P: Part> {
 }
 
 impl<P: Part> Model for Core<P> {
-    ghost use Rattle.std.specs.Prelude.{map};
+    ghost use Rattle.std.specs.Prelude.{◌∷◌, map};
     ghost use Rattle.mp_claims.specs.Standing.{Cored};
     ghost use Rattle.mp_claims.specs.Sizes.{HaveSize};
 
@@ -36,9 +36,11 @@ impl<P: Part> Model for Core<P> {
       size = core.size;
       total = P.value core.total;
       partials = map P.value core.partials.items;
+      rooms = P.room_of core.total ∷ map P.room_of core.partials.items;
     } };
 
-    ghost invariant = { λ core. HaveSize core.size core.board (P.size_of core.total) (map P.size_of core.partials.items) };
+    ghost invariant = { λ core. HaveSize core.size core.board (P.size_of core.total)
+        (map P.size_of core.partials.items) };
 }
 
 /// Merges a partial into a total, and leaves a partial in which nothing was found.
@@ -48,6 +50,8 @@ fn move_into<P: Part>(total: &mut P, partial: &mut P)
     ensures partial { P.value partial.new ≡ P.unit_of (P.size_of partial.old) }
     ensures total_size { P.size_of total.new ≡ P.size_of total.old }
     ensures partial_size { P.size_of partial.new ≡ P.size_of partial.old }
+    ensures total_room { P.room_of total.new ≡ P.room_of total.old }
+    ensures partial_room { P.room_of partial.new ≡ P.room_of partial.old }
 {
     total.merge(partial);
     partial.clear();
@@ -80,6 +84,7 @@ impl<P: Part> Core<P> {
         ensures once { EachOnce self.new.state }
         ensures total { self.new.total ≡ self.old.total }
         ensures partials { self.new.partials ≡ self.old.partials }
+        ensures rooms { self.new.rooms ≡ self.old.rooms }
     {
         self.board.claim(w);
     }
@@ -94,6 +99,7 @@ impl<P: Part> Core<P> {
         ensures once { EachOnce self.new.state }
         ensures total { self.new.total ≡ self.old.total }
         ensures partials { TakesIn P.merged (K.value_of kernel.now) w self.old self.new }
+        ensures rooms { self.new.rooms ≡ self.old.rooms }
     {
         let piece = self.board.finish(w);
         kernel.run(piece, &mut self.partials[w as usize]);
@@ -107,6 +113,7 @@ impl<P: Part> Core<P> {
         ensures once { EachOnce self.new.state }
         ensures total { self.new.total ≡ P.merged self.old.total (slice_index_or self.old.partials w []) }
         ensures partials { self.new.partials ≡ slice_set self.old.partials w (P.unit_of self.old.size) }
+        ensures rooms { self.new.rooms ≡ self.old.rooms }
     {
         move_into(&mut self.total, &mut self.partials[w as usize]);
         self.board.deliver(w);
@@ -121,9 +128,11 @@ impl<P: Part> Core<P> {
         ensures state { self.new.state ≡ accepted self.old.state event }
         ensures size { self.new.size ≡ self.old.size }
         ensures once { EachOnce self.new.state }
-        ensures values { MovesValues P.merged (P.unit_of self.old.size) (K.value_of kernel.now) event self.old self.new }
+        ensures values { MovesValues P.merged (P.unit_of self.old.size) (K.value_of kernel.now) event
+            self.old self.new }
         ensures stands { StandsFor P.merged (P.unit_of self.old.size) (K.value_of kernel.now) self.old
             → StandsFor P.merged (P.unit_of self.old.size) (K.value_of kernel.now) self.new }
+        ensures rooms { self.new.rooms ≡ self.old.rooms }
     {
         match event {
             Event::Claim(w) => self.claim(w),
@@ -148,6 +157,7 @@ impl<P: Part> Core<P> {
             self.old self.new) }
         ensures stands { StandsFor P.merged (P.unit_of self.old.size) (K.value_of kernel.now) self.old
             → StandsFor P.merged (P.unit_of self.old.size) (K.value_of kernel.now) self.new }
+        ensures rooms { self.new.rooms ≡ self.old.rooms }
     {
         if let Some(why) = self.board.refusal(event) {
             return Err(why);

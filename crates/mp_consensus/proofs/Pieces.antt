@@ -1,5 +1,6 @@
 -- The windows of a piece, and the pieces that a worker drew.
-use Rattle.std.proofs.Common.{◌≡◌, ℕ, ◌+◌, ◌<◌, ◌≤◌, List, [], ◌∷◌, ◌++◌, map, get_or, arith, rules, ap, ◌∙◌, sym, subst}
+use Rattle.std.proofs.Common.{◌≡◌, ℕ, ◌+◌, ◌<◌, ◌≤◌, List, [], ◌∷◌, ◌++◌, map, get_or, arith, rules, ap, ◌∙◌, sym}
+use Rattle.std.proofs.Common.{subst}
 use Rattle.std.proofs.Common.{inl, inr, ◌⊎◌, length}
 use Rattle.std.specs.Prelude.{Option, Some, None, Result, Ok, Err, IfOk, IsOk, IfSome, nat_le, ◌==◌, if◌then◌else◌}
 use Rattle.std.proofs.lemmas.Bool.Decides.{nat_tests}

@@ -4,6 +4,7 @@ pub mod Window
 pub mod Distance
 pub mod Least
 pub mod Profile
+pub mod Band
 pub mod Laws
 pub mod SeriesLaws
 pub mod DistanceLaws

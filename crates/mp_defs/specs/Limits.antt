@@ -8,6 +8,10 @@ use Rattle.mp_nums.specs.Whole.{least_whole, greatest_whole}
 abbrev pub max_samples : ℕ
 max_samples = 262144
 
+-- the most samples that are ever appended to a series of which the last ones are kept
+abbrev pub max_appended : ℕ
+max_appended = 4294967296
+
 -- the fewest samples in a window
 abbrev pub min_window : ℕ
 min_window = 3

@@ -53,9 +53,15 @@ impl Model for LineReader {
 
     ghost Value = { Reading };
 
-    ghost view = { λ r. record { holding = r.feed; unread = take (r.to - r.from) (drop r.from r.buffer.items); left = r.left; past = r.past } };
+    ghost view = { λ r. record {
+      holding = r.feed;
+      unread = take (r.to - r.from) (drop r.from r.buffer.items);
+      left = r.left;
+      past = r.past;
+    } };
 
-    ghost invariant = { λ r. (r.from ≤ r.to) × (r.to ≤ vec_len r.buffer) × (vec_len r.buffer ≡ 65536) × (r.left < 2 ^ 64 - 1) × (r.past ≡ true → r.left ≡ 0) };
+    ghost invariant = { λ r. (r.from ≤ r.to) × (r.to ≤ vec_len r.buffer) × (vec_len r.buffer ≡ 65536)
+        × (r.left < 2 ^ 64 - 1) × (r.past ≡ true → r.left ≡ 0) };
 }
 
 impl LineReader {
@@ -165,7 +171,8 @@ impl LineReader {
         requires part { ¬ IsTrue self.old.holding.whole }
         requires unread { self.old.unread ≡ [] }
         requires past { self.old.past ≡ false }
-        ensures next { (first : Reading) (left later : Option (List ℕ)) → IsDry left later → Gave [] first self.old left later
+        ensures next { (first : Reading) (left later : Option (List ℕ)) → IsDry left later
+            → Gave [] first self.old left later
             → IsNext first self.new left later result }
         ensures not_a_line { result ≡ Next.Line false → ⊥ }
         ensures left { self.new.left ≡ self.old.left }

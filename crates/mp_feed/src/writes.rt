@@ -22,7 +22,8 @@ pub fn write_report<K: Sink>(out: &mut K, text: &[u8]) -> Result<(), Failed>
 
 fn write_all<K: Sink>(out: &mut K, text: &[u8]) -> Result<(), Failed>
     ensures told { (before : List ℕ) → K.written out.old ≡ Some before
-        → length before + length text.now ≤ K.room out.old → OnOk result (K.written out.new ≡ Some (before ++ text.now)) }
+        → length before + length text.now ≤ K.room out.old
+        → OnOk result (K.written out.new ≡ Some (before ++ text.now)) }
     ensures prefix { (before : List ℕ) → K.written out.old ≡ Some before
         → length before + length text.now ≤ K.room out.old
         → OnErr result (TellsPrefix (K.written out.new) before text.now) }

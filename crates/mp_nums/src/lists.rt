@@ -43,7 +43,8 @@ impl<T> Items<T> {
 
     /// The empty list. It takes no memory.
     pub fn new(alloc: Global) -> Self
-        ensures { result.items ≡ [] }
+        ensures items { result.items ≡ [] }
+        ensures spare { result.spare ≡ 0 }
     {
         Items {
             stored: Vec::new(alloc),

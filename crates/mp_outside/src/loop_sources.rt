@@ -51,7 +51,8 @@ impl Source for LoopSource {
     fn read(&mut self, buf: &mut [u8]) -> Result<usize, Failed>
         ensures count { result ≡ Ok (min (length buf.new) self.old.left) }
         ensures first { IfOk result (λ n. take n buf.new ≡ replicate n self.old.byte) }
-        ensures after { IfOk result (λ n. self.new ≡ record self.old { left = self.old.left - n; given = min (self.old.given + n) (2 ^ 128 - 1) }) }
+        ensures after { IfOk result (λ n.
+            self.new ≡ record self.old { left = self.old.left - n; given = min (self.old.given + n) (2 ^ 128 - 1) }) }
     {
         let count = (buf.len() as u128).min(self.left);
         buf[..count as usize].fill(self.byte);

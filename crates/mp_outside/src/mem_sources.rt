@@ -58,7 +58,8 @@ impl Source for MemSource {
         ensures plan { self.new.plan ≡ after_call self.old.plan }
         ensures failed { OnErr result (self.new.source ≡ self.old.source) }
 
-        ensures count { IfOk result (λ n. n ≡ min self.old.source.step (min (length buf.new) (length self.old.source.left))) }
+        ensures count { IfOk result (λ n.
+            n ≡ min self.old.source.step (min (length buf.new) (length self.old.source.left))) }
         ensures first { IfOk result (λ n. take n buf.new ≡ take n self.old.source.left) }
         ensures after { IfOk result (λ n. self.new.source ≡ given_away n self.old.source) }
         ensures step { OnOk result (1 ≤ self.old.source.step) }

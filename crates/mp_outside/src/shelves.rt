@@ -23,8 +23,10 @@ pub trait Shelf {
     /// The bytes of the file of this name, if there are at most `limit`.
     fn fetch(&mut self, alloc: Global, name: &[u8], limit: u64) -> Result<Vec<u8>, ShelfAnswer>
         ensures within { IfOk result (λ bytes. vec_len bytes ≤ limit) }
-        ensures found { IfOk result (λ bytes. ForSome (files self.old) (λ files. map.get files name.now ≡ Some bytes.items)) }
-        ensures absent { IsErrOf result ShelfAnswer.Absent → ForSome (files self.old) (λ files. map.get files name.now ≡ None) }
+        ensures found { IfOk result (λ bytes.
+            ForSome (files self.old) (λ files. map.get files name.now ≡ Some bytes.items)) }
+        ensures absent { IsErrOf result ShelfAnswer.Absent
+            → ForSome (files self.old) (λ files. map.get files name.now ≡ None) }
         ensures too_large { IsErrOf result ShelfAnswer.TooLarge → ForSome (files self.old) (λ files.
             IsSomeAnd (map.get files name.now) (λ bytes. limit < length bytes)) }
 

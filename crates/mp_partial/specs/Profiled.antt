@@ -2,12 +2,13 @@
 use Rattle.std.specs.Prelude.{◌≡◌, ℕ, length}
 use Rattle.mp_partial.specs.Values.{Column, merged_column}
 
--- its columns, and for how many more windows there is room
+-- its columns, for how many more windows there is room, and for how many more places in all columns together
 pub record Profiled : Type 0 where
   pub all : Column
   pub left : Column
   pub right : Column
   pub spare : ℕ
+  pub room : ℕ
 
 -- the columns go together
 pub record IsProfile (all left right : Column) : Type 0 where

@@ -54,6 +54,7 @@ impl Bench {
         ensures lesser { self.new.profile.all ≡ merged_column self.new.profile.left self.new.profile.right }
         ensures places { length self.new.profile.all ≡ length self.old.profile.all }
         ensures spare { self.new.profile.spare ≡ self.old.profile.spare }
+        ensures room { self.new.profile.room ≡ self.old.profile.room }
         ensures patch { self.new.patch ≡ self.old.patch }
     {
         self.profile.absorb(&self.patch);
@@ -64,6 +65,8 @@ impl Part for Bench {
     ghost value = { λ bench. bench.profile.all ∷ bench.profile.left ∷ bench.profile.right ∷ [] };
 
     ghost size_of = { λ bench. length bench.profile.all };
+
+    ghost room_of = { λ bench. bench.profile.spare };
 
     ghost is_value = { HasColumns 3 };
 

@@ -34,7 +34,8 @@ pub trait Kernel: Sync {
         ensures value { Self.Out.value into.new
             ≡ Self.Out.merged (Self.Out.value into.old) (value_of self.now piece) }
         ensures size { Self.Out.size_of into.new ≡ Self.Out.size_of into.old }
-        ensures is_value { Self.Out.is_value (Self.Out.size_of into.new) (Self.Out.value into.new) };
+        ensures is_value { Self.Out.is_value (Self.Out.size_of into.new) (Self.Out.value into.new) }
+        ensures room { Self.Out.room_of into.new ≡ Self.Out.room_of into.old };
 
     /// Each piece has a value of the kernel's size.
     ghost has_values: { (kernel : Self) (number : ℕ) → number < pieces_of kernel

@@ -18,6 +18,9 @@ pub trait Part: Drop + Send {
     /// The number of its places.
     ghost size_of: { Self → ℕ };
 
+    /// The room that it has, which stays as it is where no memory may be taken.
+    ghost room_of: { Self → ℕ };
+
     /// Which values belong to a size.
     ghost is_value: { ℕ → Value → Type 0 };
 
@@ -42,14 +45,16 @@ pub trait Part: Drop + Send {
     fn clear(&mut self)
         ensures value { value self.new ≡ unit_of (size_of self.old) }
         ensures size { size_of self.new ≡ size_of self.old }
-        ensures is_value { is_value (size_of self.new) (value self.new) };
+        ensures is_value { is_value (size_of self.new) (value self.new) }
+        ensures room { room_of self.new ≡ room_of self.old };
 
     /// Takes over what the other has found. It takes no memory.
     fn merge(&mut self, other: &Self)
         requires { size_of other.now ≡ size_of self.old }
         ensures value { value self.new ≡ merged (value self.old) (value other.now) }
         ensures size { size_of self.new ≡ size_of self.old }
-        ensures is_value { is_value (size_of self.new) (value self.new) };
+        ensures is_value { is_value (size_of self.new) (value self.new) }
+        ensures room { room_of self.new ≡ room_of self.old };
 
     /// Has what the other has found, in place of what it had. It takes no memory.
     fn take_over(&mut self, other: &Self)
@@ -58,6 +63,7 @@ pub trait Part: Drop + Send {
         ensures value { value self.new ≡ value other.now }
         ensures size { size_of self.new ≡ size_of other.now }
         ensures is_value { is_value (size_of self.new) (value self.new) }
+        ensures room { room_of self.new ≡ room_of self.old }
     {
         self.clear();
         self.merge(other);

@@ -33,7 +33,12 @@ impl Model for Patch {
 
     ghost Value = { Patched };
 
-    ghost view = { λ p. record { first_row = p.first_row; rows = p.rows.items; first_column = p.first_column; columns = p.columns.items } };
+    ghost view = { λ p. record {
+      first_row = p.first_row;
+      rows = p.rows.items;
+      first_column = p.first_column;
+      columns = p.columns.items;
+    } };
 
     ghost invariant = { λ p. (65536 ≤ vec_capacity p.rows) × (131071 ≤ vec_capacity p.columns) };
 }
@@ -151,7 +156,8 @@ impl Patch {
     /// Whether window `j` is a column.
     #[inline]
     pub fn has_column(&self, j: u64) -> bool
-        ensures { IsTrue result ↔ ((self.now.first_column ≤ j) × (j < self.now.first_column + length self.now.columns)) }
+        ensures { IsTrue result
+            ↔ ((self.now.first_column ≤ j) × (j < self.now.first_column + length self.now.columns)) }
     {
         self.first_column <= j && j - self.first_column < self.columns.len() as u64
     }

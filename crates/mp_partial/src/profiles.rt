@@ -25,7 +25,7 @@ pub struct Profile {
 }
 
 impl Model for Profile {
-    ghost use Rattle.std.specs.Prelude.{min};
+    ghost use Rattle.std.specs.Prelude.{◌+◌, min};
     ghost use Rattle.mp_partial.specs.Profiled.{Profiled, IsProfile};
 
     ghost Value = { Profiled };
@@ -35,6 +35,7 @@ impl Model for Profile {
       left = p.left.items;
       right = p.right.items;
       spare = min p.all.spare (min p.left.spare p.right.spare);
+      room = p.all.spare + p.left.spare + p.right.spare;
     } };
 
     ghost invariant = { λ p. IsProfile p.all.items p.left.items p.right.items };
@@ -116,6 +117,7 @@ impl Profile {
         ensures right { self.new.right
             ≡ (if nat_lt i j then offered self.old.right i (record { dist = dist; index = j }) else self.old.right) }
         ensures spare { self.new.spare ≡ self.old.spare }
+        ensures room { self.new.room ≡ self.old.room }
     {
         let found = Near { dist, index: j };
         let is_earlier = j < i;
@@ -165,6 +167,7 @@ impl Profile {
         ensures lesser { self.new.all ≡ merged_column self.new.left self.new.right }
         ensures places { length self.new.all ≡ length self.old.all }
         ensures spare { self.new.spare ≡ self.old.spare }
+        ensures room { self.new.room ≡ self.old.room }
     {
         let (row, rows) = (patch.first_row(), patch.rows());
         let (column, columns) = (patch.first_column(), patch.columns());
@@ -252,6 +255,8 @@ impl Part for Profile {
 
     ghost size_of = { λ profile. length profile.all };
 
+    ghost room_of = { λ profile. profile.room };
+
     ghost is_value = { HasColumns 3 };
 
     ghost unit_of = { empty_columns 3 };
@@ -277,6 +282,7 @@ impl Part for Profile {
         ensures left { self.new.left ≡ empty_column (length self.old.all) }
         ensures right { self.new.right ≡ empty_column (length self.old.all) }
         ensures spare { self.new.spare ≡ self.old.spare }
+        ensures room { self.new.room ≡ self.old.room }
     {
         columns::clear(&mut self.all);
         columns::clear(&mut self.left);
@@ -290,6 +296,7 @@ impl Part for Profile {
         ensures right { self.new.right ≡ merged_column self.old.right other.now.right }
         ensures places { HasColumns 3 (length self.old.all) (self.new.all ∷ self.new.left ∷ self.new.right ∷ []) }
         ensures spare { self.new.spare ≡ self.old.spare }
+        ensures room { self.new.room ≡ self.old.room }
     {
         columns::merge(&mut self.all, &other.all);
         columns::merge(&mut self.left, &other.left);

@@ -14,6 +14,8 @@ impl Part for Items<Slot> {
 
     ghost size_of = { λ slots. length slots.items };
 
+    ghost room_of = { λ slots. slots.spare };
+
     ghost is_value = { HasColumns 1 };
 
     ghost unit_of = { empty_columns 1 };

@@ -18,7 +18,8 @@ pub record IsRowBelow (may : ℕ → ℕ → Bool) (m : ℕ) (a : Series) (i n :
   pub left : row.left ≡ nearest_below m (λ j. may i j && nat_lt j i) a i a n
   pub right : row.right ≡ nearest_below m (λ j. may i j && nat_lt i j) a i a n
 
-pub row_begins : (may : ℕ → ℕ → Bool) (m : ℕ) (a : Series) (i : ℕ) → IsRowBelow may m a i 0 record { all = None; left = None; right = None }
+pub row_begins : (may : ℕ → ℕ → Bool) (m : ℕ) (a : Series) (i : ℕ)
+    → IsRowBelow may m a i 0 record { all = None; left = None; right = None }
 row_begins may m a i = record {
   all = sym (grows_by_one_candidate.no_candidates _);
   left = sym (grows_by_one_candidate.no_candidates _);
@@ -28,7 +29,8 @@ row_begins may m a i = record {
 and_false : (p q : Bool) → p ≡ false → (p && q) ≡ false
 and_false p q e = rw e refl
 
-pub row_skips : (may : ℕ → ℕ → Bool) (m : ℕ) (a : Series) (i n : ℕ) (row : Row) → IsRowBelow may m a i n row → may i n ≡ false
+pub row_skips : (may : ℕ → ℕ → Bool) (m : ℕ) (a : Series) (i n : ℕ) (row : Row) → IsRowBelow may m a i n row
+    → may i n ≡ false
     → IsRowBelow may m a i (n + 1) row
 row_skips may m a i n row h e = record {
   all = nearest_skips _ _ _ _ _ _ _ h.all e;
@@ -36,7 +38,8 @@ row_skips may m a i n row h e = record {
   right = nearest_skips _ _ _ _ _ _ _ h.right (and_false _ _ e);
 }
 
-pub row_misses : (may : ℕ → ℕ → Bool) (m : ℕ) (a : Series) (i n : ℕ) (row : Row) → IsRowBelow may m a i n row → distance m a i a n ≡ None
+pub row_misses : (may : ℕ → ℕ → Bool) (m : ℕ) (a : Series) (i n : ℕ) (row : Row) → IsRowBelow may m a i n row
+    → distance m a i a n ≡ None
     → IsRowBelow may m a i (n + 1) row
 row_misses may m a i n row h e = record {
   all = nearest_misses _ _ _ _ _ _ _ h.all e;
@@ -59,7 +62,9 @@ row_takes may m a i n old new d h e f all left right = record {
 }
 
 -- below the number of windows the row is whole
-pub row_ends : (may : ℕ → ℕ → Bool) (m : ℕ) (samples : List Sample) (i n : ℕ) (row : Row) → IsRowBelow may m (series_of samples) i n row
-    → n ≡ windows (length samples) m → IsRowBelow may m (series_of samples) i (windows (length (series_of samples)) m) row
+pub row_ends : (may : ℕ → ℕ → Bool) (m : ℕ) (samples : List Sample) (i n : ℕ) (row : Row)
+    → IsRowBelow may m (series_of samples) i n row
+    → n ≡ windows (length samples) m → IsRowBelow may m (series_of samples) i
+    (windows (length (series_of samples)) m) row
 row_ends may m samples i n row h e =
     subst (λ k. IsRowBelow may m (series_of samples) i k row) (e ∙ sym (series_are_of_samples.windows_are m samples)) h

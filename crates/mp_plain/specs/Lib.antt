@@ -1,2 +1,1 @@
 pub mod Square
-pub mod Kept

@@ -3,7 +3,7 @@
 ghost use Rattle.std.specs.Prelude.{◌≡◌, ◌+◌, ◌<◌, ◌≤◌, ◌^◌, length, IfOk};
 ghost use Rattle.mp_defs.specs.Series.{series_of};
 ghost use Rattle.mp_defs.specs.Profile.{entry, left_entry, right_entry};
-ghost use Rattle.mp_plain.specs.Kept.{is_allowed_in, live_column};
+ghost use Rattle.mp_defs.specs.Band.{is_allowed_in, live_column};
 
 use crate::distances::distance;
 use crate::profiles::{Columns, Row, slots};

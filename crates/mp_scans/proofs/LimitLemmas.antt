@@ -66,7 +66,8 @@ never_column block keeps first c limit fits gap = record {
 pub row_told : (block : Block) (keeps : ℕ → ℕ → ℕ → Type 0) (p : ℕ) (free : Bool) (limit : ℤ)
     → free ≡ is_free block.grid.m (series_of block.grid.rows.now) (block.row + p)
     → FitsSigned w32 limit
-    → (free ≡ true → TellsNothing block.rounding.m block.rounding.shift (block.column + (p + 1 - 1)) (keeps (block.row + p)) limit)
+    → (free ≡ true → TellsNothing block.rounding.m block.rounding.shift (block.column + (p + 1 - 1))
+    (keeps (block.row + p)) limit)
     → IsRowLimit block keeps p p limit
 row_told block keeps p false limit gap fits told = never_row block keeps p p limit fits (sym gap)
 row_told block keeps p true limit gap fits told =
@@ -84,9 +85,11 @@ row_told block keeps p true limit gap fits told =
 pub column_told : (block : Block) (keeps : ℕ → ℕ → ℕ → Type 0) (width c : ℕ) (free : Bool) (limit : ℤ)
     → free ≡ is_free block.grid.m (series_of block.grid.columns.now) (block.column + c)
     → FitsSigned w32 limit
-    → (free ≡ true → TellsNothing block.rounding.m block.rounding.shift (block.row + (c + 1 - width)) (keeps (block.column + c)) limit)
+    → (free ≡ true → TellsNothing block.rounding.m block.rounding.shift (block.row + (c + 1 - width))
+    (keeps (block.column + c)) limit)
     → IsColumnLimit block keeps (first_on width c) c limit
-column_told block keeps width c false limit gap fits told = never_column block keeps (first_on width c) c limit fits (sym gap)
+column_told block keeps width c false limit gap fits told = never_column block keeps (first_on width c) c limit fits
+    (sym gap)
 column_told block keeps width c true limit gap fits told =
     let rows = series_of block.grid.rows.now in
     let columns = series_of block.grid.columns.now in

@@ -16,8 +16,8 @@ const NEAREST: usize = 8;
 
 /// How many diagonals are scanned together from one on. Of a series with itself these are as many as lie before it.
 /// Near ones often have the nearest windows, so they bring limits down first; and on the same diagonals only the first
-/// tie is offered to a column. The one next to the exclusion zone, a quarter of a window, is scanned alone: of all those
-/// behind it that come nearer step by step, few are then near enough to be offered.
+/// tie is offered to a column. The one next to the exclusion zone, a quarter of a window, is scanned alone: of all
+/// those behind it that come nearer step by step, few are then near enough to be offered.
 #[inline]
 fn next_width(plan: &Plan, start: usize) -> usize
     ensures some { 1 ≤ result }

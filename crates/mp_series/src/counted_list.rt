@@ -73,7 +73,11 @@ impl Model for Samples {
 
     ghost Value = { Counted };
 
-    ghost view = { λ s. record { items = s.stored.items; reads = s.reads; spare = min s.stored.spare (min s.numbers.spare s.missing.spare) } };
+    ghost view = { λ s. record {
+      items = s.stored.items;
+      reads = s.reads;
+      spare = min s.stored.spare (min s.numbers.spare s.missing.spare);
+    } };
 
     ghost invariant = { λ s. IsStored s.stored.items s.numbers.items s.missing.items };
 }
@@ -87,6 +91,7 @@ impl Samples {
     pub fn new(alloc: Global) -> Samples
         ensures items { result.items ≡ [] }
         ensures reads { result.reads ≡ 0 }
+        ensures spare { result.spare ≡ 0 }
     {
         Samples {
             stored: Items::new(alloc),

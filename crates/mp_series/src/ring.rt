@@ -122,8 +122,8 @@ impl Ring {
         *self.stored.get(i as usize).unwrap()
     }
 
-    /// The numbers of `count` held samples from `first` on, and those of as many from `second` on. That of a missing one
-    /// is 0.
+    /// The numbers of `count` held samples from `first` on, and those of as many from `second` on. That of a missing
+    /// one is 0.
     #[inline]
     pub fn parts(&mut self, first: u64, second: u64, count: u64) -> (&[Whole], &[Whole])
         requires first { first + count ≤ length self.old.items }

@@ -37,7 +37,8 @@ use Rattle.mp_session.specs.Running.{HaveAsked, WereRun}
 use Rattle.mp_session.specs.Calls.{AsksSession, AsksSummary, Call, HasRoom, Outside, ToldForRun, ToldTaken, ToldToFile}
 use Rattle.mp_session.specs.Serving.{EndsByCause, IsServed, ReadsInput, RefusesWords, WritesOutput, WritesSummary}
 use Rattle.mp_outside.specs.Counts.{Rose, raised}
-use Rattle.mp_session.proofs.RunLemmas.{fetch_count-append, not_both, replies-append, some_ends_cut, some_fetch-append, told_first}
+use Rattle.mp_session.proofs.RunLemmas.{fetch_count-append, not_both, replies-append, some_ends_cut, some_fetch-append}
+use Rattle.mp_session.proofs.RunLemmas.{told_first}
 use Rattle.mp_session.proofs.RunLemmas.{told_then}
 
 -- all of the text is a front of it

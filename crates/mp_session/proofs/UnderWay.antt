@@ -184,7 +184,8 @@ module _ {Out : Type 0} {sink : Ghosts Out} {told : Option Files} {limit : ℕ} 
 
   -- a line was run that doesn't end the run
   pub under_way_on : {also : Bool} {line : List ℕ} {last : Bool} {session : SessionParts} {out : Out}
-      {before after : ℕ} (next : Reading) (later : Option (List ℕ)) → IsNext reader next now.left later (Line false) → line ≡ next.holding.kept
+      {before after : ℕ} (next : Reading) (later : Option (List ℕ)) → IsNext reader next now.left later (Line false)
+      → line ≡ next.holding.kept
       → WereRun sink told (line ∷ []) (course_at now.session later now.out) (course_at session later out) also
       → last ≡ ends line → last ≡ false → HaveAsked told (u.lines ++ line ∷ []) old.session before after
       → (on : IsUnderWay sink told limit old (course_at session later out) (after_line next) (refused || also))

@@ -219,7 +219,8 @@ first_found : (x : Option Near) (found : Near) → x ≡ None → nearer_of x (S
 first_found None found e = refl
 first_found (Some y) found e = absurd (cc)
 
-pub best_here : (column : List (Option Near)) (w : ℕ) (best : Option Near) → w < length column → get_or column w None ≡ None
+pub best_here : (column : List (Option Near)) (w : ℕ) (best : Option Near) → w < length column
+    → get_or column w None ≡ None
     → get_or (with_best column w best) w None ≡ best
 best_here column w None lt e = e
 best_here column w (Some found) lt e =
@@ -358,7 +359,8 @@ best_found m items last_free before grown h split grown_is last false none =
 
 left_after : (m : ℕ) (items : List Sample) (last_free : Bool) (before grown after : GrowingProfile)
     → IsOf m (without_last items) before → IsSplit m items → IsGrown last_free before grown
-    → IsOffered m (numbers_in items) (last_place m items) last_free grown after → last_free ≡ is_free m (series_of items) (last_place m items)
+    → IsOffered m (numbers_in items) (last_place m items) last_free grown after
+    → last_free ≡ is_free m (series_of items) (last_place m items)
     → after.entries.profile.left ≡ (matrix_profile m (series_of items)).left
 left_after m items last_free before grown after h split grown_is offered last =
     let w = last_place m items in
@@ -404,7 +406,8 @@ rights_found m items last_free before grown old new h split grown_is last stood 
 
 right_after : (m : ℕ) (items : List Sample) (last_free : Bool) (before grown after : GrowingProfile)
     → IsOf m (without_last items) before → IsSplit m items → IsGrown last_free before grown
-    → IsOffered m (numbers_in items) (last_place m items) last_free grown after → last_free ≡ is_free m (series_of items) (last_place m items)
+    → IsOffered m (numbers_in items) (last_place m items) last_free grown after
+    → last_free ≡ is_free m (series_of items) (last_place m items)
     → after.entries.profile.right ≡ (matrix_profile m (series_of items)).right
 right_after m items last_free before grown after h split grown_is offered last =
     let a = series_of (without_last items) in

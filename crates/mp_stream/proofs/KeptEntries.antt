@@ -14,7 +14,7 @@ use Rattle.mp_defs.specs.Least.{near, at_distance, candidate}
 use Rattle.mp_defs.specs.LeastLaws.{grows_by_one_candidate, near_same, near_none}
 use Rattle.mp_defs.specs.Profile.{left_entry, right_entry, windows_of}
 use Rattle.mp_stream.specs.Blocks.{renumbered}
-use Rattle.mp_stream.specs.Kept.{is_allowed_in}
+use Rattle.mp_defs.specs.Band.{is_allowed_in}
 use Rattle.mp_stream.specs.Rows.{IsTaken, lowered, offered_before, row_candidate, sum_at}
 use Rattle.mp_stream.specs.Appended.{with_one, AreNumbers}
 use Rattle.mp_stream.proofs.EntryLemmas.{distance_by_sum, entries_grow, windows_more, taken_if, right_if, none_if}
@@ -76,8 +76,8 @@ may_not_behind keep m i j lt = grind (arith, nat_tests)
 
 -- ---- the last windows of a series
 
--- the windows from first on, up to the last one at place w, with the numbers of the whole series and what is kept of the
--- last samples: which of the windows are free, and their distances from the last one
+-- the windows from first on, up to the last one at place w, with the numbers of the whole series and what is kept of
+-- the last samples: which of the windows are free, and their distances from the last one
 pub record AreLast (keep m : ℕ) (a : Series) (s : Option ℤ) (xs : List ℤ) (first w : ℕ) (free : List Bool)
     (dist : ℕ → ℕ) : Type 0 where
   pub long : m ≤ length a + 1
@@ -168,7 +168,8 @@ module _ (keep m : ℕ) (a : Series) (s : Option ℤ) (xs : List ℤ) (first w :
 
   -- the left entries that were there
   pub left_before : (p : ℕ) → p < w
-      → left_entry (is_allowed_in keep m) m (with_one a s) (first + p) ≡ left_entry (is_allowed_in keep m) m a (first + p)
+      → left_entry (is_allowed_in keep m) m (with_one a s) (first + p) ≡ left_entry (is_allowed_in keep m) m a
+      (first + p)
   left_before p lt = entries_grow.left (is_allowed_in keep m) m a s (first + p) h.long (omega (arith, lt, h.last))
 
   -- what may stand to the left of the last window

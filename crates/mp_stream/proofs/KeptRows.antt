@@ -73,7 +73,8 @@ row_drops m items old new least long h gone =
       free = λ i lt. ap (λ list. get_or list i false) gone.free ∙ get_or_after_one old.free.items i false
           ∙ h.free (1 + i) (omega (arith, lt, fewer, least)) ∙ sym (free_behind 1 m (series_of items) i)
           ∙ ap (λ a. is_free m a i) (sym (series_behind 1 items));
-      range = subst (λ r. AreWithin r (numbers_in (drop 1 items))) (sym gone.range) (range_drops old.range items h.range);
+      range = subst (λ r. AreWithin r (numbers_in (drop 1 items))) (sym gone.range)
+          (range_drops old.range items h.range);
       limits = subst (λ t. AreLimits (limit_by t) new.entries.profile.right new.entries.limits.items)
           (sym gone.is_narrow)
           (subst (λ column. AreLimits (limit_by old.is_narrow) column new.entries.limits.items) (sym gone.right)

@@ -20,13 +20,16 @@ use Rattle.mp_partial.specs.Values.{Column, merged_column}
 use Rattle.mp_series.specs.HeldSamples.{Held}
 use Rattle.mp_series.specs.Samples.{numbers_in}
 use Rattle.mp_stream.specs.Blocks.{numbered, renumbered}
-use Rattle.mp_stream.specs.Kept.{Keeping, StandsFor, max_appended, first_kept, is_allowed_in, last_samples, live_column, live_windows}
+use Rattle.mp_defs.specs.Limits.{max_appended}
+use Rattle.mp_defs.specs.Band.{first_kept, is_allowed_in, live_column, live_windows}
+use Rattle.mp_stream.specs.Kept.{Keeping, StandsFor, last_samples}
 use Rattle.mp_stream.specs.KeptProfiles.{IsAdded, IsKept, IsOfLast, leaving, offered_in}
 use Rattle.mp_stream.specs.Rows.{IsTaken, distance_from, last_place, offered_before, row_candidate, with_best}
 use Rattle.mp_stream.specs.Streams.{HasRowOf, room_of}
 use Rattle.mp_stream.specs.Appended.{AreNumbers}
 use Rattle.mp_stream.specs.declared.profiles.GrowingProfile.{GrowingProfile}
-use Rattle.mp_stream.proofs.Growing.{best_here, best_long, best_other, column_is, numbers_are, pushed_before, pushed_last}
+use Rattle.mp_stream.proofs.Growing.{best_here, best_long, best_other, column_is, numbers_are, pushed_before}
+use Rattle.mp_stream.proofs.Growing.{pushed_last}
 use Rattle.mp_stream.proofs.Growing.{series_with}
 use Rattle.mp_stream.proofs.KeptEntries.{AreLast, left_before, left_of_last, rights_after}
 use Rattle.mp_stream.proofs.ShiftLemmas.{dropped_behind, free_behind, numbers_behind, series_behind, sum_behind}
@@ -169,7 +172,8 @@ module _ (keep m n k : ℕ) (samples held front items : List Sample) (sample : S
       (λ p lt. rights_after keep m (series_of samples) (reading_of sample) (numbers_in (samples ++ sample ∷ [])) first w
       free dist is_last (right ++ None ∷ []) after.entries.profile.right taken
       (λ q less. pushed_before right q (omega (arith, less, here)) ∙ ap (λ list. get_or list q None) right_is
-      ∙ before_last (right_entry (is_allowed_in keep m) m (series_of samples)) old e q (omega (arith, less, here, places)))
+      ∙ before_last (right_entry (is_allowed_in keep m) m (series_of samples)) old e q
+      (omega (arith, less, here, places)))
       (pushed_last right w here) p (omega (arith, lt, live_more, long))
       ∙ ap (λ a. right_entry (is_allowed_in keep m) m a (first + p)) (sym (series_with samples sample)))
 
@@ -208,7 +212,8 @@ module _ (keep m n k : ℕ) (samples held front items : List Sample) (sample : S
         | inl less ↦ best_other grown w p best (λ at. omega (arith, at, less))
             ∙ pushed_before left p (omega (arith, less, here)) ∙ ap (λ list. get_or list p None) left_is
             ∙ before_last (left_entry may m (series_of samples)) old e p (omega (arith, less, here, places))
-            ∙ sym (left_before keep m (series_of samples) (reading_of sample) (numbers_in (samples ++ sample ∷ [])) first
+            ∙ sym (left_before keep m (series_of samples) (reading_of sample)
+            (numbers_in (samples ++ sample ∷ [])) first
             w free dist is_last p less)
             ∙ ap (λ a. left_entry may m a (first + p)) (sym same)
         | inr ge ↦ let at : w ≡ p = omega (arith, ge, lt, live_more, long) in
@@ -286,7 +291,12 @@ stands_next m keep ring next growing roomy after sample samples kept items_are d
     is_roomy.first ∙ ap Some (first_after keep (length held) ring.dropped kept.held kept.dropped some) in
     let count : n + 1 ≡ length next.items + next.dropped =
     long_after keep (length held) ring.dropped kept.held some
-    ∙ omega (arith, items_long keep m n k samples held front next.items sample is_next, length-drop k held, dropped_is) in
+    ∙ omega (
+      arith,
+      items_long keep m n k samples held front next.items sample is_next,
+      length-drop k held,
+      dropped_is,
+    ) in
     let more = length-append samples (sample ∷ []) in
     let a = series_of (samples ++ sample ∷ []) in
     let right : after.entries.profile.right ≡ live_column (right_entry (is_allowed_in keep m) m a) keep m (n + 1) =
@@ -294,7 +304,8 @@ stands_next m keep ring next growing roomy after sample samples kept items_are d
       | inl short ↦ none_grow keep m n k samples held front next.items sample is_next
           (right_entry (is_allowed_in keep m) m a) after.entries.profile.right short is_of.rights
       | inr long ↦ right_grows keep m n k samples held front next.items sample is_next
-          growing.entries.profile.right roomy after h.right right_is is_roomy.rights first_is long is_of.row (added long)
+          growing.entries.profile.right roomy after h.right right_is is_roomy.rights first_is long is_of.row
+          (added long)
     ] in
     let left : after.entries.profile.left ≡ live_column (left_entry (is_allowed_in keep m) m a) keep m (n + 1) =
     elim (cases_lt (length next.items) m) [
@@ -310,7 +321,8 @@ stands_next m keep ring next growing roomy after sample samples kept items_are d
       held = items_of keep m n k samples held front next.items sample is_next;
       all = subst (λ j. merged_column after.entries.profile.left after.entries.profile.right
           ≡ live_column (entry (is_allowed_in keep m) m a) keep m j) count both;
-      left = subst (λ j. after.entries.profile.left ≡ live_column (left_entry (is_allowed_in keep m) m a) keep m j) count
+      left = subst (λ j. after.entries.profile.left ≡ live_column (left_entry (is_allowed_in keep m) m a) keep m j)
+          count
           left;
       right = subst (λ j. after.entries.profile.right ≡ live_column (right_entry (is_allowed_in keep m) m a) keep m j)
           count right;
@@ -402,7 +414,8 @@ pub stands_first : (m keep : ℕ) (ring : Held) (growing : GrowingProfile) → 1
 stands_first m keep ring growing least none no_drop h =
     let count : 0 ≡ length ring.items + ring.dropped = omega (arith, ap length none, no_drop) in
     let a = series_of [] in
-    let left = none_at_first (left_entry (is_allowed_in keep m) m a) keep m growing.entries.profile.left least h.lefts in
+    let left = none_at_first (left_entry (is_allowed_in keep m) m a) keep m growing.entries.profile.left least
+    h.lefts in
     let right = none_at_first (right_entry (is_allowed_in keep m) m a) keep m growing.entries.profile.right least
     h.rights in
     record {

@@ -39,7 +39,10 @@ lent_rest start items written tail le =
 
 -- what is seen of the places of a vector from one on
 abbrev seen_from : {X : Type 0} → ℕ → Vec X → List X → Listed X
-seen_from start stored items = record { items = drop start items; spare = vec_capacity stored - (vec_len stored - start) }
+seen_from start stored items = record {
+  items = drop start items;
+  spare = vec_capacity stored - (vec_len stored - start);
+}
 
 -- what is seen after a write through the items
 abbrev seen_after : {X : Type 0} → Listed X → List X → Listed X

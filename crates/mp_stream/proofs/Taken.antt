@@ -171,7 +171,8 @@ pub starts_more : (old : Option Near) (j k : ℕ) → j ≤ k → StartsAtMost j
 starts_more None j k le h = tt
 starts_more (Some a) j k le h = omega (arith, le, h)
 
-pub nearer_starts : (old : Option Near) (d j : ℕ) → StartsAtMost j old → StartsAtMost j (nearer_of old (Some (near_at j d)))
+pub nearer_starts : (old : Option Near) (d j : ℕ) → StartsAtMost j old
+    → StartsAtMost j (nearer_of old (Some (near_at j d)))
 nearer_starts None d j h = omega arith
 nearer_starts (Some a) d j h = grind (arith, nat_tests)
 
@@ -301,7 +302,8 @@ pub offered_then : (limit_by : Option Near → ℕ) (free : List Bool) (dist : �
     → AreOffered limit_by free dist last middle end b c → AreOffered limit_by free dist last first end a c
 offered_then limit_by free dist last first middle end a b c le le' h g = record {
   right = taken_then free dist (numbered a.profile.first last) first middle end _ _ _ le le' h.right
-      (subst (λ f. IsTaken free dist (numbered f last) middle end b.profile.right c.profile.right) h.only.first g.right);
+      (subst (λ f. IsTaken free dist (numbered f last) middle end b.profile.right c.profile.right) h.only.first
+      g.right);
   only = only_then a b c h.only g.only;
   ready = g.ready;
 }

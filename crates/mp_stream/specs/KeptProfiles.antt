@@ -10,7 +10,7 @@ use Rattle.mp_series.specs.Samples.{numbers_in}
 use Rattle.mp_stream.specs.Blocks.{numbered, renumbered}
 use Rattle.mp_stream.specs.Limits.{AllStartAtMost}
 use Rattle.mp_stream.specs.Rows.{IsTaken, distance_from, last_place, offered_before, row_candidate, with_best}
-use Rattle.mp_stream.specs.Kept.{max_appended}
+use Rattle.mp_defs.specs.Limits.{max_appended}
 use Rattle.mp_stream.specs.Streams.{HasRowOf, room_of}
 use Rattle.mp_stream.specs.declared.profiles.GrowingProfile.{GrowingProfile}
 

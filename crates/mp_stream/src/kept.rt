@@ -4,7 +4,7 @@ ghost use Rattle.std.specs.Prelude.{◌≡◌, ℕ, ◌+◌, ◌-◌, ◌*◌, �
 ghost use Rattle.std.specs.Prelude.{slice_get, IsErrOf, IfOk, OnOk, OnErr, None, Some};
 ghost use Rattle.mp_nums.specs.declared.samples.Sample.{Sample as TheSample};
 ghost use Rattle.mp_series.specs.declared.limits.TheConstants.{MIN_WINDOW, MAX_WINDOW, MAX_SAMPLES};
-ghost use Rattle.mp_stream.specs.Kept.{max_appended};
+ghost use Rattle.mp_defs.specs.Limits.{max_appended};
 
 use crate::kept_profiles::{add_sample, make_room, no_windows};
 use crate::profiles::GrowingProfile;
@@ -70,7 +70,8 @@ impl Model for Kept {
 }
 
 impl Kept {
-    ghost use Rattle.mp_stream.specs.Kept.{StandsFor, column_of, first_kept, kept_after_reads, live_windows};
+    ghost use Rattle.mp_defs.specs.Band.{first_kept, live_windows};
+    ghost use Rattle.mp_stream.specs.Kept.{StandsFor, column_of, kept_after_reads};
 
     /// Nothing was appended, and of what comes `keep` samples are kept, with their windows of length `m`. What is done
     /// with it later takes no memory.

@@ -1,6 +1,7 @@
 //! The nearest windows of the last windows of a series.
 
-ghost use Rattle.std.specs.Prelude.{◌≡◌, ◌≢◌, ◌+◌, ◌-◌, ◌^◌, ◌<◌, ◌≤◌, nat_lt, if◌then◌else◌, [], ◌∷◌, ◌++◌, length, drop, min};
+ghost use Rattle.std.specs.Prelude.{◌≡◌, ◌≢◌, ◌+◌, ◌-◌, ◌^◌, ◌<◌, ◌≤◌, nat_lt, if◌then◌else◌, [], ◌∷◌, ◌++◌};
+ghost use Rattle.std.specs.Prelude.{length, drop, min};
 ghost use Rattle.std.specs.Prelude.{IsOk, OnOk, None};
 ghost use Rattle.mp_partial.specs.Values.{offered};
 ghost use Rattle.mp_stream.specs.Last.{last_room};

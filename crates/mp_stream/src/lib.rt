@@ -1,4 +1,5 @@
-//! A matrix profile that grows with its series, one sample at a time.
+//! A matrix profile that grows with its series, one sample at a time: of a `Stream`, which keeps all samples, or of a
+//! `Kept`, which keeps the last ones and takes no memory for what comes.
 //!
 //! Beside the profile stands a row: the distances of the last window to all windows. One sample more moves each pair of
 //! windows one place on, and so each distance loses one square and gains one. This is the step of STUMPY's `aampi`,

@@ -1,6 +1,7 @@
 //! A row in sums of 64 bits.
 
-ghost use Rattle.std.specs.Prelude.{◌≡◌, ◌+◌, ◌-◌, ◌^◌, ◌<◌, ◌≤◌, ℕ, ◌++◌, ◌∷◌, [], drop, length, min, slice_index, IfOk};
+ghost use Rattle.std.specs.Prelude.{◌≡◌, ◌+◌, ◌-◌, ◌^◌, ◌<◌, ◌≤◌, ℕ, ◌++◌, ◌∷◌, [], drop, length, min};
+ghost use Rattle.std.specs.Prelude.{slice_index, IfOk};
 ghost use Rattle.std.specs.Prelude.{IsOk, OnOk};
 
 use crate::queues::Queue;

@@ -386,7 +386,8 @@ impl GrowingProfile {
         ensures is_of { IsOf m samples.old.items self.new }
         ensures room { room_of self.old ≤ room_of self.new + 1 }
         ensures known { (known : Column) →
-            AreKnown known (matrix_profile m (series_of (without_last samples.old.items))).all self.old.entries.profile.changed
+            AreKnown known (matrix_profile m (series_of (without_last samples.old.items))).all
+            self.old.entries.profile.changed
             → AreKnown known (matrix_profile m (series_of samples.old.items)).all self.new.entries.profile.changed }
         ensures read { OnlyReads (2 * (windows (length samples.old.items) m + m)) samples.old samples.new }
     {

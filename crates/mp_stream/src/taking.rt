@@ -19,7 +19,8 @@ fn take_right(sum: u64, i: usize, j: usize, entries: &mut Entries)
     requires order { i < j }
     requires small { sum < 2 ^ 63 }
     requires ready { IsReady limit_of j entries.old }
-    ensures right { entries.new.profile.right ≡ offered entries.old.profile.right i (near_at (numbered entries.old.profile.first j) sum) }
+    ensures right { entries.new.profile.right
+        ≡ offered entries.old.profile.right i (near_at (numbered entries.old.profile.first j) sum) }
     ensures only { OnlyRightChanges entries.old entries.new }
     ensures ready { IsReady limit_of j entries.new }
 {

@@ -1,5 +1,6 @@
 -- Why windows of several series that lie together within a limit pass together.
-use Rattle.std.proofs.Common.{◌≡◌, ℕ, zero, suc, ◌+◌, ◌-◌, ◌*◌, ◌^◌, ◌<◌, ◌≤◌, inl, inr, refl, sym, ap, ◌∙◌, arith, subst}
+use Rattle.std.proofs.Common.{◌≡◌, ℕ, zero, suc, ◌+◌, ◌-◌, ◌*◌, ◌^◌, ◌<◌, ◌≤◌, inl, inr, refl, sym, ap, ◌∙◌, arith}
+use Rattle.std.proofs.Common.{subst}
 use Rattle.std.proofs.Common.{w32, ℤ, pos, ◌+ℤ◌, ◌-ℤ◌, List, [], ◌∷◌, length}
 use Rattle.std.specs.Prelude.{◌≤ℤ◌, negsuc, ◌==◌, if◌then◌else◌, nat_lt}
 use Rattle.std.specs.Int.{int_wrap, int_shr}

@@ -1,5 +1,6 @@
 -- The tiles of the windows that start close together, and of the others.
-use Rattle.std.proofs.Common.{◌≡◌, ℕ, zero, suc, ◌+◌, ◌-◌, ◌*◌, ◌<◌, ◌≤◌, inl, inr, min, List, length, get_or, Bool, false}
+use Rattle.std.proofs.Common.{◌≡◌, ℕ, zero, suc, ◌+◌, ◌-◌, ◌*◌, ◌<◌, ◌≤◌, inl, inr, min, List, length, get_or, Bool}
+use Rattle.std.proofs.Common.{false}
 use Rattle.std.proofs.Common.{sym, ap, ◌∙◌, arith, subst}
 use Rattle.std.specs.Prelude.{All, ◌&&◌, ◌||◌, nat_le, nat_lt, map}
 use Rattle.std.specs.Int.{abs_diff, div_ceil}

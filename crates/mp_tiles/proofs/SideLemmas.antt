@@ -12,7 +12,7 @@ use Rattle.mp_cuts.specs.declared.cuts.Tile.{Tile}
 use Rattle.mp_cuts.specs.Pairs.{has_pair, no_tile}
 use Rattle.mp_tiles.specs.Among.{profile_among, columns_value}
 use Rattle.mp_tiles.specs.Laws.{tiles_value}
-use Rattle.mp_tiles.specs.Sides.{Sided, sides_by}
+use Rattle.mp_tiles.specs.Sides.{Sided, Unfilled, sides_by}
 use Rattle.mp_tiles.specs.Pieces.{OwnTiling, own_value, sides_value, two_columns}
 
 -- ---- columns behind a first one
@@ -64,12 +64,13 @@ pub nothing_nearer : (n : ℕ) → merged_column (empty_column n) (empty_column 
 nothing_nearer n = column_unit n (empty_column n) (length-replicate n None)
 
 -- a merge with them changes nothing
-pub nothing_merged : (room : Option ℕ) (found other mine : Sided) → sides_by room found ≡ other → is_some room ≡ true
-    → length other.left ≡ length mine.left → length mine.right ≡ length mine.left
+pub nothing_merged : (room : Option Unfilled) (found other mine : Sided) → sides_by room found ≡ other
+    → is_some room ≡ true → length other.left ≡ length mine.left → length mine.right ≡ length mine.left
     → ◌≡◌ {A = Value} (mine.left ∷ mine.right ∷ [])
     (merged_columns (mine.left ∷ mine.right ∷ []) (other.left ∷ other.right ∷ []))
 nothing_merged None found other mine e is long same = absurd (cc)
-nothing_merged (Some n) found other mine e is long same =
+nothing_merged (Some unfilled) found other mine e is long same =
+    let n = unfilled.places in
     let value : Value = mine.left ∷ mine.right ∷ [] in
     let size : length mine.left ≡ n = sym long ∙ sym (ap (λ (s : Sided). length s.left) e) ∙ length-replicate n None in
     sym (ap (λ (s : Sided). merged_columns value (s.left ∷ s.right ∷ [])) (sym e)

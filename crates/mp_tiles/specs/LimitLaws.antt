@@ -75,6 +75,7 @@ sides_quiet m a pairs s h order q = record {
         | inl here ↦ (q i j d lt lt' here dist).0
         | inr back ↦ absurd (omega (arith, order j i back, later))
       ]);
+  room = refl;
 }
 
 row_side_stays : (pairs : ℕ → ℕ → Bool) (m : ℕ) (a b : Series) (old new : Sided) (i j d : ℕ) → fits_sides m a b old

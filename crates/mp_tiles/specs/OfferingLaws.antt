@@ -52,6 +52,7 @@ sided_same p q m a old new h same = record {
   right = taken_same (λ i j. either_way p i j && nat_lt i j)
       (λ i j. either_way q i j && nat_lt i j) m a a old.right new.right h.right
       (λ i j lt lt'. ap (λ t. t && nat_lt i j) (either_same p q (windows_of m a) same i j lt lt'));
+  room = h.room;
 }
 
 either_none : (p : ℕ → ℕ → Bool) → ((i j : ℕ) → p i j ≡ false) → (i j : ℕ) → either_way p i j ≡ false
@@ -65,6 +66,7 @@ sided_none p m a old h none = record {
       (λ i j _ _. ap (λ t. t && nat_lt j i) (either_none p none i j));
   right = taken_none (λ i j. either_way p i j && nat_lt i j) m a a old.right h.right
       (λ i j _ _. ap (λ t. t && nat_lt i j) (either_none p none i j));
+  room = refl;
 }
 
 pub or_pairs : (p q r s : Bool) → ((p || r) || (q || s)) ≡ ((p || q) || (r || s))
@@ -100,6 +102,7 @@ sided_then p q m a old mid new h k = record {
       (λ i j. either_way q i j && nat_lt i j) m a a old.right mid.right new.right h.right k.right)
       (λ i j _ _. and_either (either_way p i j) (either_way q i j) (nat_lt i j)
       ∙ ap (λ t. t && nat_lt i j) (either_both p q i j));
+  room = k.room ∙ h.room;
 }
 
 only_later : (i j r c : ℕ) → i < j → only i j r c ≡ (either_way (only i j) r c && nat_lt r c)
@@ -111,8 +114,8 @@ only_earlier i j r c lt = grind (arith, nat_tests)
 -- one pair: the row takes the column on its right, and the column the row on its left
 pub sided_pair : (i j m : ℕ) (a : Series) (old new : Sided) (d : Option ℕ) → HaveSides (windows_of m a) old
     → i < j → j < windows_of m a → d ≡ distance m a i a j → new.left ≡ taken old.left j (at_distance i d)
-    → new.right ≡ taken old.right i (at_distance j d) → AreSided (only i j) m a old new
-sided_pair i j m a old new d h order lt is left right =
+    → new.right ≡ taken old.right i (at_distance j d) → new.room ≡ old.room → AreSided (only i j) m a old new
+sided_pair i j m a old new d h order lt is left right room =
     let lt' : i < windows_of m a = omega arith in
     record {
       left = taken_same (only j i) (λ r c. either_way (only i j) r c && nat_lt c r) m a a old.left new.left
@@ -120,6 +123,7 @@ sided_pair i j m a old new d h order lt is left right =
           (λ r c _ _. only_earlier i j r c order);
       right = taken_same (only i j) (λ r c. either_way (only i j) r c && nat_lt r c) m a a old.right new.right
           (taken_one i j m a a old.right new.right d h.right lt' lt is right) (λ r c _ _. only_later i j r c order);
+      room = room;
     }
 
 -- a pair without a distance gives nothing
@@ -127,6 +131,7 @@ sided_skipped : (i j m : ℕ) (a : Series) (s : Sided) → HaveSides (windows_of
     → distance m a i a j ≡ None → AreSided (only i j) m a s s
 sided_skipped i j m a s h order lt missing =
     sided_pair i j m a s s None h order lt (sym missing) (sym (taken_nothing s.left j)) (sym (taken_nothing s.right i))
+    refl
 
 -- both windows are of one series
 pub same_series : (m : ℕ) (a b : Series) (i j : ℕ) (d : Option ℕ) → a ≡ b → distance m a i b j ≡ d
@@ -176,9 +181,9 @@ pub scanned_pair : (i j m : ℕ) (a : Series) (old new : Profiled) (d : Option �
     → i < j → j < windows_of m a → d ≡ distance m a i a j
     → new.all ≡ taken (taken old.all i (at_distance j d)) j (at_distance i d)
     → new.left ≡ taken old.left j (at_distance i d) → new.right ≡ taken old.right i (at_distance j d)
-    → new.spare ≡ old.spare
+    → new.room ≡ old.room → new.spare ≡ old.spare
     → IsScanned (only i j) m a old new
-scanned_pair i j m a old new d h order lt is all left right spare =
+scanned_pair i j m a old new d h order lt is all left right room spare =
     let lt' : i < windows_of m a = omega arith in
     let mid : Column = taken old.all i (at_distance j d) in
     let first : HasTaken (only i j) m a a old.all mid = taken_one i j m a a old.all mid d h.all lt' lt is refl in
@@ -188,7 +193,7 @@ scanned_pair i j m a old new d h order lt is all left right spare =
           (taken_one j i m a a mid new.all d (taken_places (only i j) m a a old.all mid h.all first) lt lt'
           (is ∙ symmetric m a i a j) all))
           (λ r c _ _. only_either i j r c);
-      sides = sided_pair i j m a (sides_of old) (sides_of new) d h.sides order lt is left right;
+      sides = sided_pair i j m a (sides_of old) (sides_of new) d h.sides order lt is left right room;
       spare = spare;
     }
 
@@ -210,7 +215,7 @@ each_to_other = record {
       let same : windows_of m b ≡ windows_of m a = ap (windows_of m) (sym h.1) in
       scanned_pair row column m a p p None h.0 (omega arith) (omega arith)
       (sym (same_series m a b row column None h.1 missing))
-      (nothing_twice p.all row column) (sym (taken_nothing p.left column)) (sym (taken_nothing p.right row)) refl;
+      (nothing_twice p.all row column) (sym (taken_nothing p.left column)) (sym (taken_nothing p.right row)) refl refl;
   both = λ m a b p q old mid new h k. record {
     all = taken_same (λ i j. either_way p i j || either_way q i j) (either_way (λ r c. p r c || q r c)) m a a old.all
         new.all (taken_then (either_way p) (either_way q) m a a old.all mid.all new.all h.all k.all)

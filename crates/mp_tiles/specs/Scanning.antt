@@ -13,10 +13,11 @@ pub record HasPlaces (w : ℕ) (p : Profiled) : Type 0 where
   pub all : length p.all ≡ w
   pub sides : HaveSides w (sides_of p)
 
--- the new sides are the old ones with what these pairs give
+-- the new sides are the old ones with what these pairs give, in the same memory
 pub record AreSided (pairs : ℕ → ℕ → Bool) (m : ℕ) (a : Series) (old new : Sided) : Type 0 where
   pub left : new.left ≡ merged_column old.left (profile_among pairs m a).left
   pub right : new.right ≡ merged_column old.right (profile_among pairs m a).right
+  pub room : new.room ≡ old.room
 
 -- the new profile is the old one with what these pairs give
 pub record IsScanned (pairs : ℕ → ℕ → Bool) (m : ℕ) (a : Series) (old new : Profiled) : Type 0 where

@@ -1,10 +1,11 @@
 //! The nearest windows on one side, and what residues tell of them.
 
 ghost use Rattle.std.specs.Prelude.{◌≡◌, ℕ, ◌+◌, ◌^◌, ◌<◌, ◌≤◌, [], length, slice_index_or, IfOk, None, true, false};
-ghost use Rattle.std.specs.Prelude.{FitsSigned};
+ghost use Rattle.std.specs.Prelude.{FitsSigned, replicate, vec_capacity};
 ghost use Rattle.std.specs.Int.{w32};
 ghost use Rattle.mp_series.specs.declared.limits.TheConstants.{MAX_SAMPLES};
 ghost use Rattle.mp_sums.specs.Limits.{IsBeyond};
+ghost use Rattle.mp_sums.specs.declared.residues.TheConstants.{ALWAYS};
 ghost use Rattle.mp_sums.specs.Residues.{item};
 ghost use Rattle.mp_scans.specs.Firsts.{first_at};
 ghost use Rattle.mp_scans.specs.Offering.{TellsNothing};
@@ -35,13 +36,16 @@ pub(crate) struct Column {
 }
 
 impl Model for Column {
-    ghost use Rattle.std.specs.Prelude.{List, Option};
-    ghost use Rattle.mp_nums.specs.declared.nearest.Near.{Near};
+    ghost use Rattle.std.specs.Prelude.{◌+◌, vec_capacity};
     ghost use Rattle.mp_tiles.specs.Compact.{AreBounds};
+    ghost use Rattle.mp_tiles.specs.Sides.{Stored};
 
-    ghost Value = { List (Option Near) };
+    ghost Value = { Stored };
 
-    ghost view = { λ column. column.slots.items };
+    ghost view = { λ column. record {
+      slots = column.slots.items;
+      room = vec_capacity column.slots + vec_capacity column.bounds;
+    } };
 
     ghost invariant = { λ column.
         AreBounds column.rounding.m column.rounding.shift column.slots.items column.bounds.items };
@@ -56,11 +60,15 @@ pub(crate) struct Room {
 }
 
 impl Model for Room {
-    ghost use Rattle.std.specs.Prelude.{◌≡◌, ◌≤◌, ℕ, [], vec_capacity};
+    ghost use Rattle.std.specs.Prelude.{◌≡◌, ◌+◌, ◌≤◌, [], vec_capacity};
+    ghost use Rattle.mp_tiles.specs.Sides.{Unfilled};
 
-    ghost Value = { ℕ };
+    ghost Value = { Unfilled };
 
-    ghost view = { λ room. room.places };
+    ghost view = { λ room. record {
+      places = room.places;
+      room = vec_capacity room.slots + vec_capacity room.bounds;
+    } };
 
     ghost invariant = { λ room. (room.slots.items ≡ []) × (room.bounds.items ≡ [])
         × (room.places ≤ vec_capacity room.slots) × (room.places ≤ vec_capacity room.bounds) };
@@ -69,7 +77,7 @@ impl Model for Room {
 impl Room {
     /// Room for so many windows.
     pub(crate) fn with_capacity(alloc: Global, places: u64) -> Result<Room, Memory>
-        ensures { IfOk result (λ room. room ≡ places) }
+        ensures { IfOk result (λ room. room.places ≡ places) }
     {
         Ok(Room {
             places,
@@ -80,18 +88,19 @@ impl Room {
 
     /// For how many windows it is.
     pub(crate) fn places(&self) -> u64
-        ensures { result ≡ self.now }
+        ensures { result ≡ self.now.places }
     {
         self.places
     }
 
     /// The column of these windows, with none found for any. It takes no memory.
     pub(crate) fn fill(self) -> Column
-        ensures { result ≡ empty_column self }
+        ensures slots { result.slots ≡ empty_column self.places }
+        ensures room { result.room ≡ self.room }
     {
         let (mut slots, mut bounds) = (self.slots, self.bounds);
         fill_with_none(&mut slots, self.places);
-        bounds.resize(self.places as usize, ALWAYS).unwrap();
+        always_within(&mut bounds, self.places);
         Column {
             slots,
             bounds,
@@ -101,17 +110,42 @@ impl Room {
 
     /// The column of these windows that has what was found by another one. It takes no memory.
     pub(crate) fn fill_from(self, other: &Column) -> Column
-        requires { length other.now ≡ self }
-        ensures { result ≡ other.now }
+        requires { length other.now.slots ≡ self.places }
+        ensures slots { result.slots ≡ other.now.slots }
+        ensures room { result.room ≡ self.room }
     {
         let (mut slots, mut bounds) = (self.slots, self.bounds);
         fill_with_copies(&mut slots, other.slots.as_slice());
-        bounds.extend_from_slice(other.bounds.as_slice()).unwrap();
+        copy_bounds(&mut bounds, other.bounds.as_slice());
         Column {
             slots,
             bounds,
             rounding: other.rounding,
         }
+    }
+}
+
+/// Puts the bound of no window at each of so many places of a list that has room for them. It takes no memory.
+fn always_within(bounds: &mut Vec<i32>, places: u64)
+    requires no_place { bounds.old.items ≡ [] }
+    requires room { places ≤ vec_capacity bounds.old }
+    ensures bounds { bounds.new.items ≡ replicate places ALWAYS }
+    ensures room { vec_capacity bounds.new ≡ vec_capacity bounds.old }
+{
+    for _ in 0..places {
+        bounds.push_reserved(ALWAYS);
+    }
+}
+
+/// Puts the same bounds into a list of none that has room for them. It takes no memory.
+fn copy_bounds(bounds: &mut Vec<i32>, others: &[i32])
+    requires no_place { bounds.old.items ≡ [] }
+    requires room { length others.now ≤ vec_capacity bounds.old }
+    ensures bounds { bounds.new.items ≡ others.now }
+    ensures room { vec_capacity bounds.new ≡ vec_capacity bounds.old }
+{
+    for k in 0..others.len() {
+        bounds.push_reserved(others[k]);
     }
 }
 
@@ -242,7 +276,8 @@ impl Column {
 
     /// The column of no windows. It takes no memory.
     pub(crate) fn new(alloc: Global) -> Column
-        ensures { result ≡ [] }
+        ensures slots { result.slots ≡ [] }
+        ensures room { result.room ≡ 0 }
     {
         Column {
             slots: Vec::new(alloc),
@@ -254,7 +289,7 @@ impl Column {
     /// The number of windows.
     #[inline]
     pub(crate) fn len(&self) -> usize
-        ensures { result ≡ length self.now }
+        ensures { result ≡ length self.now.slots }
     {
         self.slots.len()
     }
@@ -262,15 +297,16 @@ impl Column {
     /// What was found for a window.
     #[inline]
     pub(crate) fn slot(&self, place: usize) -> Slot
-        requires { place < length self.now }
-        ensures { result ≡ slice_index_or self.now place None }
+        requires { place < length self.now.slots }
+        ensures { result ≡ slice_index_or self.now.slots place None }
     {
         slot_at(self.slots.as_slice(), place)
     }
 
     /// Has residues be those of samples rounded so.
     pub(crate) fn round_by(&mut self, rounding: &Rounding)
-        ensures { self.new ≡ self.old }
+        ensures slots { self.new.slots ≡ self.old.slots }
+        ensures room { self.new.room ≡ self.old.room }
     {
         if are_alike(&self.rounding, rounding) {
             return;
@@ -285,8 +321,9 @@ impl Column {
     /// Puts a slot at a place.
     #[inline]
     fn set(&mut self, place: usize, slot: Compact)
-        requires { place < length self.old }
-        ensures { self.new ≡ slice_set self.old place slot }
+        requires { place < length self.old.slots }
+        ensures slots { self.new.slots ≡ slice_set self.old.slots place slot }
+        ensures room { self.new.room ≡ self.old.room }
     {
         let bound = bound_of(&self.rounding, slot.slot());
         self.bounds.as_mut_slice()[place] = bound;
@@ -296,8 +333,9 @@ impl Column {
     /// Takes a slot, if it is nearer than what stands at a place.
     #[inline]
     fn take(&mut self, place: usize, slot: Compact)
-        requires { place < length self.old }
-        ensures { self.new ≡ taken self.old place slot }
+        requires { place < length self.old.slots }
+        ensures slots { self.new.slots ≡ taken self.old.slots place slot }
+        ensures room { self.new.room ≡ self.old.room }
     {
         if slot.comes_before(&self.slots.as_slice()[place]) {
             self.set(place, slot);
@@ -307,10 +345,11 @@ impl Column {
     /// A window is found for the one at a place.
     #[inline]
     pub(crate) fn offer(&mut self, place: usize, near: Near)
-        requires place { place < length self.old }
+        requires place { place < length self.old.slots }
         requires start { near.index < MAX_SAMPLES }
         requires small { near.dist.0 + 1 < 2 ^ 110 }
-        ensures { self.new ≡ offered self.old place near }
+        ensures slots { self.new.slots ≡ offered self.old.slots place near }
+        ensures room { self.new.room ≡ self.old.room }
     {
         self.take(place, Compact::of(near));
     }
@@ -318,17 +357,18 @@ impl Column {
     /// Whether a window is nearer than what was found for the one at a place.
     #[inline]
     pub(crate) fn may_take(&self, place: usize, near: Near) -> bool
-        requires place { place < length self.now }
+        requires place { place < length self.now.slots }
         requires start { near.index < MAX_SAMPLES }
         requires small { near.dist.0 + 1 < 2 ^ 110 }
-        ensures { result ≡ false → Covers (slice_index_or self.now place None) near.index near.dist.0 }
+        ensures { result ≡ false → Covers (slice_index_or self.now.slots place None) near.index near.dist.0 }
     {
         Compact::of(near).comes_before(&self.slots.as_slice()[place])
     }
 
     /// Forgets what was found.
     pub(crate) fn clear(&mut self)
-        ensures { self.new ≡ empty_column (length self.old) }
+        ensures slots { self.new.slots ≡ empty_column (length self.old.slots) }
+        ensures room { self.new.room ≡ self.old.room }
     {
         for k in 0..self.len() {
             self.set(k, Compact::none());
@@ -337,8 +377,9 @@ impl Column {
 
     /// Has what was found by another one, in place of what it had.
     pub(crate) fn copy_from(&mut self, other: &Column)
-        requires { length other.now ≡ length self.old }
-        ensures { self.new ≡ other.now }
+        requires { length other.now.slots ≡ length self.old.slots }
+        ensures slots { self.new.slots ≡ other.now.slots }
+        ensures room { self.new.room ≡ self.old.room }
     {
         copy_slots(self.slots.as_mut_slice(), other.slots.as_slice());
         self.bounds
@@ -349,9 +390,10 @@ impl Column {
 
     /// Keeps the nearer window at each place.
     pub(crate) fn merge(&mut self, other: &Column)
-        requires { length other.now ≡ length self.old }
-        ensures column { self.new ≡ merged_column self.old other.now }
-        ensures places { length self.new ≡ length self.old }
+        requires { length other.now.slots ≡ length self.old.slots }
+        ensures column { self.new.slots ≡ merged_column self.old.slots other.now.slots }
+        ensures places { length self.new.slots ≡ length self.old.slots }
+        ensures room { self.new.room ≡ self.old.room }
     {
         if are_alike(&self.rounding, &other.rounding) {
             merge_alike(
@@ -367,9 +409,10 @@ impl Column {
 
     /// The same, whatever both are rounded by.
     fn merge_each(&mut self, other: &Column)
-        requires { length other.now ≡ length self.old }
-        ensures column { self.new ≡ merged_column self.old other.now }
-        ensures places { length self.new ≡ length self.old }
+        requires { length other.now.slots ≡ length self.old.slots }
+        ensures column { self.new.slots ≡ merged_column self.old.slots other.now.slots }
+        ensures places { length self.new.slots ≡ length self.old.slots }
+        ensures room { self.new.room ≡ self.old.room }
     {
         for k in 0..self.len() {
             self.take(k, other.slots.as_slice()[k].copy());
@@ -379,8 +422,8 @@ impl Column {
     /// Puts what was found for each window into a column of none, which has room for it. It takes no memory.
     pub(crate) fn put(&self, slots: &mut Slots)
         requires no_window { slots.old.items ≡ [] }
-        requires spare { length self.now ≤ slots.old.spare }
-        ensures { slots.new.items ≡ self.now }
+        requires spare { length self.now.slots ≤ slots.old.spare }
+        ensures { slots.new.items ≡ self.now.slots }
     {
         for k in 0..self.len() {
             slots.push(self.slot(k)).unwrap();
@@ -391,7 +434,7 @@ impl Column {
     #[inline]
     pub(crate) fn limit(&self, place: u64, first: u64) -> Limit
         ensures { (index dist : ℕ) → first ≤ index → IsBeyond result dist
-            → Covers (slice_index_or self.now place None) index dist }
+            → Covers (slice_index_or self.now.slots place None) index dist }
     {
         let place = place as usize;
         if place < self.len() {
@@ -404,8 +447,8 @@ impl Column {
     /// A residue of pairs by a rounding, such that windows from `first` on with a greater one give a window nothing.
     #[inline]
     pub(crate) fn bound(&self, rounding: &Rounding, place: u64, first: u64) -> i32
-        ensures { TellsNothing rounding.now.m rounding.now.shift first (Covers (slice_index_or self.now place None))
-            result }
+        ensures { TellsNothing rounding.now.m rounding.now.shift first
+            (Covers (slice_index_or self.now.slots place None)) result }
     {
         let at = place as usize;
         if at < self.slots.len() && are_alike(&self.rounding, rounding) {
@@ -434,7 +477,7 @@ impl Column {
         requires first { firsts.first + length free.now < 2 ^ 63 }
         ensures bounds { (k : ℕ) → k < length free.now → slice_index_or free.now k false ≡ true
             → TellsNothing rounding.now.m rounding.now.shift (first_at firsts k)
-            (Covers (slice_index_or self.now (place + k) None)) (item bounds.new k) }
+            (Covers (slice_index_or self.now.slots (place + k) None)) (item bounds.new k) }
         ensures fit { (k : ℕ) → k < length free.now → FitsSigned w32 (item bounds.new k) }
         ensures places { length bounds.new ≡ length bounds.old }
     {
@@ -469,7 +512,7 @@ impl Column {
         requires first { firsts.first + length free.now < 2 ^ 63 }
         ensures bounds { (k : ℕ) → k < length free.now → slice_index_or free.now k false ≡ true
             → TellsNothing rounding.now.m rounding.now.shift (first_at firsts k)
-            (Covers (slice_index_or self.now (place + k) None)) (item bounds.new k) }
+            (Covers (slice_index_or self.now.slots (place + k) None)) (item bounds.new k) }
         ensures fit { (k : ℕ) → k < length free.now → FitsSigned w32 (item bounds.new k) }
         ensures places { length bounds.new ≡ length bounds.old }
     {

@@ -93,10 +93,11 @@ impl Compact {
 pub(crate) fn fill_with_none(slots: &mut Vec<Compact>, places: u64)
     requires no_place { slots.old.items ≡ [] }
     requires room { places ≤ vec_capacity slots.old }
-    ensures { slots.new.items ≡ empty_column places }
+    ensures slots { slots.new.items ≡ empty_column places }
+    ensures room { vec_capacity slots.new ≡ vec_capacity slots.old }
 {
     for _ in 0..places {
-        slots.push(Compact::none()).unwrap();
+        slots.push_reserved(Compact::none());
     }
 }
 
@@ -104,10 +105,11 @@ pub(crate) fn fill_with_none(slots: &mut Vec<Compact>, places: u64)
 pub(crate) fn fill_with_copies(slots: &mut Vec<Compact>, others: &[Compact])
     requires no_place { slots.old.items ≡ [] }
     requires room { length others.now ≤ vec_capacity slots.old }
-    ensures { slots.new.items ≡ others.now }
+    ensures slots { slots.new.items ≡ others.now }
+    ensures room { vec_capacity slots.new ≡ vec_capacity slots.old }
 {
     for k in 0..others.len() {
-        slots.push(others[k].copy()).unwrap();
+        slots.push_reserved(others[k].copy());
     }
 }
 

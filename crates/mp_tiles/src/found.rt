@@ -31,14 +31,18 @@ pub(crate) struct Found {
 }
 
 impl Model for Found {
-    ghost use Rattle.std.specs.Prelude.{◌≡◌, length};
+    ghost use Rattle.std.specs.Prelude.{◌≡◌, ◌+◌, length};
     ghost use Rattle.mp_tiles.specs.Sides.{Sided};
 
     ghost Value = { Sided };
 
-    ghost view = { λ found. record { left = found.left; right = found.right } };
+    ghost view = { λ found. record {
+      left = found.left.slots;
+      right = found.right.slots;
+      room = found.left.room + found.right.room;
+    } };
 
-    ghost invariant = { λ found. length found.right ≡ length found.left };
+    ghost invariant = { λ found. length found.right.slots ≡ length found.left.slots };
 }
 
 impl Found {
@@ -68,6 +72,7 @@ impl Found {
         requires small { dist.0 + 1 < 2 ^ 110 }
         ensures left { self.new.left ≡ offered self.old.left j (record { dist = dist; index = i }) }
         ensures right { self.new.right ≡ offered self.old.right i (record { dist = dist; index = j }) }
+        ensures room { self.new.room ≡ self.old.room }
     {
         self.left.offer(j as usize, Near { dist, index: i });
         self.right.offer(i as usize, Near { dist, index: j });
@@ -125,6 +130,7 @@ impl Found {
     pub(crate) fn new(alloc: Global) -> Found
         ensures left { result.left ≡ [] }
         ensures right { result.right ≡ [] }
+        ensures room { result.room ≡ 0 }
     {
         Found {
             left: Column::new(alloc),
@@ -136,6 +142,7 @@ impl Found {
     pub(crate) fn clear(&mut self)
         ensures left { self.new.left ≡ empty_column (length self.old.left) }
         ensures right { self.new.right ≡ empty_column (length self.old.left) }
+        ensures room { self.new.room ≡ self.old.room }
     {
         self.left.clear();
         self.right.clear();
@@ -148,6 +155,7 @@ impl Found {
         ensures right { self.new.right ≡ merged_column self.old.right other.now.right }
         ensures places { length self.new.left ≡ length self.old.left }
         ensures same { length self.new.right ≡ length self.new.left }
+        ensures room { self.new.room ≡ self.old.room }
     {
         self.left.merge(&other.left);
         self.right.merge(&other.right);
@@ -156,7 +164,9 @@ impl Found {
     /// Has what was found by another one, in place of what it had.
     pub(crate) fn copy_from(&mut self, other: &Found)
         requires { length other.now.left ≡ length self.old.left }
-        ensures { self.new ≡ other.now }
+        ensures left { self.new.left ≡ other.now.left }
+        ensures right { self.new.right ≡ other.now.right }
+        ensures room { self.new.room ≡ self.old.room }
     {
         self.left.copy_from(&other.left);
         self.right.copy_from(&other.right);
@@ -174,6 +184,7 @@ pub(crate) fn take_tile(plan: &Plan, tile: &Tile, into: &mut Found)
         (sides_value (profile_among (has_pair 0 tile.now) plan.now.grid.m (series_of plan.now.grid.rows.now))) }
     ensures size { length into.new.left ≡ length into.old.left }
     ensures is_value { HasColumns 2 (length into.new.left) (into.new.left ∷ into.new.right ∷ []) }
+    ensures room { into.new.room ≡ into.old.room }
 {
     let _windows = into.len();
     into.round_by(&plan.rounding);
@@ -188,19 +199,20 @@ pub(crate) struct FoundRoom {
 }
 
 impl Model for FoundRoom {
-    ghost use Rattle.std.specs.Prelude.{◌≡◌, ℕ};
+    ghost use Rattle.std.specs.Prelude.{◌≡◌, ◌+◌};
+    ghost use Rattle.mp_tiles.specs.Sides.{Unfilled};
 
-    ghost Value = { ℕ };
+    ghost Value = { Unfilled };
 
-    ghost view = { λ room. room.left };
+    ghost view = { λ room. record { places = room.left.places; room = room.left.room + room.right.room } };
 
-    ghost invariant = { λ room. room.right ≡ room.left };
+    ghost invariant = { λ room. room.right.places ≡ room.left.places };
 }
 
 impl FoundRoom {
     /// Room for so many windows.
     pub(crate) fn with_capacity(alloc: Global, places: u64) -> Result<FoundRoom, Memory>
-        ensures { IfOk result (λ room. room ≡ places) }
+        ensures { IfOk result (λ room. room.places ≡ places) }
     {
         Ok(FoundRoom {
             left: Room::with_capacity(alloc, places)?,
@@ -210,15 +222,16 @@ impl FoundRoom {
 
     /// For how many windows it is.
     pub(crate) fn places(&self) -> u64
-        ensures { result ≡ self.now }
+        ensures { result ≡ self.now.places }
     {
         self.left.places()
     }
 
     /// Both sides of these windows, with none found for any. It takes no memory.
     pub(crate) fn fill(self) -> Found
-        ensures left { result.left ≡ empty_column self }
-        ensures right { result.right ≡ empty_column self }
+        ensures left { result.left ≡ empty_column self.places }
+        ensures right { result.right ≡ empty_column self.places }
+        ensures room { result.room ≡ self.room }
     {
         Found {
             left: self.left.fill(),
@@ -228,8 +241,10 @@ impl FoundRoom {
 
     /// Both sides of these windows, with what was found by another one. It takes no memory.
     pub(crate) fn fill_from(self, other: &Found) -> Found
-        requires { length other.now.left ≡ self }
-        ensures { result ≡ other.now }
+        requires { length other.now.left ≡ self.places }
+        ensures left { result.left ≡ other.now.left }
+        ensures right { result.right ≡ other.now.right }
+        ensures room { result.room ≡ self.room }
     {
         Found {
             left: self.left.fill_from(&other.left),

@@ -92,7 +92,11 @@ impl<'a> Model for NearTiles<'a> {
 
     ghost Value = { OwnTiling };
 
-    ghost view = { λ near. record { samples = near.plan.grid.rows.now; m = near.plan.grid.m; tiles = bands_of near.bands } };
+    ghost view = { λ near. record {
+      samples = near.plan.grid.rows.now;
+      m = near.plan.grid.m;
+      tiles = bands_of near.bands;
+    } };
 
     ghost invariant = { λ near. IsNear near.plan near.bands };
 }

@@ -57,7 +57,7 @@ pub fn scan_own(samples: &[Sample], m: u32, tile: &Tile, into: &mut Profile)
         ≡ merged_column into.old.right (profile_among (has_pair 0 tile.now) m (series_of samples.now)).right }
     ensures places { length into.new.all ≡ length into.old.all }
     ensures is_value { HasColumns 3 (length into.new.all) (into.new.all ∷ into.new.left ∷ into.new.right ∷ []) }
-    ensures spare { into.new.spare ≡ into.old.spare }
+    ensures room { (into.new.spare ≡ into.old.spare) × (into.new.room ≡ into.old.room) }
 {
     let _windows = into.len();
     let plan = Plan::of(Grid {

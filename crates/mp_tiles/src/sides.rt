@@ -31,11 +31,13 @@ pub struct Sides {
 }
 
 impl Model for Sides {
-    ghost use Rattle.mp_tiles.specs.Sides.{Sided, sides_by};
+    ghost use Rattle.mp_tiles.specs.Sides.{Sided, sides_by, IsApart};
 
     ghost Value = { Sided };
 
     ghost view = { λ sides. sides_by sides.room sides.found };
+
+    ghost invariant = { λ sides. IsApart sides.room sides.found };
 }
 
 /// Fills the room, unless it is filled. It takes no memory.
@@ -82,6 +84,7 @@ impl Sides {
             (sides_value (profile_among (has_pair 0 tile.now) plan.now.grid.m (series_of plan.now.grid.rows.now))) }
         ensures size { length self.new.left ≡ length self.old.left }
         ensures is_value { HasColumns 2 (length self.new.left) (self.new.left ∷ self.new.right ∷ []) }
+        ensures room { self.new.room ≡ self.old.room }
     {
         fill(&mut self.room, &mut self.found);
         take_tile(plan, tile, &mut self.found);
@@ -147,6 +150,8 @@ impl Part for Sides {
     ghost value = { λ sides. sides.left ∷ sides.right ∷ [] };
 
     ghost size_of = { λ sides. length sides.left };
+
+    ghost room_of = { λ sides. sides.room };
 
     ghost is_value = { HasColumns 2 };
 

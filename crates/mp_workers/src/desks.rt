@@ -114,6 +114,7 @@ impl Desk {
             (merged_over K.Out.merged (K.Out.unit_of (K.size_of kernel.now)) (K.value_of kernel.now) numbers)) }
         ensures size { K.Out.size_of into.new ≡ K.Out.size_of into.old }
         ensures is_value { K.Out.is_value (K.Out.size_of into.new) (K.Out.value into.new) }
+        ensures room { K.Out.room_of into.new ≡ K.Out.room_of into.old }
     {
         // a part that tells its size has a value of that size
         let _places = into.size();

@@ -5,7 +5,8 @@ use Rattle.mp_chains.proofs.chains.anchored.Goals as goal
 pub loop-next-init : goal.loop-next-init
 loop-next-init c = record {
   within = c.requires.start;
-  is = rw (c.in_ok-push.ensures.ok, c.new-chain.ensures) (chain_from-step _ _ _ c.requires.columns c.requires.start);
+  is = rw (c.in_ok-push.ensures.ok, c.new-chain.ensures.items)
+      (chain_from-step _ _ _ c.requires.columns c.requires.start);
 }
 
 pub loop-next-preserved : goal.loop-next-preserved

@@ -25,7 +25,8 @@ returns-then-not-is_any_left-clause-reached c =
     none_left (least_radius c.args.m c.args.list.now) c.args.m (map series_of c.args.list.now) c.args.block.place
     c.loop-place.place _ c.args.block.start c.loop-place.reaches.items
     (λ k d lt. ap (λ xs. get_or xs k d) (sym c.as_slice.ensures.value)
-    ∙ c.if-not-is_any_left.ensures refl k d (omega (arith, lt, ap length c.as_slice.ensures.value))) c.loop-place.invariant.reached
+    ∙ c.if-not-is_any_left.ensures refl k d (omega (arith, lt, ap length c.as_slice.ensures.value)))
+    c.loop-place.invariant.reached
 
 pub compare-requires-clause-others : goal.compare-requires-clause-others
 compare-requires-clause-others c =

@@ -21,7 +21,8 @@ returns-clause-reached c =
       | then-is_some+then-is_shorter+in_ok-compare w ↦
           subst (HaveReached least m (map series_of list) b.place b.start 0) (sym (ap (λ v. v.items) w.reaches-is))
           (none_reached_by least m list b.place c.shortest_other-other.result b.start (b.start + b.count + m - 1)
-          w.rows_of.result.now c.series-series.result.now c.args.end c.in_ok-reaches.reaches.items w.renew.new.reaches.items
+          w.rows_of.result.now c.series-series.result.now c.args.end c.in_ok-reaches.reaches.items
+          w.renew.new.reaches.items
           c.requires.past w.rows_of.ensures (omega (arith, places, c.requires.conditions.shortest))
           c.shortest_other-other.ensures.other c.shortest_other-other.ensures.apart c.series-series.ensures
           (w.renew.ensures.places ∙ w.compare.ensures.places) zero

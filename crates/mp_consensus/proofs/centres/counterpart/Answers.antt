@@ -16,7 +16,7 @@ returns c =
     let p = c.args.place in
     let start = c.args.start in
     let b = c.series.result.now in
-    let slots = c.in_ok-push.ensures.ok ∙ ap (λ xs. xs ++ None ∷ []) c.new-slots.ensures in
+    let slots = c.in_ok-push.ensures.ok ∙ ap (λ xs. xs ++ None ∷ []) c.new-slots.ensures.items in
     let here : start + 0 ≡ start = omega arith in
     ap (λ xs. get_or xs 0 None) c.as_slice.ensures
     ∙ c.scan_all.ensures.each 0 (omega (arith, ap length slots))

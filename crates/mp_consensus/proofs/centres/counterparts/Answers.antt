@@ -8,7 +8,7 @@ use Rattle.mp_consensus.proofs.centres.counterparts.Goals as goal
 use Rattle.mp_consensus.proofs.centres.counterparts.Goals.{in-Some+in_ok-push, in_default}
 
 pub loop-other-init : goal.loop-other-init
-loop-other-init c = c.new-nearest.ensures ∙ sym (those_zero _)
+loop-other-init c = c.new-nearest.ensures.items ∙ sym (those_zero _)
 
 pub loop-other-preserved : goal.loop-other-preserved
 loop-other-preserved c =

@@ -3,7 +3,7 @@ use Rattle.std.specs.Prelude.{Option}
 use Rattle.mp_nums.specs.declared.nearest.Near.{Near}
 use Rattle.mp_defs.specs.Series.{series_of}
 use Rattle.mp_defs.specs.Profile.{column, entry, left_entry, right_entry}
-use Rattle.mp_plain.specs.Kept.{first_kept, is_allowed_in, live_column, live_windows}
+use Rattle.mp_defs.specs.Band.{first_kept, is_allowed_in, live_column, live_windows}
 use Rattle.mp_plain.proofs.Steps.{column_more}
 use Rattle.mp_plain.proofs.kept.kept_profile.Goals as goal
 
@@ -52,7 +52,8 @@ returns-clause-left c =
 
 pub returns-clause-right : goal.returns-clause-right
 returns-clause-right c =
-    whole (right_entry (is_allowed_in c.args.keep c.args.m) c.args.m (series_of c.args.samples.now)) c.args.keep c.args.m
+    whole (right_entry (is_allowed_in c.args.keep c.args.m) c.args.m (series_of c.args.samples.now)) c.args.keep
+    c.args.m
     (length c.args.samples.now) _ _ _ c.loop-place.invariant.right c.saturating_sub-first.ensures
     (omega (
       arith,

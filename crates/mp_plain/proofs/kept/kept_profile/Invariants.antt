@@ -1,7 +1,7 @@
 use Rattle.std.proofs.Common.{◌≡◌, ◌+◌}
 use Rattle.mp_defs.specs.Series.{series_of}
 use Rattle.mp_defs.specs.Profile.{entry, left_entry, right_entry, column}
-use Rattle.mp_plain.specs.Kept.{is_allowed_in}
+use Rattle.mp_defs.specs.Band.{is_allowed_in}
 use Rattle.mp_plain.proofs.kept.kept_profile.Given as goal
 
 abbrev pub invariant-loop-place : goal.invariant-loop-place

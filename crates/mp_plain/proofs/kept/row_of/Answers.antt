@@ -1,6 +1,6 @@
 use Rattle.std.proofs.Common.{◌+◌, sym, subst, arith}
 use Rattle.mp_defs.specs.Series.{series_of}
-use Rattle.mp_plain.specs.Kept.{is_allowed_in}
+use Rattle.mp_defs.specs.Band.{is_allowed_in}
 use Rattle.mp_plain.specs.declared.profiles.Row.{Row}
 use Rattle.mp_plain.proofs.Steps.{distance_found, distance_missing}
 use Rattle.mp_plain.proofs.Rows.{IsRowBelow, row_begins, row_skips, row_misses, row_takes, row_ends}
@@ -12,7 +12,8 @@ loop-j-init c = row_begins _ _ _ _
 
 pub loop-j-preserved : goal.loop-j-preserved
 loop-j-preserved c =
-    let is_below : Row → Type 0 = λ row. IsRowBelow (is_allowed_in c.args.keep c.args.m) c.args.m (series_of c.args.samples.now) c.args.i
+    let is_below : Row → Type 0 = λ row. IsRowBelow (is_allowed_in c.args.keep c.args.m) c.args.m
+    (series_of c.args.samples.now) c.args.i
     (c.loop-j.j + 1) row in
     let before = c.loop-j.invariant in
     elim c.if-is_compared.branch [

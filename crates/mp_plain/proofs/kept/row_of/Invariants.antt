@@ -1,5 +1,5 @@
 use Rattle.mp_defs.specs.Series.{series_of}
-use Rattle.mp_plain.specs.Kept.{is_allowed_in}
+use Rattle.mp_defs.specs.Band.{is_allowed_in}
 use Rattle.mp_plain.proofs.Rows.{IsRowBelow}
 use Rattle.mp_plain.proofs.kept.row_of.Given as goal
 

@@ -18,7 +18,8 @@ returns-in-Err-ShelfFault-clause-shelf_fault g c = λ left _.
 
 pub returns-in-Err-ShelfFault-clause-shelf : goal.returns-in-Err-ShelfFault-clause-shelf
 returns-in-Err-ShelfFault-clause-shelf g c =
-    reworded c.in-Err-ShelfFault.ensures.shelf (λ file asks. asks) (λ _. ap Err c.in-Err-ShelfFault.field-0-is) (λ _. refl)
+    reworded c.in-Err-ShelfFault.ensures.shelf (λ file asks. asks) (λ _. ap Err c.in-Err-ShelfFault.field-0-is)
+    (λ _. refl)
 
 pub returns-in-Err-Memory-clause-shelf : goal.returns-in-Err-Memory-clause-shelf
 returns-in-Err-Memory-clause-shelf g c =

@@ -9,7 +9,8 @@ use Rattle.mp_session.specs.declared.top.Status.TheVariants as statuses
 use Rattle.mp_session.specs.Calls.{HasRoom, TellsInput, outside_at}
 use Rattle.mp_session.specs.Running.{course_at}
 use Rattle.mp_session.specs.Statuses.{ran as ran_by}
-use Rattle.mp_session.proofs.ServeLemmas.{Begins, Tells, all_asked, all_read, all_refused, all_told, by_touch, into_front}
+use Rattle.mp_session.proofs.ServeLemmas.{Begins, Tells, all_asked, all_read, all_refused, all_told, by_touch}
+use Rattle.mp_session.proofs.ServeLemmas.{into_front}
 use Rattle.mp_session.proofs.ServeLemmas.{into_quiet, no_job, no_refusal, no_summary, not_both_jobs, not_past}
 use Rattle.mp_session.proofs.ServeLemmas.{nothing_done, on_input_limit, on_memory, on_read_fault, on_shelf_fault}
 use Rattle.mp_session.proofs.ServeLemmas.{on_whole, on_words, on_write_fault, output_is, past_limit, ran_in}
@@ -33,7 +34,8 @@ returns g c = λ words asked.
     let r = c.run_lines-outcome.result in
     let status = c.status_of.result in
     let by = c.status_of.ensures in
-    let ran = ran_in r status by (IfOk-weaker r _ _ (λ refused all. all.0) lines.all) lines.read_fault lines.input_limit lines.memory
+    let ran = ran_in r status by (IfOk-weaker r _ _ (λ refused all. all.0) lines.all) lines.read_fault
+    lines.input_limit lines.memory
     (λ e. (lines.write_fault e).0) (λ e. (lines.shelf_fault e).0) in
     let is_output = λ (files : Files) (bytes : List ℕ).
     output_is words (Some (session_job settings)) files bytes (sym asked) in

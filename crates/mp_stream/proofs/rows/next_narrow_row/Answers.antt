@@ -66,7 +66,8 @@ pub returns-clause-offered : goal.returns-clause-offered
 returns-clause-offered c =
     let parts = are_parts _ _ _ _ _ _ _ _ _ _ _ _ c.requires.before (ap (λ list. length list - 1) c.as_slice.ensures)
     (ap (take (length c.as_slice.result.now - 1)) c.as_slice-2.ensures) refl refl refl refl c.first_sum-first.ensures in
-    offered_as limit_of c.args.free.now _ (distance_from c.args.m c.args.numbers.now (last_place c.args.m c.args.numbers.now)) _ _ 0 c.args.end _ _
+    offered_as limit_of c.args.free.now _
+    (distance_from c.args.m c.args.numbers.now (last_place c.args.m c.args.numbers.now)) _ _ 0 c.args.end _ _
     parts.count
     (λ i lt. row_is _ _ _ _ _ _ _ parts i (omega (arith, lt, parts.count, c.requires.within)))
     c.take_row-best.ensures.offered
@@ -75,5 +76,6 @@ pub returns-clause-best : goal.returns-clause-best
 returns-clause-best c =
     let parts = are_parts _ _ _ _ _ _ _ _ _ _ _ _ c.requires.before (ap (λ list. length list - 1) c.as_slice.ensures)
     (ap (take (length c.as_slice.result.now - 1)) c.as_slice-2.ensures) refl refl refl refl c.first_sum-first.ensures in
-    c.take_row-best.ensures.best ∙ best_as _ _ (distance_from c.args.m c.args.numbers.now (last_place c.args.m c.args.numbers.now)) c.args.end
+    c.take_row-best.ensures.best ∙ best_as _ _
+    (distance_from c.args.m c.args.numbers.now (last_place c.args.m c.args.numbers.now)) c.args.end
     (λ i lt. row_is _ _ _ _ _ _ _ parts i (omega (arith, lt, parts.count, c.requires.within)))

@@ -6,4 +6,5 @@ abbrev pub invariant-loop : goal.invariant-loop
 invariant-loop l = record {
   items : l.slots.items ≡ replicate l.counter None;
   room : l.places ≤ vec_capacity l.slots;
+  same : vec_capacity l.slots ≡ vec_capacity l.initial.slots;
 }

@@ -52,3 +52,6 @@ returns-clause-size c = (stay c).left ∙ sym (places c).left
 
 pub returns-clause-is_value : goal.returns-clause-is_value
 returns-clause-is_value c = two_columns _ _ _ refl ((stay c).right ∙ sym (stay c).left)
+
+pub returns-clause-room : goal.returns-clause-room
+returns-clause-room c = (scanned c).room

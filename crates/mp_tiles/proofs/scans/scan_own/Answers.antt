@@ -29,5 +29,5 @@ returns c =
       right = scanned.sides.right;
       places = stay.all ∙ sym all;
       is_value = profile_has_columns _ _ stay;
-      spare = scanned.spare;
+      room = (scanned.spare, scanned.sides.room);
     }

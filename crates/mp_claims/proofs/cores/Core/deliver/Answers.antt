@@ -1,9 +1,10 @@
-use Rattle.std.proofs.Common.{◌≡◌, length, set, get_or, map, [], subst, sym, ap, ◌∙◌}
+use Rattle.std.proofs.Common.{◌≡◌, length, set, get_or, map, [], ◌∷◌, subst, sym, ap, ◌∙◌}
 use Rattle.std.specs.Prelude.{None, slice_get}
 use Rattle.std.proofs.lemmas.List.{map-set}
 use Rattle.mp_claims.specs.Cores.{CoreState, deliver_refusal}
 use Rattle.mp_claims.specs.Standing.{Cored}
-use Rattle.mp_claims.proofs.Partials.{size_at, sizes_kept, count_kept, value_at, deliverer_has_partial}
+use Rattle.mp_claims.proofs.Partials.{size_at, sizes_kept, count_kept, rooms_kept, value_at}
+use Rattle.mp_claims.proofs.Partials.{deliverer_has_partial}
 use Rattle.mp_claims.proofs.cores.Core.deliver.Goals as goal
 
 pub move_into-requires-after_bounds : goal.move_into-requires-after_bounds
@@ -60,3 +61,16 @@ returns-clause-partials g c =
     map-set g.P.Part.value parts c.args.w c.move_into.new.partial
     ∙ ap (set (map g.P.Part.value parts) c.args.w) (c.move_into.ensures.partial ∙ ap g.P.Part.unit_of size)
     ∙ ap (λ (core : Cored). set core.partials c.args.w (g.P.Part.unit_of core.size)) c.self.view_is
+
+pub returns-clause-rooms : goal.returns-clause-rooms
+returns-clause-rooms g c =
+    let parts = c.self.inside.partials.items in
+    let fine = subst (λ (core : Cored). deliver_refusal (slice_get core.state.workers c.args.w) ≡ None)
+    (sym c.self.view_is) c.requires in
+    let there = deliverer_has_partial g.P.Part.size_of parts c.self.inside.board.workers c.args.w
+    c.self.invariant.each_worker fine in
+    ap (λ room. room ∷ map g.P.Part.room_of (set parts c.args.w c.move_into.new.partial)) c.move_into.ensures.total_room
+    ∙ ap (λ rooms. g.P.Part.room_of c.self.inside.total ∷ rooms)
+    (rooms_kept g.P.Part.room_of parts c.args.w c.index_mut.result.now c.move_into.new.partial there
+    c.index_mut.ensures.value c.move_into.ensures.partial_room)
+    ∙ ap (λ (core : Cored). core.rooms) c.self.view_is

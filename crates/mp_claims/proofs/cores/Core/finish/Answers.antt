@@ -1,10 +1,11 @@
-use Rattle.std.proofs.Common.{◌≡◌, length, set, get_or, map, [], subst, sym, ap, ◌∙◌}
+use Rattle.std.proofs.Common.{◌≡◌, length, set, get_or, map, [], ◌∷◌, subst, sym, ap, ◌∙◌}
 use Rattle.std.specs.Prelude.{Some, slice_get}
 use Rattle.std.proofs.lemmas.List.{length-set}
 use Rattle.mp_claims.specs.declared.states.WorkerState.TheVariants.{Free, Holds}
 use Rattle.mp_claims.specs.Cores.{CoreState}
 use Rattle.mp_claims.specs.Standing.{Cored}
-use Rattle.mp_claims.proofs.Partials.{size_at, sizes_kept, count_kept, values_set, holder_has_partial, same_piece}
+use Rattle.mp_claims.proofs.Partials.{size_at, sizes_kept, count_kept, values_set, rooms_kept, holder_has_partial}
+use Rattle.mp_claims.proofs.Partials.{same_piece}
 use Rattle.mp_claims.proofs.cores.Core.finish.Goals as goal
 
 pub run-requires-clause-size : goal.run-requires-clause-size
@@ -48,3 +49,13 @@ returns-clause-partials g c =
     (g.P.Part.merged (get_or (map g.P.Part.value parts) c.args.w []) (g.K.Kernel.value_of c.args.kernel.now j))) piece
     ∙ ap (λ (core : Cored). set core.partials c.args.w
     (g.P.Part.merged (get_or core.partials c.args.w []) (g.K.Kernel.value_of c.args.kernel.now k))) c.self.view_is
+
+pub returns-clause-rooms : goal.returns-clause-rooms
+returns-clause-rooms g c =
+    let parts = c.self.inside.partials.items in
+    let there = holder_has_partial g.P.Part.size_of parts c.self.inside.board.workers c.args.w c.finish-piece.result
+    c.self.invariant.each_worker c.finish-piece.ensures.piece in
+    ap (λ rooms. g.P.Part.room_of c.self.inside.total ∷ rooms)
+    (rooms_kept g.P.Part.room_of parts c.args.w c.index_mut.result.now c.run.new.into there c.index_mut.ensures.value
+    c.run.ensures.room)
+    ∙ ap (λ (core : Cored). core.rooms) c.self.view_is

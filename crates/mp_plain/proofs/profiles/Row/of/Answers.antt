@@ -12,7 +12,8 @@ loop-j-init c = row_begins _ _ _ _
 
 pub loop-j-preserved : goal.loop-j-preserved
 loop-j-preserved c =
-    let is_below : Row → Type 0 = λ row. IsRowBelow (is_allowed c.args.m) c.args.m (series_of c.args.samples.now) c.args.i
+    let is_below : Row → Type 0 = λ row. IsRowBelow (is_allowed c.args.m) c.args.m
+    (series_of c.args.samples.now) c.args.i
     (c.loop-j.j + 1) row in
     let before = c.loop-j.invariant in
     elim c.if-allowed.branch [

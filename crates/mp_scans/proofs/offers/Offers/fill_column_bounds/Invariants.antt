@@ -8,7 +8,8 @@ abbrev pub invariant-loop-k : goal.invariant-loop-k
 invariant-loop-k g l = record {
   places : length l.bounds ≡ length l.initial.bounds;
   done : (q : ℕ) → q < l.k → get_or l.free q false ≡ true
-      → TellsNothing l.rounding.m l.rounding.shift (first_at l.firsts q) (g.Self.Offers.keeps_column l.into (l.column + q))
+      → TellsNothing l.rounding.m l.rounding.shift (first_at l.firsts q)
+      (g.Self.Offers.keeps_column l.into (l.column + q))
       (item l.bounds q);
   fit : (q : ℕ) → q < l.k → FitsSigned w32 (item l.bounds q);
 }

@@ -35,8 +35,10 @@ add_sample-requires-clause-last c =
     let k = leaving store.keep items in
     let some : 1 ≤ store.keep = omega (arith, kept.shortest, kept.least) in
     let items_are : next.items ≡ drop k items ++ c.args.sample ∷ [] =
-    c.push.ensures.items ∙ pushed_items store.keep store.ring.capacity items c.args.sample kept.capacity kept.held some in
-    items_are ∙ ap (λ front. front ++ c.args.sample ∷ []) (sym (front_is (drop k items) next.items c.args.sample items_are))
+    c.push.ensures.items ∙ pushed_items store.keep store.ring.capacity items c.args.sample kept.capacity
+    kept.held some in
+    items_are ∙ ap (λ front. front ++ c.args.sample ∷ [])
+    (sym (front_is (drop k items) next.items c.args.sample items_are))
 
 pub add_sample-requires-clause-is_of : goal.add_sample-requires-clause-is_of
 add_sample-requires-clause-is_of c =
@@ -47,7 +49,8 @@ add_sample-requires-clause-is_of c =
     let k = leaving store.keep items in
     let some : 1 ≤ store.keep = omega (arith, kept.shortest, kept.least) in
     let items_are : next.items ≡ drop k items ++ c.args.sample ∷ [] =
-    c.push.ensures.items ∙ pushed_items store.keep store.ring.capacity items c.args.sample kept.capacity kept.held some in
+    c.push.ensures.items ∙ pushed_items store.keep store.ring.capacity items c.args.sample kept.capacity
+    kept.held some in
     let long : length next.items ≡ length items - k + 1 =
     ap length items_are ∙ length-append (drop k items) (c.args.sample ∷ []) ∙ ap (λ n. n + 1) (length-drop k items) in
     let dropped_is : next.dropped ≡ store.ring.dropped + k =
@@ -67,7 +70,8 @@ returns-clause-stands c = λ samples h.
     let k = leaving store.keep items in
     let some : 1 ≤ store.keep = omega (arith, kept.shortest, kept.least) in
     let items_are : next.items ≡ drop k items ++ c.args.sample ∷ [] =
-    c.push.ensures.items ∙ pushed_items store.keep store.ring.capacity items c.args.sample kept.capacity kept.held some in
+    c.push.ensures.items ∙ pushed_items store.keep store.ring.capacity items c.args.sample kept.capacity
+    kept.held some in
     let long : length next.items ≡ length items - k + 1 =
     ap length items_are ∙ length-append (drop k items) (c.args.sample ∷ []) ∙ ap (λ n. n + 1) (length-drop k items) in
     let dropped_is : next.dropped ≡ store.ring.dropped + k =
@@ -89,7 +93,8 @@ invariant_of-self c =
     let k = leaving store.keep items in
     let some : 1 ≤ store.keep = omega (arith, kept.shortest, kept.least) in
     let items_are : next.items ≡ drop k items ++ c.args.sample ∷ [] =
-    c.push.ensures.items ∙ pushed_items store.keep store.ring.capacity items c.args.sample kept.capacity kept.held some in
+    c.push.ensures.items ∙ pushed_items store.keep store.ring.capacity items c.args.sample kept.capacity
+    kept.held some in
     let long : length next.items ≡ length items - k + 1 =
     ap length items_are ∙ length-append (drop k items) (c.args.sample ∷ []) ∙ ap (λ n. n + 1) (length-drop k items) in
     let dropped_is : next.dropped ≡ store.ring.dropped + k =

@@ -1,5 +1,5 @@
 use Rattle.std.proofs.Common.{◌≡◌, ◌∙◌, subst}
-use Rattle.mp_stream.specs.Kept.{first_kept}
+use Rattle.mp_defs.specs.Band.{first_kept}
 use Rattle.mp_stream.proofs.KeptStands.{first_is}
 use Rattle.mp_stream.proofs.kept.Kept.first.Goals as goal
 

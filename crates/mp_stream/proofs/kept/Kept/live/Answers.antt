@@ -1,6 +1,6 @@
 use Rattle.std.proofs.Common.{◌≡◌, ◌∙◌, ap, subst}
 use Rattle.mp_defs.specs.Window.{windows}
-use Rattle.mp_stream.specs.Kept.{live_windows}
+use Rattle.mp_defs.specs.Band.{live_windows}
 use Rattle.mp_stream.proofs.KeptStands.{live_is}
 use Rattle.mp_stream.proofs.kept.Kept.live.Goals as goal
 

@@ -3,7 +3,8 @@ use Rattle.std.specs.Prelude.{None}
 use Rattle.std.proofs.lemmas.Simd.{get_or-zip2}
 use Rattle.mp_nums.specs.Near.{nearer_of}
 use Rattle.mp_partial.specs.Values.{merged_column}
-use Rattle.mp_stream.specs.Kept.{column_of, first_kept, live_windows}
+use Rattle.mp_defs.specs.Band.{first_kept, live_windows}
+use Rattle.mp_stream.specs.Kept.{column_of}
 use Rattle.mp_stream.specs.declared.kept.Column.TheVariants.{All}
 use Rattle.mp_stream.proofs.KeptStands.{live_is}
 use Rattle.mp_stream.proofs.kept.Kept.slot.Goals as goal

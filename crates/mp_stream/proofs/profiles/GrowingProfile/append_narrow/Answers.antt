@@ -42,7 +42,8 @@ returns-clause-offered c =
     let last : c.len.result - 1 ≡ last_place c.args.m c.args.numbers.now =
     omega (arith, c.len.ensures.right, waiting.ready.rights) in
     is_offered true c.args.m c.args.numbers.now (last_place c.args.m c.args.numbers.now) c.args.is_free
-    c.count_offered-end.result (c.len.result - 1) c.as_slice.result.now c.next_narrow_row-best.result c.next_narrow_row-best.new.entries c.args.self.now _
+    c.count_offered-end.result (c.len.result - 1) c.as_slice.result.now c.next_narrow_row-best.result
+    c.next_narrow_row-best.new.entries c.args.self.now _
     c.requires.narrow c.as_slice.ensures last c.count_offered-end.ensures.count next.offered next.best
     c.offer_best.ensures.right c.offer_best.ensures.left c.offer_best.ensures.first refl refl refl refl
     (record { narrow = next.turned.places; wide = waiting.rows.wide }) (λ _. next.turned.row) (λ is. absurd (cc))

@@ -1,10 +1,11 @@
-use Rattle.std.proofs.Common.{◌∙◌, List, ℤ, refl, subst, sym}
+use Rattle.std.proofs.Common.{◌∙◌, ap, List, ℤ, refl, subst, sym}
 use Rattle.std.specs.Prelude.{Option}
 use Rattle.std.specs.Vec.{with_items}
 use Rattle.std.proofs.lemmas.List.{with_items_is}
 use Rattle.mp_nums.specs.declared.nearest.Near.{Near}
 use Rattle.mp_tiles.specs.Compact.{AreBounds}
 use Rattle.mp_tiles.proofs.ColumnLemmas.{bounds_same}
+use Rattle.mp_tiles.specs.Sides.{Stored}
 use Rattle.mp_tiles.proofs.columns.Column.copy_from.Goals as goal
 
 pub invariant_of-self : goal.invariant_of-self
@@ -23,7 +24,7 @@ invariant_of-self c =
     (c.copy_slots.ensures ∙ c.as_slice.ensures.value) (c.copy_from_slice.ensures.after ∙ c.as_slice-2.ensures.value)
     c.other.invariant))
 
-pub returns : goal.returns
-returns c =
+pub returns-clause-slots : goal.returns-clause-slots
+returns-clause-slots c =
     with_items_is c.self.inside.slots c.copy_slots.new.slots (c.copy_slots.auto.slots ∙ c.as_mut_slice.ensures.len)
-    ∙ c.copy_slots.ensures ∙ c.as_slice.ensures.value ∙ c.other.view_is
+    ∙ c.copy_slots.ensures ∙ c.as_slice.ensures.value ∙ ap (λ (s : Stored). s.slots) c.other.view_is

@@ -10,7 +10,7 @@ abbrev pub invariant-loop-k : goal.invariant-loop-k
 invariant-loop-k l = record {
   places : length l.bounds ≡ length l.initial.bounds;
   done : (q : ℕ) → q < l.k → get_or l.free q false ≡ true
-      → TellsNothing l.rounding.m l.rounding.shift (first_at l.firsts q) (Covers (get_or l.self (l.place + q) None))
-      (item l.bounds q);
+      → TellsNothing l.rounding.m l.rounding.shift (first_at l.firsts q)
+      (Covers (get_or l.self.slots (l.place + q) None)) (item l.bounds q);
   fit : (q : ℕ) → q < l.k → FitsSigned w32 (item l.bounds q);
 }

@@ -3,6 +3,6 @@ use Rattle.mp_tiles.proofs.columns.Column.put.Given as goal
 
 abbrev pub invariant-loop-k : goal.invariant-loop-k
 invariant-loop-k l = record {
-  items : l.slots.items ≡ take l.k l.self;
-  room : length l.self ≤ l.slots.spare + l.k;
+  items : l.slots.items ≡ take l.k l.self.slots;
+  room : length l.self.slots ≤ l.slots.spare + l.k;
 }

@@ -6,6 +6,7 @@ use Rattle.std.proofs.lemmas.List.{length-set, with_items_is}
 use Rattle.mp_nums.specs.declared.nearest.Near.{Near}
 use Rattle.mp_tiles.specs.Compact.{AreBounds, slot_bound}
 use Rattle.mp_tiles.proofs.ColumnLemmas.{bounds_set}
+use Rattle.mp_tiles.specs.Sides.{Stored}
 use Rattle.mp_tiles.proofs.columns.Column.set.Goals as goal
 
 pub invariant_of-self : goal.invariant_of-self
@@ -25,7 +26,8 @@ invariant_of-self c =
     (sym (with_items_is inside.bounds bounds
     (length-set c.as_mut_slice.result.now place bound ∙ c.as_mut_slice.ensures.len)))
     (bounds_set place m shift inside.slots.items _ inside.bounds.items _ c.args.slot bound
-    c.as_mut_slice-2.ensures.value c.as_mut_slice.ensures.value (omega (arith, c.requires, ap length c.self.view_is))
+    c.as_mut_slice-2.ensures.value c.as_mut_slice.ensures.value
+    (omega (arith, c.requires, ap (λ (s : Stored). length s.slots) c.self.view_is))
     c.self.invariant
     (to_z-of_z w32 c.bound_of-bound.result fits ∙ c.bound_of-bound.ensures
     ∙ ap (slot_bound m shift) c.slot.ensures)))

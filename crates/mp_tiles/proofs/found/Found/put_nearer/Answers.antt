@@ -8,8 +8,8 @@ use Rattle.mp_tiles.proofs.found.Found.put_nearer.Goals as goal
 
 pub loop-k-preserved : goal.loop-k-preserved
 loop-k-preserved c =
-    let left = c.self.inside.left in
-    let right = c.self.inside.right in
+    let left = c.self.inside.left.slots in
+    let right = c.self.inside.right.slots in
     let k = c.loop-k.k in
     let both = merged_column left right in
     let places : length both ≡ length left = length-zip2 nearer_of left right (sym c.self.invariant) in
@@ -28,9 +28,10 @@ loop-k-preserved c =
 
 pub returns : goal.returns
 returns c =
-    let left = c.self.inside.left in
-    let both = merged_column left c.self.inside.right in
-    let places : length both ≡ length left = length-zip2 nearer_of left c.self.inside.right (sym c.self.invariant) in
+    let left = c.self.inside.left.slots in
+    let right = c.self.inside.right.slots in
+    let both = merged_column left right in
+    let places : length both ≡ length left = length-zip2 nearer_of left right (sym c.self.invariant) in
     c.loop-k.invariant.nearer
     ∙ take_all c.loop-k.k both (omega (arith, c.loop-k-test.false, c.len-k-end.ensures, places))
     ∙ ap (λ sides. merged_column sides.left sides.right) c.self.view_is

@@ -4,6 +4,6 @@ use Rattle.mp_tiles.proofs.found.Found.put_nearer.Given as goal
 
 abbrev pub invariant-loop-k : goal.invariant-loop-k
 invariant-loop-k l = record {
-  nearer : l.column.items ≡ take l.k (merged_column l.left l.right);
-  room : length l.left ≤ l.column.spare + l.k;
+  nearer : l.column.items ≡ take l.k (merged_column l.left.slots l.right.slots);
+  room : length l.left.slots ≤ l.column.spare + l.k;
 }

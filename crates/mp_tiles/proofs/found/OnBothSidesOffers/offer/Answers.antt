@@ -11,4 +11,4 @@ returns c m a b fits row column is =
     c.requires.may.0
     (subst (λ (x : Series). c.args.column < windows_of m x) (sym fits.1) column)
     (sym (same_series m a b c.args.row c.args.column (Some c.args.dist.0) fits.1 is)) c.offer.ensures.left
-    c.offer.ensures.right
+    c.offer.ensures.right c.offer.ensures.room

@@ -33,4 +33,4 @@ returns c m a b fits row column is =
     (c.offer.ensures.left ∙ ap (λ t. if t then offered old.left i at_j else old.left) (last i j order)))
     (c.offer-2.ensures.right ∙ ap (λ t. if t then offered mid.right j at_i else mid.right) (last i j order)
     ∙ c.offer.ensures.right ∙ ap (λ t. if t then offered old.right i at_j else old.right) (first i j order))
-    (c.offer-2.ensures.spare ∙ c.offer.ensures.spare)
+    (c.offer-2.ensures.room ∙ c.offer.ensures.room) (c.offer-2.ensures.spare ∙ c.offer.ensures.spare)

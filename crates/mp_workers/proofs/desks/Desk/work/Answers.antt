@@ -1,4 +1,4 @@
-use Rattle.std.proofs.Common.{◌<◌, ◌++◌, [], ◌∷◌, sym, ap, subst, ◌∙◌, arith}
+use Rattle.std.proofs.Common.{◌<◌, ◌++◌, [], ◌∷◌, refl, sym, ap, subst, ◌∙◌, arith}
 use Rattle.std.proofs.lemmas.List.Elements.{All-nil, All-push}
 use Rattle.mp_workers.proofs.Working.{last_below, room_stays, one_more_drawn, nothing_taken, one_drawn, one_more_taken}
 use Rattle.mp_workers.proofs.desks.Desk.work.Goals as goal
@@ -17,6 +17,7 @@ loop-piece-init g c =
       desk = c.claim-piece.ensures.desk;
       weight = c.claim-piece.ensures.weight;
       size = c.requires.size;
+      room = refl;
       is_value = is;
       drawn = (
         [],
@@ -69,6 +70,7 @@ loop-piece-preserved g c =
       desk = next.ensures.desk;
       weight = next.ensures.weight ∙ before.weight;
       size = c.run.ensures.size ∙ before.size;
+      room = c.run.ensures.room ∙ before.room;
       is_value = subst (λ n. part.is_value n (part.value c.run.new.into)) (c.run.ensures.size ∙ before.size)
           c.run.ensures.is_value;
       drawn = (
@@ -111,3 +113,6 @@ returns-clause-is_value g c =
     let part = g.K.Out.Part in
     subst (λ n. part.is_value n (part.value c.loop-piece.into)) (sym c.loop-piece.invariant.size)
     c.loop-piece.invariant.is_value
+
+pub returns-clause-room : goal.returns-clause-room
+returns-clause-room g c = c.loop-piece.invariant.room

@@ -11,6 +11,7 @@ invariant-loop-piece g l =
       desk : l.pass.desk ≡ l.self;
       weight : l.pass.weight ≡ l.fn.pass.weight;
       size : part.size_of l.into ≡ places;
+      room : part.room_of l.into ≡ part.room_of l.fn.into;
       is_value : part.is_value places (part.value l.into);
       drawn : (numbers : List ℕ) × (l.pass.drawn ≡ l.fn.pass.drawn ++ numbers ++ l.piece ∷ [])
           × All (λ number. number < l.self.pieces) numbers

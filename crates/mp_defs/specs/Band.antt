@@ -1,5 +1,5 @@
--- The profile of the windows that lie in the last samples of a series.
-use Rattle.std.specs.Prelude.{ℕ, ◌+◌, ◌-◌, List, Bool, ◌&&◌, nat_le, Option}
+-- The windows that lie in the last samples of a series, which are all that is kept of it, and their nearest windows.
+use Rattle.std.specs.Prelude.{ℕ, ◌+◌, ◌-◌, Bool, ◌&&◌, nat_le, List, Option}
 use Rattle.std.specs.Int.{abs_diff}
 use Rattle.mp_nums.specs.declared.nearest.Near.{Near}
 use Rattle.mp_defs.specs.Window.{is_allowed, windows}
