@@ -1,5 +1,5 @@
 -- What is kept of two windows in each channel, channel by channel.
-use Rattle.std.proofs.Common.{◌≡◌, ℕ, zero, suc, ◌+◌, ◌<◌, inl, inr, List, [], length, get_or, set, map}
+use Rattle.std.proofs.Common.{◌≡◌, ℕ, zero, suc, ◌+◌, ◌<◌, ◌≤◌, inl, inr, List, [], length, get_or, set, map}
 use Rattle.std.proofs.Common.{refl, sym, ap, ◌∙◌, arith, subst}
 use Rattle.std.specs.Prelude.{Option, Some, None, slice_get}
 use Rattle.std.specs.Option.{option_map}
@@ -32,6 +32,21 @@ set_next P past v n z lt before here q below = elim (cases_eq q n) [
 pub set_before : {X : Type 0} (P : ℕ → X → Type 0) (past : X) (v : List X) (n : ℕ) (z : X) (q : ℕ) → n < q
     → P q (get_or v q past) → P q (get_or (set v n z) q past)
 set_before P past v n z q lt there =
+    subst (P q) (sym (get_or-set_other v n q z past (λ same. omega (arith, lt, same)))) there
+
+-- ---- places that are filled from the last on
+
+pub set_last : {X : Type 0} (P : ℕ → X → Type 0) (past : X) (v : List X) (n : ℕ) (z : X) → n < length v
+    → ((q : ℕ) → n + 1 ≤ q → P q (get_or v q past)) → P n z → (q : ℕ) → n ≤ q → P q (get_or (set v n z) q past)
+set_last P past v n z lt behind here q le = elim (cases_eq q n) [
+  | inl same ↦ subst (λ k. P k (get_or (set v n z) k past)) (sym same)
+      (subst (P n) (sym (get_or-set_same v n z past lt)) here)
+  | inr other ↦ subst (P q) (sym (get_or-set_other v n q z past other)) (behind q (omega (arith, le, other)))
+]
+
+pub set_behind : {X : Type 0} (P : ℕ → X → Type 0) (past : X) (v : List X) (n : ℕ) (z : X) (q : ℕ) → q < n
+    → P q (get_or v q past) → P q (get_or (set v n z) q past)
+set_behind P past v n z q lt there =
     subst (P q) (sym (get_or-set_other v n q z past (λ same. omega (arith, lt, same)))) there
 
 -- ---- channels

@@ -1,5 +1,6 @@
 -- Columns of windows of least value, by the pairs that are compared.
-use Rattle.std.proofs.Common.{◌≡◌, ◌≢◌, ℕ, ◌<◌, inl, inr, length, get_or, set, Bool, true, false, refl, sym, ap}
+use Rattle.std.proofs.Common.{◌≡◌, ◌≢◌, ℕ, zero, suc, ◌+◌, ◌<◌, inl, inr, length, get_or, set, Bool, true, false, refl}
+use Rattle.std.proofs.Common.{sym, ap}
 use Rattle.std.proofs.Common.{◌∙◌, arith, subst}
 use Rattle.std.specs.Prelude.{Option, Some, None, ◌||◌, if◌then◌else◌, ⊤}
 use Rattle.std.specs.List.{range_with_len}
@@ -7,20 +8,21 @@ use Rattle.std.proofs.lemmas.Bool.{cases_eq}
 use Rattle.std.proofs.lemmas.Bool.Decides.{nat_tests}
 use Rattle.std.proofs.lemmas.List.{ext_get_or, length-set, length-replicate, get_or-set_same, get_or-set_other}
 use Rattle.std.proofs.lemmas.List.{get_or-replicate}
-use Rattle.std.proofs.lemmas.Simd.{zip2-map, length-zip2}
+use Rattle.std.proofs.lemmas.Simd.{zip2-map, length-zip2, get_or-zip2}
 use Rattle.mp_nums.specs.declared.nearest.Near.{Near}
 use Rattle.mp_nums.specs.Near.{nearer_of}
 use Rattle.mp_nums.specs.NearLaws.{nearer_associates, nearer_commutes, nearer_repeats, nearer_with_none}
 use Rattle.mp_defs.specs.Least.{near, at_distance, candidate}
-use Rattle.mp_defs.specs.LeastLaws.{near_same, near_both, near_none, near_one}
+use Rattle.mp_defs.specs.LeastLaws.{near_same, near_both, near_none, near_one, grows_by_one_candidate}
 use Rattle.mp_defs.specs.Profile.{column}
 use Rattle.mp_defs.specs.ColumnLaws.{columns_have_places}
 use Rattle.mp_partial.specs.Values.{Column, empty_column, merged_column}
 use Rattle.mp_partial.specs.MergeLaws.{zip_associates, zip_commutes, zip_unit_first}
 use Rattle.mp_partial.specs.Offers.{offers_are_merges}
 use Rattle.mp_scans.specs.Offering.{only}
+use Rattle.mp_scans.specs.Slots.{Covers}
 use Rattle.mp_tiles.specs.Scanning.{taken}
-use Rattle.mp_tiles.specs.TakenLaws.{taken_nothing}
+use Rattle.mp_tiles.specs.TakenLaws.{taken_nothing, covers_more}
 use Rattle.mp_multi.specs.Among.{least_column}
 
 -- ---- by which pairs there are
@@ -175,3 +177,50 @@ takes_one i j value w old new v long lt lt' is e =
     ∙ taken_is_merged old i (at_distance j (value i j)) (omega (arith, long, lt))
     ∙ ap (λ n. merged_column old (taken (empty_column n) i (at_distance j (value i j)))) long
     ∙ ap (merged_column old) (sym (alone i j value w lt lt'))
+
+-- ---- pairs that give nothing
+
+near_quiet : (slot : Option Near) (c : ℕ → Option Near) (n : ℕ) → ((j : ℕ) → j < n → nearer_of slot (c j) ≡ slot)
+    → nearer_of slot (near c n) ≡ slot
+near_quiet slot c zero h = ap (nearer_of slot) (grows_by_one_candidate.no_candidates c) ∙ (nearer_with_none slot).1
+near_quiet slot c (suc n) h =
+    let one : n + 1 ≡ suc n = omega arith in
+    subst (λ k. nearer_of slot (near c k) ≡ slot) one
+    (ap (nearer_of slot) (grows_by_one_candidate.one_more c n) ∙ sym (nearer_associates slot (near c n) (c n))
+    ∙ ap (λ s. nearer_of s (c n)) (near_quiet slot c n (λ j lt. h j (omega (arith, lt)))) ∙ h n (omega arith))
+
+by_test : (t : Bool) (j : ℕ) (value : Option ℕ) (slot : Option Near)
+    → ((v : ℕ) → t ≡ true → value ≡ Some v → Covers slot j v)
+    → nearer_of slot (if t then at_distance j value else None) ≡ slot
+by_test true j None slot h = (nearer_with_none slot).1
+by_test true j (Some v) slot h = h v refl refl
+by_test false j value slot h = (nearer_with_none slot).1
+
+at_taken : (p : ℕ → ℕ → Bool) (value : ℕ → ℕ → Option ℕ) (w : ℕ) (old : Column) (i : ℕ) → length old ≡ w → i < w
+    → get_or (merged_column old (least_column p value w)) i None
+    ≡ nearer_of (get_or old i None) (near (candidate (p i) (value i)) w)
+at_taken p value w old i long lt =
+    get_or-zip2 nearer_of old (least_column p value w) i None None None (omega (arith, lt, long))
+    (omega (arith, lt, least_places p value w))
+    ∙ ap (nearer_of (get_or old i None))
+    (columns_have_places.at_place (λ i'. near (candidate (p i') (value i')) w) w i lt)
+
+pub takes_quiet : (p : ℕ → ℕ → Bool) (value : ℕ → ℕ → Option ℕ) (w : ℕ) (old : Column) → length old ≡ w
+    → ((i j v : ℕ) → i < w → j < w → p i j ≡ true → value i j ≡ Some v → Covers (get_or old i None) j v)
+    → Takes p value w old old
+takes_quiet p value w old long h =
+    let new : Column = merged_column old (least_column p value w) in
+    ext_get_or None old new
+    (sym (length-zip2 nearer_of old (least_column p value w) (long ∙ sym (least_places p value w))))
+    (λ i lt. let below : i < w = omega (arith, lt, long) in
+    sym (at_taken p value w old i long below
+    ∙ near_quiet (get_or old i None) (candidate (p i) (value i)) w
+    (λ j small. by_test (p i j) j (value i j) (get_or old i None) (λ v is found. h i j v below small is found))))
+
+-- what gives a slot nothing still does, whatever it takes
+pub takes_covers : (p : ℕ → ℕ → Bool) (value : ℕ → ℕ → Option ℕ) (w : ℕ) (old new : Column) (i j v : ℕ)
+    → length old ≡ w → i < w → Takes p value w old new → Covers (get_or old i None) j v → Covers (get_or new i None) j v
+takes_covers p value w old new i j v long lt h covers =
+    subst (λ s. Covers s j v)
+    (sym (ap (λ (c : Column). get_or c i None) h ∙ at_taken p value w old i long lt))
+    (covers_more (get_or old i None) (near (candidate (p i) (value i)) w) j v covers)

@@ -7,4 +7,14 @@ pub mod ChannelLemmas
 pub mod ColumnLemmas
 pub mod ScanLemmas
 pub mod TileLaws
+pub mod PairScans
+pub mod BlockPairs
+pub mod LimitLemmas
+pub mod RunLemmas
+pub mod ExactLemmas
+pub mod GroupLemmas
 pub mod PieceLemmas
+pub mod LaneCounts
+pub mod LowestLanes
+pub mod GreatestLanes
+pub mod LaneLaws

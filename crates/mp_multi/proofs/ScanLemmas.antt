@@ -28,7 +28,7 @@ use Rattle.mp_multi.proofs.ColumnLemmas.{Takes, takes_places, takes_same, takes_
 
 -- ---- channels
 
-value_symmetric : (m k : ℕ) (channels : List Series) (i j : ℕ)
+pub value_symmetric : (m k : ℕ) (channels : List Series) (i j : ℕ)
     → pair_value m k channels i j ≡ pair_value m k channels j i
 value_symmetric m k channels i j =
     ap (sum_of_first k) (rising_same (distance_in m channels i j) (distance_in m channels j i) (length channels)

@@ -7,4 +7,9 @@ pub mod Tiles
 pub mod Tiling
 pub mod TilingLaws
 pub mod Laws
+pub mod LaneSums
+pub mod Lanes
+pub mod Moving
+pub mod Exacts
+pub mod Blocks
 pub mod Examples

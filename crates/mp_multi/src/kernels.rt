@@ -6,7 +6,7 @@ ghost use Rattle.mp_defs.specs.Window.{excl as zone};
 ghost use Rattle.mp_results.specs.Multi.{multi_of};
 ghost use Rattle.mp_multi.specs.Conditions.{AreChannels};
 
-use crate::scans::scan_multi;
+use crate::fast::scan_fast;
 use mp_cuts::{Cut, MAX_TILE, MAX_TILES, cut_own};
 use mp_nums::Slots;
 use mp_partial::Kernel;
@@ -84,6 +84,6 @@ impl<'a, const D: usize> Kernel for MultiTiles<'a, D> {
     }
 
     fn run(&self, piece: u64, into: &mut Slots) {
-        scan_multi::<D>(self.channels, self.m, self.k, &self.cut.tile(piece), into);
+        scan_fast::<D>(self.channels, self.m, self.k, &self.cut.tile(piece), into);
     }
 }

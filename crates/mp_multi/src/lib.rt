@@ -1,14 +1,27 @@
 //! The multidimensional profile: several channels together, by those in which two windows lie nearest.
 #![tactic(auto)]
 
+mod blocks;
 mod channels;
+mod exacts;
 mod examples;
+mod fast;
+mod groups;
 mod kernels;
+mod lanes;
 mod laws;
 mod limits;
+mod moves;
+mod pairs;
+mod plans;
 mod profiles;
 mod running;
+mod runs;
 mod scans;
+mod shifts;
+mod sides;
+mod sizes;
+mod strips;
 mod values;
 
 pub use examples::worked_profiles;

@@ -20,7 +20,7 @@ use mp_series::Bundle;
 
 /// Offers two windows of this value to each other.
 #[inline]
-fn offer_both(into: &mut Slots, i: u64, j: u64, value: Option<Sq>)
+pub(crate) fn offer_both(into: &mut Slots, i: u64, j: u64, value: Option<Sq>)
     requires first { i < length into.old.items }
     requires second { j < length into.old.items }
     ensures items { into.new.items ≡ taken (taken into.old.items i (at_distance j (option_map (λ v. v.0) value))) j
