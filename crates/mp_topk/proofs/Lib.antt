@@ -1,0 +1,4 @@
+pub mod Listing
+pub mod Places
+pub mod Taken
+pub mod Through

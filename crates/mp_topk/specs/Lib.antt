@@ -1,0 +1,13 @@
+pub mod Ranks
+pub mod Ranking
+pub mod RankLaws
+pub mod Laws
+pub mod OrderLaws
+pub mod Examples
+pub mod Taking
+pub mod TakingLaws
+pub mod ScanLaws
+pub mod OfferLaws
+pub mod LastLaws
+pub mod Tiling
+pub mod TileLaws

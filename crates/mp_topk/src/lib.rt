@@ -1,0 +1,17 @@
+//! The nearest windows of each window, in their order: the first of them is the entry of the matrix profile.
+#![tactic(auto)]
+
+mod examples;
+mod kernels;
+mod laws;
+mod lists;
+mod offers;
+mod placing;
+mod profiles;
+mod ranks;
+mod scans;
+
+pub use examples::{plain_ranks, tied_ranks};
+pub use laws::{candidates_are_in_order, first_rank_is_the_entry};
+pub use profiles::nearest;
+pub use ranks::{MAX_RANKS, Ranks};

@@ -1,0 +1,41 @@
+//! The scan of a tile.
+
+ghost use Rattle.std.specs.Prelude.{◌≡◌, ◌+◌, length, map};
+ghost use Rattle.mp_defs.specs.Series.{series_of};
+ghost use Rattle.mp_defs.specs.Window.{windows, excl};
+ghost use Rattle.mp_cuts.specs.Pairs.{has_pair, IsTileBetween};
+ghost use Rattle.mp_tiles.specs.Among.{either_way};
+ghost use Rattle.mp_topk.specs.Ranking.{HasRanks, merged_ranks, slots_of};
+ghost use Rattle.mp_topk.specs.Tiling.{among_value};
+
+use crate::offers::EachToOther;
+use crate::ranks::Ranks;
+use mp_cuts::Tile;
+use mp_partial::Part;
+use mp_scans::{Plan, scan};
+
+/// Merges the ranks by the tile's pairs into these: each two windows of a pair, where no sample is missing, are offered
+/// to each other.
+pub(crate) fn take_tile<const K: usize>(plan: &Plan, tile: &Tile, into: &mut Ranks<K>)
+    requires same { plan.now.grid.columns.now ≡ plan.now.grid.rows.now }
+    requires tile { IsTileBetween (excl plan.now.grid.m + 1)
+        (windows (length plan.now.grid.rows.now) plan.now.grid.m)
+        (windows (length plan.now.grid.rows.now) plan.now.grid.m) tile.now }
+    requires places { length into.old.lists ≡ windows (length plan.now.grid.rows.now) plan.now.grid.m }
+    ensures value { map slots_of into.new.lists ≡ merged_ranks K (map slots_of into.old.lists)
+        (among_value K (either_way (has_pair 0 tile.now)) plan.now.grid.m (series_of plan.now.grid.rows.now)) }
+    ensures size { length into.new.lists ≡ length into.old.lists }
+    ensures is_value { HasRanks K (length into.new.lists) (map slots_of into.new.lists) }
+    ensures room { into.new.spare ≡ into.old.spare }
+{
+    let _windows = into.size();
+    scan::<EachToOther<K>>(
+        plan,
+        tile.first as usize,
+        tile.last as usize + 1,
+        tile.first_row as usize,
+        tile.last_row as usize + 1,
+        into,
+    );
+    let _same_windows = into.size();
+}
