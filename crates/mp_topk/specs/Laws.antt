@@ -9,7 +9,8 @@ use Rattle.mp_topk.specs.Ranking.{is_rising}
 
 -- the first rank of a window is its entry in the matrix profile
 abbrev pub FirstIsEntry : Type 0
-FirstIsEntry = (k m : ℕ) (a : Series) (i : ℕ) → 1 ≤ k → slice_get (ranks k m a i) 0 ≡ entry (is_allowed m) m a i
+FirstIsEntry = (k m : ℕ) (a : Series) (i : ℕ) → 1 ≤ k
+    → slice_get (ranks k m a i) 0 ≡ entry (is_allowed m) m a i
 
 -- x is one of a list
 unfoldable pub StandsIn : Near → List Near → Type 0

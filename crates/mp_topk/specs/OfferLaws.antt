@@ -56,7 +56,8 @@ no_other_second i j c lt ne = grind (arith, nat_tests)
 no_other : (i j r c : ℕ) → r ≢ i → r ≢ j → either_way (only i j) r c ≡ false
 no_other i j r c ne ne' = grind (arith, nat_tests)
 
-chosen_at : (may : ℕ → ℕ → Bool) (m : ℕ) (a : Series) (i j d : ℕ) → may i j ≡ true → distance m a i a j ≡ Some d
+chosen_at : (may : ℕ → ℕ → Bool) (m : ℕ) (a : Series) (i j d : ℕ) → may i j ≡ true
+    → distance m a i a j ≡ Some d
     → chosen may m a i j ≡ Some (near_at j d)
 chosen_at may m a i j d e f = at (may i j) (distance m a i a j) e f
   where
@@ -65,7 +66,8 @@ chosen_at may m a i j d e f = at (may i j) (distance m a i a j) e f
     at true x e f = ap (at_distance j) f
     at false x e f = absurd (cc)
 
-not_chosen : (may : ℕ → ℕ → Bool) (m : ℕ) (a : Series) (i j : ℕ) → may i j ≡ false → chosen may m a i j ≡ None
+not_chosen : (may : ℕ → ℕ → Bool) (m : ℕ) (a : Series) (i j : ℕ) → may i j ≡ false
+    → chosen may m a i j ≡ None
 not_chosen may m a i j e = ap (λ t. if t then at_distance j (distance m a i a j) else None) e
 
 one_put : (k : ℕ) (list : List Near) (x : Near) → take k (put_all list (x ∷ [])) ≡ take k (put x list)
@@ -76,7 +78,8 @@ nothing_put : (k : ℕ) (list : List Near) → take k (put_all list []) ≡ take
 unfolding put_all
 nothing_put k list = refl
 
-pub pair_taken : (k i j d m : ℕ) (a : Series) (old : List (List Near)) → AreFew k old → length old ≡ windows_of m a
+pub pair_taken : (k i j d m : ℕ) (a : Series) (old : List (List Near)) → AreFew k old
+    → length old ≡ windows_of m a
     → i < j → j < windows_of m a → distance m a i a j ≡ Some d
     → AreTaken k (either_way (only i j)) m a old (put_at k (put_at k old i (near_at j d)) j (near_at i d))
 pair_taken k i j d m a old few long order lt is = record {
@@ -133,7 +136,8 @@ either_true : (s t : Bool) → (s || t) ≡ true → (s ≡ true) ⊎ (t ≡ tru
 either_true true t e = inl refl
 either_true false t e = inr e
 
-either_none : (p : ℕ → ℕ → Bool) → ((i j : ℕ) → p i j ≡ false) → (i j : ℕ) → either_way p i j ≡ false
+either_none : (p : ℕ → ℕ → Bool) → ((i j : ℕ) → p i j ≡ false) → (i j : ℕ)
+    → either_way p i j ≡ false
 either_none p none i j = ap (λ t. t || p j i) (none i j) ∙ none j i
 
 either_same : (p q : ℕ → ℕ → Bool) (w : ℕ) → ((i j : ℕ) → i < w → j < w → p i j ≡ q i j)
@@ -150,15 +154,18 @@ not_both : (t : Bool) → t ≡ false → t ≡ true → ⊥
 not_both t e f = cc
 
 -- the only pair is without a distance
-pair_missing : (i j m : ℕ) (a : Series) → distance m a i a j ≡ None → (r c : ℕ) → either_way (only i j) r c ≡ true
+pair_missing : (i j m : ℕ) (a : Series) → distance m a i a j ≡ None → (r c : ℕ)
+    → either_way (only i j) r c ≡ true
     → distance m a r a c ≡ None
 pair_missing i j m a missing r c is = elim (which i j r c is) [
-  | inl e ↦ subst (λ n. distance m a n a c ≡ None) (sym e.0) (subst (λ n. distance m a i a n ≡ None) (sym e.1) missing)
+  | inl e ↦ subst (λ n. distance m a n a c ≡ None) (sym e.0)
+      (subst (λ n. distance m a i a n ≡ None) (sym e.1) missing)
   | inr e ↦ subst (λ n. distance m a n a c ≡ None) (sym e.0)
       (subst (λ n. distance m a j a n ≡ None) (sym e.1) (symmetric m a j a i ∙ missing))
 ]
   where
-    which : (i j r c : ℕ) → either_way (only i j) r c ≡ true → ((r ≡ i) × (c ≡ j)) ⊎ ((r ≡ j) × (c ≡ i))
+    which : (i j r c : ℕ) → either_way (only i j) r c ≡ true
+        → ((r ≡ i) × (c ≡ j)) ⊎ ((r ≡ j) × (c ≡ i))
     which i j r c is = elim (cases_eq r i) [
       | inl e ↦ elim (cases_eq c j) [
         | inl f ↦ inl (e, f)
@@ -267,5 +274,6 @@ ranks_limit k = record {
       (omega (arith, lt, wide, h.places)) g;
 }
   where
-    in_other : (m : ℕ) (a b : Series) (i j d : ℕ) → a ≡ b → distance m a i a j ≡ Some d → distance m a i b j ≡ Some d
+    in_other : (m : ℕ) (a b : Series) (i j d : ℕ) → a ≡ b → distance m a i a j ≡ Some d
+        → distance m a i b j ≡ Some d
     in_other m a b i j d e h = subst (λ (x : Series). distance m a i x j ≡ Some d) e h

@@ -66,7 +66,8 @@ unfolding StandsIn put
 still_stands x z [] h = absurd h
 still_stands x z (y ∷ ys) h = stands_by x y z ys (comes_before x y) (comes_before y x) h (still_stands x z ys)
 
-new_by : (x y : Near) (ys : List Near) (first second : Bool) → comes_before x y ≡ first → comes_before y x ≡ second
+new_by : (x y : Near) (ys : List Near) (first second : Bool) → comes_before x y ≡ first
+    → comes_before y x ≡ second
     → StandsIn x (put x ys)
     → StandsIn x (if first then x ∷ y ∷ ys else if second then y ∷ put x ys else y ∷ ys)
 unfolding StandsIn
@@ -79,7 +80,8 @@ unfolding StandsIn put
 new_stands x [] = inl refl
 new_stands x (y ∷ ys) = new_by x y ys (comes_before x y) (comes_before y x) refl refl (new_stands x ys)
 
-from_by : (x y z : Near) (ys : List Near) (first second : Bool) → (StandsIn z (put x ys) → (z ≡ x) ⊎ StandsIn z ys)
+from_by : (x y z : Near) (ys : List Near) (first second : Bool)
+    → (StandsIn z (put x ys) → (z ≡ x) ⊎ StandsIn z ys)
     → StandsIn z (if first then x ∷ y ∷ ys else if second then y ∷ put x ys else y ∷ ys)
     → (z ≡ x) ⊎ ((z ≡ y) ⊎ StandsIn z ys)
 unfolding StandsIn
@@ -110,7 +112,8 @@ unfolding in_order StandsIn
 are_candidates c zero x h = absurd h
 are_candidates c (suc n) x h = candidates_by c n x (c n) refl (are_candidates c n x) h
 
-candidates_stand : (c : ℕ → Option Near) (n j : ℕ) (x : Near) → j < n → c j ≡ Some x → StandsIn x (in_order c n)
+candidates_stand : (c : ℕ → Option Near) (n j : ℕ) (x : Near) → j < n → c j ≡ Some x
+    → StandsIn x (in_order c n)
 unfolding in_order
 candidates_stand c zero j x lt e = absurd (omega (arith, lt))
 candidates_stand c (suc n) j x lt e = elim (last_or_before n j lt) [

@@ -43,7 +43,8 @@ take_front (suc k) z zs = ap (λ xs. z ∷ xs) (take_again k (suc k) zs (omega a
 -- whatever stands before what
 taken_by : (k : ℕ) (x z : Near) (zs : List Near) (first second : Bool)
     → take k (put x (take k zs)) ≡ take k (put x zs)
-    → take (suc k) (if first then x ∷ z ∷ take k zs else if second then z ∷ put x (take k zs) else z ∷ take k zs)
+    → take (suc k) (if first then x ∷ z ∷ take k zs else if second then z ∷ put x
+    (take k zs) else z ∷ take k zs)
     ≡ take (suc k) (if first then x ∷ z ∷ zs else if second then z ∷ put x zs else z ∷ zs)
 taken_by k x z zs true second h = ap (λ xs. x ∷ xs) (take_front k z zs)
 taken_by k x z zs false true h = ap (λ xs. z ∷ xs) h
@@ -100,7 +101,8 @@ rising_tail x xs h = (one_of (precedes x xs) (is_rising xs) h).1
 pub put_before : (x : Near) (xs : List Near) → precedes x xs ≡ true → put x xs ≡ x ∷ xs
 unfolding precedes put
 put_before x [] h = refl
-put_before x (y ∷ ys) h = ap (λ t. if t then x ∷ y ∷ ys else if comes_before y x then y ∷ put x ys else y ∷ ys) h
+put_before x (y ∷ ys) h = ap (λ t. if t then x ∷ y ∷ ys else if comes_before y x then y ∷ put x ys else
+    y ∷ ys) h
 
 -- they are what they give, put one by one
 put_in_order : (xs : List Near) → is_rising xs ≡ true → put_all [] xs ≡ xs
@@ -109,7 +111,8 @@ put_in_order [] h = refl
 put_in_order (x ∷ xs) h = ap (put x) (put_in_order xs (rising_tail x xs h))
     ∙ put_before x xs (rising_head x xs h)
 
-precedes_by : (x y z : Near) (zs : List Near) (first second : Bool) → comes_before y x ≡ true → comes_before y z ≡ true
+precedes_by : (x y z : Near) (zs : List Near) (first second : Bool) → comes_before y x ≡ true
+    → comes_before y z ≡ true
     → precedes y (if first then x ∷ z ∷ zs else if second then z ∷ put x zs else z ∷ zs) ≡ true
 unfolding precedes
 precedes_by x y z zs true second e f = e
@@ -122,7 +125,8 @@ unfolding precedes put
 precedes_put x y [] e f = e
 precedes_put x y (z ∷ zs) e f = precedes_by x y z zs (comes_before x z) (comes_before z x) e f
 
-rises_by : (x y : Near) (ys : List Near) (first second : Bool) → comes_before x y ≡ first → comes_before y x ≡ second
+rises_by : (x y : Near) (ys : List Near) (first second : Bool) → comes_before x y ≡ first
+    → comes_before y x ≡ second
     → is_rising (y ∷ ys) ≡ true → is_rising (put x ys) ≡ true
     → is_rising (if first then x ∷ y ∷ ys else if second then y ∷ put x ys else y ∷ ys) ≡ true
 unfolding is_rising precedes
@@ -184,7 +188,8 @@ pub lists_commute : (k : ℕ) (a b : List Near) → is_rising a ≡ true → is_
 lists_commute k a b g h = ap (λ xs. take k (put_all xs b)) (sym (put_in_order a g))
     ∙ ap (take k) (all_commute [] a b) ∙ ap (λ xs. take k (put_all xs a)) (put_in_order b h)
 
-lists_associate : (k : ℕ) (a b c : List Near) → is_rising a ≡ true → is_rising b ≡ true → is_rising c ≡ true
+lists_associate : (k : ℕ) (a b c : List Near) → is_rising a ≡ true → is_rising b ≡ true
+    → is_rising c ≡ true
     → merged_list k (merged_list k a b) c ≡ merged_list k a (merged_list k b c)
 lists_associate k a b c f g h = take_all k (put_all a b) c
     ∙ ap (λ xs. take k (put_all (put_all xs b) c)) (sym (put_in_order a f))
@@ -201,7 +206,8 @@ lists_repeat k a few h = ap (λ xs. take k (put_all xs a)) (sym (put_in_order a 
 lists_unit : (k : ℕ) (a : List Near) → length a ≤ k → is_rising a ≡ true → merged_list k [] a ≡ a
 lists_unit k a few h = ap (take k) (put_in_order a h) ∙ take_few k a few
 
-merged_is : (k : ℕ) (a b : List (Option Near)) → those_in (merged_slots k a b) ≡ merged_list k (those_in a) (those_in b)
+merged_is : (k : ℕ) (a b : List (Option Near)) → those_in (merged_slots k a b) ≡ merged_list k (those_in a)
+    (those_in b)
 merged_is k a b = those_in_slots (take k (put_all (those_in a) (those_in b)))
 
 slots_commute : (k : ℕ) (a b : List (Option Near)) → AreRanks k a → AreRanks k b
@@ -228,7 +234,8 @@ slots_are k a b g h = are_ranks k (take k (put_all (those_in a) (those_in b)))
 
 -- ---- place by place
 
-zip_commutes_where : {A : Type 0} (P : A → Type 0) (f : A → A → A) → ((a b : A) → P a → P b → f a b ≡ f b a)
+zip_commutes_where : {A : Type 0} (P : A → Type 0) (f : A → A → A)
+    → ((a b : A) → P a → P b → f a b ≡ f b a)
     → (xs ys : List A) → All P xs → All P ys → zip2 f xs ys ≡ zip2 f ys xs
 zip_commutes_where P f h [] [] p q = refl
 zip_commutes_where P f h [] (y ∷ ys) p q = refl
@@ -240,7 +247,8 @@ zip_commutes_where P f h (x ∷ xs) (y ∷ ys) p q = cc (
 
 zip_associates_where : {A : Type 0} (P : A → Type 0) (f : A → A → A)
     → ((a b c : A) → P a → P b → P c → f (f a b) c ≡ f a (f b c))
-    → (xs ys zs : List A) → All P xs → All P ys → All P zs → zip2 f (zip2 f xs ys) zs ≡ zip2 f xs (zip2 f ys zs)
+    → (xs ys zs : List A) → All P xs → All P ys → All P zs
+    → zip2 f (zip2 f xs ys) zs ≡ zip2 f xs (zip2 f ys zs)
 zip_associates_where P f h [] ys zs p q r = refl
 zip_associates_where P f h (x ∷ xs) [] zs p q r = refl
 zip_associates_where P f h (x ∷ xs) (y ∷ ys) [] p q r = refl
@@ -249,7 +257,8 @@ zip_associates_where P f h (x ∷ xs) (y ∷ ys) (z ∷ zs) p q r = cc (
   zip_associates_where P f h xs ys zs (All-tail P x xs p) (All-tail P y ys q) (All-tail P z zs r),
 )
 
-zip_repeats_where : {A : Type 0} (P : A → Type 0) (f : A → A → A) → ((a : A) → P a → f a a ≡ a) → (xs : List A)
+zip_repeats_where : {A : Type 0} (P : A → Type 0) (f : A → A → A) → ((a : A) → P a → f a a ≡ a)
+    → (xs : List A)
     → All P xs → zip2 f xs xs ≡ xs
 zip_repeats_where P f h [] p = refl
 zip_repeats_where P f h (x ∷ xs) p =
@@ -262,7 +271,8 @@ no_ranks_have k size = record {
   ranks = All-replicate (AreRanks k) size [] (are_ranks k [] (omega arith) refl);
 }
 
-merged_have : (k size : ℕ) (a b : Value) → HasRanks k size a → HasRanks k size b → HasRanks k size (merged_ranks k a b)
+merged_have : (k size : ℕ) (a b : Value) → HasRanks k size a → HasRanks k size b
+    → HasRanks k size (merged_ranks k a b)
 merged_have k size a b g h = record {
   places = length-zip2 (merged_slots k) a b (g.places ∙ sym h.places) ∙ g.places;
   ranks = all_zip (merged_slots k) (AreRanks k) (λ x y p q. slots_are k x y p q) a b g.ranks h.ranks;

@@ -16,7 +16,8 @@ use Rattle.mp_topk.specs.TakingLaws.{GivesNothing, IsEither, gives_nothing_more,
 
 -- ---- candidates
 
-pub order_same : (c d : ℕ → Option Near) (n : ℕ) → ((j : ℕ) → j < n → c j ≡ d j) → in_order c n ≡ in_order d n
+pub order_same : (c d : ℕ → Option Near) (n : ℕ) → ((j : ℕ) → j < n → c j ≡ d j)
+    → in_order c n ≡ in_order d n
 unfolding in_order
 order_same c d zero h = refl
 order_same c d (suc n) h = ap (λ x. put_if_there x (in_order c n)) (h n (omega arith))
@@ -54,7 +55,8 @@ all_all xs ys (z ∷ zs) = ap (put z) (all_all xs ys zs) ∙ sym (put_last z xs 
 -- ---- each place
 
 -- place i has the first k of what it had and of the windows that may be chosen for window i
-pub record AreTaken (k : ℕ) (may : ℕ → ℕ → Bool) (m : ℕ) (a : Series) (old new : List (List Near)) : Type 0 where
+pub record AreTaken (k : ℕ) (may : ℕ → ℕ → Bool) (m : ℕ) (a : Series) (old new : List (List Near)) :
+    Type 0 where
   pub places : length new ≡ length old
   pub at : (i : ℕ) → i < length old
       → get_or new i [] ≡ take k (put_all (get_or old i []) (in_order (chosen may m a i) (windows_of m a)))
@@ -63,12 +65,14 @@ pub record AreTaken (k : ℕ) (may : ℕ → ℕ → Bool) (m : ℕ) (a : Series
 abbrev pub AreFew : ℕ → List (List Near) → Type 0
 AreFew k lists = (i : ℕ) → take k (get_or lists i []) ≡ get_or lists i []
 
-none_chosen : (t : Bool) (j : ℕ) (d : Option ℕ) → (t ≡ true → d ≡ None) → (if t then at_distance j d else None) ≡ None
+none_chosen : (t : Bool) (j : ℕ) (d : Option ℕ) → (t ≡ true → d ≡ None)
+    → (if t then at_distance j d else None) ≡ None
 none_chosen true j d h = ap (at_distance j) (h refl)
 none_chosen false j d h = refl
 
 -- where no pair has a distance, nothing changes
-pub taken_none : (k : ℕ) (may : ℕ → ℕ → Bool) (m : ℕ) (a : Series) (lists : List (List Near)) → AreFew k lists
+pub taken_none : (k : ℕ) (may : ℕ → ℕ → Bool) (m : ℕ) (a : Series) (lists : List (List Near))
+    → AreFew k lists
     → ((i j : ℕ) → may i j ≡ true → distance m a i a j ≡ None) → AreTaken k may m a lists lists
 unfolding put_all
 taken_none k may m a lists few h = record {
@@ -78,7 +82,8 @@ taken_none k may m a lists few h = record {
       (λ j less. none_chosen (may i j) j (distance m a i a j) (h i j))) ∙ few i);
 }
 
-pub still_few : (k : ℕ) (may : ℕ → ℕ → Bool) (m : ℕ) (a : Series) (old new : List (List Near)) → AreFew k old
+pub still_few : (k : ℕ) (may : ℕ → ℕ → Bool) (m : ℕ) (a : Series) (old new : List (List Near))
+    → AreFew k old
     → AreTaken k may m a old new → AreFew k new
 still_few k may m a old new few h i = elim (below_or i (length old)) [
   | inl lt ↦ ap (take k) (h.at i lt)
@@ -97,7 +102,8 @@ still_few k may m a old new few h i = elim (below_or i (length old)) [
     nothing zero = refl
     nothing (suc k) = refl
 
-    past : (k i : ℕ) (lists : List (List Near)) → length lists ≤ i → take k (get_or lists i []) ≡ get_or lists i []
+    past : (k i : ℕ) (lists : List (List Near)) → length lists ≤ i
+        → take k (get_or lists i []) ≡ get_or lists i []
     past k i [] le = nothing k
     past k zero (x ∷ xs) le = absurd (omega (arith, le))
     past k (suc i) (x ∷ xs) le = past k i xs (omega (arith, le))
@@ -155,9 +161,11 @@ taken_then k p q m a old mid new g h = record {
 }
 
 -- pairs that give nothing change nothing
-pub taken_quiet : (k : ℕ) (may : ℕ → ℕ → Bool) (m : ℕ) (a : Series) (lists : List (List Near)) → AreFew k lists
+pub taken_quiet : (k : ℕ) (may : ℕ → ℕ → Bool) (m : ℕ) (a : Series) (lists : List (List Near))
+    → AreFew k lists
     → length lists ≡ windows_of m a
-    → ((i j d : ℕ) → i < windows_of m a → j < windows_of m a → may i j ≡ true → distance m a i a j ≡ Some d
+    → ((i j d : ℕ) → i < windows_of m a → j < windows_of m a → may i j ≡ true
+    → distance m a i a j ≡ Some d
     → GivesNothing k (get_or lists i []) (near_at j d))
     → AreTaken k may m a lists lists
 taken_quiet k may m a lists few long h = record {
@@ -176,7 +184,8 @@ taken_quiet k may m a lists few long h = record {
     by_choice false j dist i x g e = absurd (cc)
 
 -- and it stays so
-pub taken_stays : (k : ℕ) (may : ℕ → ℕ → Bool) (m : ℕ) (a : Series) (old new : List (List Near)) (i : ℕ) (x : Near)
+pub taken_stays : (k : ℕ) (may : ℕ → ℕ → Bool) (m : ℕ) (a : Series) (old new : List (List Near)) (i : ℕ)
+    (x : Near)
     → AreTaken k may m a old new → i < length old → GivesNothing k (get_or old i []) x
     → GivesNothing k (get_or new i []) x
 taken_stays k may m a old new i x h lt g = subst (λ list. GivesNothing k list x) (sym (h.at i lt))

@@ -22,5 +22,6 @@ abbrev pub lists_among : ℕ → (ℕ → ℕ → Bool) → ℕ → Series → L
 lists_among k may m a = map (ranks_among k may m a) (range_with_len 0 (windows_of m a))
 
 -- each place has the first k of what it had and of the windows that may be chosen for it
-abbrev pub HaveTaken : ℕ → (ℕ → ℕ → Bool) → ℕ → Series → List (List Near) → List (List Near) → Type 0
+abbrev pub HaveTaken : ℕ → (ℕ → ℕ → Bool) → ℕ → Series → List (List Near) → List (List Near)
+    → Type 0
 HaveTaken k may m a old new = new ≡ merged_lists k old (lists_among k may m a)

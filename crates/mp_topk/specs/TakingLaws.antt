@@ -17,7 +17,8 @@ same_window x y e f = grind (arith, nat_tests, e, f)
 
 put_by : (xs : List Near) (x y : Near) (ys : List Near) (first second : Bool) → comes_before x y ≡ first
     → comes_before y x ≡ second → put_all xs (put x ys) ≡ put x (put_all xs ys)
-    → put_all xs (if first then x ∷ y ∷ ys else if second then y ∷ put x ys else y ∷ ys) ≡ put x (put y (put_all xs ys))
+    → put_all xs (if first then x ∷ y ∷ ys else if second then y ∷ put x ys else y ∷ ys) ≡ put x
+    (put y (put_all xs ys))
 unfolding put_all
 put_by xs x y ys true second e f h = refl
 put_by xs x y ys false true e f h = ap (put y) h ∙ put_commutes y x (put_all xs ys)

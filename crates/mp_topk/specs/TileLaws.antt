@@ -43,7 +43,8 @@ ranks_same : (k : ℕ) (p q : ℕ → ℕ → Bool) (m : ℕ) (a : Series) (i : 
 ranks_same k p q m a i same = ap (take k) (order_same (chosen p m a i) (chosen q m a i) (windows_of m a)
     (λ j lt. ap (λ t. if t then at_distance j (distance m a i a j) else None) (same j lt)))
 
-pub as_long : (k : ℕ) (may : ℕ → ℕ → Bool) (m : ℕ) (a : Series) → length (lists_among k may m a) ≡ windows_of m a
+pub as_long : (k : ℕ) (may : ℕ → ℕ → Bool) (m : ℕ) (a : Series)
+    → length (lists_among k may m a) ≡ windows_of m a
 as_long k may m a = length-map-range_with_len (ranks_among k may m a) 0 (windows_of m a)
 
 pub at_window : (k : ℕ) (may : ℕ → ℕ → Bool) (m : ℕ) (a : Series) (i : ℕ) → i < windows_of m a
@@ -64,11 +65,13 @@ nothing_taken : (k : ℕ) → take {A = Near} k [] ≡ []
 nothing_taken zero = refl
 nothing_taken (suc k) = refl
 
-all_alike : (f : ℕ → List Near) (xs : List ℕ) → ((i : ℕ) → f i ≡ []) → map f xs ≡ replicate (length xs) []
+all_alike : (f : ℕ → List Near) (xs : List ℕ) → ((i : ℕ) → f i ≡ [])
+    → map f xs ≡ replicate (length xs) []
 all_alike f [] h = refl
 all_alike f (x ∷ xs) h = cc (h x, all_alike f xs h)
 
-none_listed : (f : ℕ → List Near) (n : ℕ) → ((i : ℕ) → f i ≡ []) → map f (range_with_len 0 n) ≡ replicate n []
+none_listed : (f : ℕ → List Near) (n : ℕ) → ((i : ℕ) → f i ≡ [])
+    → map f (range_with_len 0 n) ≡ replicate n []
 none_listed f n h = all_alike f (range_with_len 0 n) h
     ∙ ap (λ l. replicate l []) (sym (length-map (range_with_len 0 n) f) ∙ length-map-range_with_len f 0 n)
 
@@ -84,7 +87,8 @@ value_none k may m a none = ap (map slots_of) (none_listed (ranks_among k may m 
     ∙ no_slots (windows_of m a)
 
 -- of both kinds, place by place
-both_listed : (k : ℕ) (f g h : ℕ → List Near) (xs : List ℕ) → ((i : ℕ) → take k (put_all (f i) (g i)) ≡ h i)
+both_listed : (k : ℕ) (f g h : ℕ → List Near) (xs : List ℕ)
+    → ((i : ℕ) → take k (put_all (f i) (g i)) ≡ h i)
     → merged_ranks k (map slots_of (map f xs)) (map slots_of (map g xs)) ≡ map slots_of (map h xs)
 both_listed k f g h [] e = refl
 both_listed k f g h (x ∷ xs) e = cc (
@@ -133,7 +137,8 @@ count_cons : (p : Tile → Bool) (x : Tile) (xs : List Tile)
     → count_by p (x ∷ xs) ≡ (if p x then 1 else 0) + count_by p xs
 count_cons p x xs = omega (arith, sum_by-append (λ y. if p y then 1 else 0) (x ∷ []) xs)
 
-some_more : (t : Tile) (ts : List Tile) (i j : ℕ) → (has_pair 0 t i j || some_has ts i j) ≡ some_has (t ∷ ts) i j
+some_more : (t : Tile) (ts : List Tile) (i j : ℕ) → (has_pair 0 t i j || some_has ts i j) ≡ some_has
+    (t ∷ ts) i j
 some_more t ts i j =
     sym (ap (nat_lt 0) (count_cons (λ u. has_pair 0 u i j) t ts)
     ∙ one_more (has_pair 0 t i j) (count_by (λ u. has_pair 0 u i j) ts))
@@ -156,7 +161,8 @@ tiles_together tile k m a (n ∷ ns) =
     let there = either_way (some_has (map tile ns)) in
     ap (merged_ranks k (among_value k here m a)) (tiles_together tile k m a ns)
     ∙ value_either k here there m a
-    ∙ ap (map slots_of) (lists_same k (λ i j. here i j || there i j) (either_way (some_has (map tile (n ∷ ns)))) m a
+    ∙ ap (map slots_of) (lists_same k (λ i j. here i j || there i j)
+    (either_way (some_has (map tile (n ∷ ns)))) m a
     (λ i j _ _. either_more (tile n) (map tile ns) i j))
 
 tiles_by_number : (tiles : List Tile)
@@ -177,10 +183,12 @@ once_or_not true n e = rw e refl
 once_or_not false n e = rw e refl
 
 -- windows that may be compared are a pair from one side or the other
-one_side : (t u : Bool) (i j : ℕ) → t ≡ u → (i ≡ j → t ≡ false) → ((nat_lt i j && t) || (nat_lt j i && u)) ≡ t
+one_side : (t u : Bool) (i j : ℕ) → t ≡ u → (i ≡ j → t ≡ false)
+    → ((nat_lt i j && t) || (nat_lt j i && u)) ≡ t
 one_side t u i j e h = grind (arith, nat_tests)
 
-any_tiles : (may : ℕ → ℕ → Bool) → IsIrreflexive may → IsSymmetric may → (k m : ℕ) (a : Series) (tiles : List Tile)
+any_tiles : (may : ℕ → ℕ → Bool) → IsIrreflexive may → IsSymmetric may
+    → (k m : ℕ) (a : Series) (tiles : List Tile)
     → HoldEachOnce may (windows_of m a) tiles → tiles_value k m a tiles ≡ among_value k may m a
 any_tiles may irreflexive symmetric k m a tiles once =
     let has = λ (i j : ℕ) (lt : j < windows_of m a). once_or_not (nat_lt i j && may i j)
@@ -189,14 +197,17 @@ any_tiles may irreflexive symmetric k m a tiles once =
     ∙ ap (map slots_of) (lists_same k (either_way (some_has tiles)) may m a
     (λ i j lt lt'.
     ap (λ p. p || some_has tiles j i) (has i j lt') ∙ ap (λ p. (nat_lt i j && may i j) || p) (has j i lt)
-    ∙ one_side (may i j) (may j i) i j (symmetric i j) (λ e. subst (λ (n : ℕ). may i n ≡ false) e (irreflexive i))))
+    ∙ one_side (may i j) (may j i) i j (symmetric i j)
+    (λ e. subst (λ (n : ℕ). may i n ≡ false) e (irreflexive i))))
 
 outside_zone : (e i j : ℕ) → (nat_lt i j && nat_lt (i + e) j) ≡ (nat_lt i j && nat_lt e (abs_diff i j))
 outside_zone e i j = grind (arith, nat_tests)
 
-own_tiles_hold_each_once : (m w width : ℕ) → 0 < width → HoldEachOnce (is_allowed m) w (own_tiles w (excl m) width)
+own_tiles_hold_each_once : (m w width : ℕ) → 0 < width
+    → HoldEachOnce (is_allowed m) w (own_tiles w (excl m) width)
 own_tiles_hold_each_once m w width pos i j lt =
-    cuts_hold_each_pair_once.own w (excl m) width pos i j lt ∙ ap (λ t. if t then 1 else 0) (outside_zone (excl m) i j)
+    cuts_hold_each_pair_once.own w (excl m) width pos i j lt
+    ∙ ap (λ t. if t then 1 else 0) (outside_zone (excl m) i j)
 
 pub make_the_ranks : TilesMakeTheRanks
 make_the_ranks k m width a pos =
