@@ -3,7 +3,7 @@ use Rattle.std.proofs.Common.{◌≡◌, ℕ, ℤ, zero, suc, ◌+◌, ◌<◌, 
 use Rattle.std.proofs.Common.{length, map, get_or, set, replicate, refl, ap, ◌∙◌, sym, arith, subst, append_assoc}
 use Rattle.std.proofs.Common.{length-append, slice_index_or}
 use Rattle.std.specs.declared.alloc.Global.{Global}
-use Rattle.std.specs.Prelude.{All, Option, None, Result, Ok, Err, IfErr, IsOk, is_ok, if◌then◌else◌}
+use Rattle.std.specs.Prelude.{All, Option, Some, None, Result, Ok, Err, IfErr, IsOk, is_ok, if◌then◌else◌}
 use Rattle.std.specs.List.{range_with_len}
 use Rattle.std.proofs.lemmas.Bool.Decides.{nat_tests}
 use Rattle.std.proofs.lemmas.List.{get_or-map, length-map, map-append, map-set}
@@ -13,20 +13,26 @@ use Rattle.std.proofs.lemmas.List.Splits.{length-slice_split}
 use Rattle.std.proofs.lemmas.List.Sums.{count_by-le-length}
 use Rattle.std.proofs.lemmas.Simd.{map-map}
 use Rattle.mp_bytes.specs.Values.{is_comma, values_in}
+use Rattle.mp_defs.specs.Limits.{max_samples}
 use Rattle.mp_defs.specs.Series.{Series, reading_of, series_of}
 use Rattle.mp_nums.specs.declared.samples.Sample.{Sample}
 use Rattle.mp_text.specs.Rows.{Row, column_at, columns_of, onto}
 use Rattle.mp_text.specs.declared.refusal.SampleFault.{SampleFault}
-use Rattle.mp_replies.specs.AppendCommand.{append_conditions, bad_in, item_of, items_of, read_items, row_with, rows_in}
-use Rattle.mp_replies.specs.AppendCommand.{samples_of, value_of}
+use Rattle.mp_replies.specs.AppendCommand.{append_conditions, bad_in, item_of, items_of, most_samples, read_items}
+use Rattle.mp_replies.specs.AppendCommand.{row_with, rows_in, samples_of, value_of}
 use Rattle.mp_replies.specs.Command.{AppendReport}
 use Rattle.mp_replies.specs.Change as change
-use Rattle.mp_replies.specs.Change.{extended}
+use Rattle.mp_replies.specs.Change.{extended, grown as added_to}
 use Rattle.mp_replies.specs.Command as asked
 use Rattle.mp_replies.specs.Conditions.{first_cause}
 use Rattle.mp_replies.specs.Line.{Asks}
-use Rattle.mp_replies.specs.State.{Files, State, channels_at, samples_in}
-use Rattle.mp_stores.specs.Stores.{lists_in}
+use Rattle.mp_replies.specs.State.{Files, State, Store, Closed, Open, Kept, channels_at, channels_in}
+use Rattle.mp_replies.specs.State.{samples_in, store_at}
+use Rattle.mp_stores.specs.StoreLaws.{last_as_before}
+use Rattle.mp_stores.specs.Stores as held
+use Rattle.mp_stores.specs.Stores.{Held, HasRoomIn, HaveRoom, HoldsAsBefore, channel_count, count_in, count_of}
+use Rattle.mp_stores.specs.Stores.{keep_of, lists_in, sample_count, streams_in}
+use Rattle.mp_stream.specs.Kept.{Keeping}
 use Rattle.mp_requests.specs.declared.answers.Answer.TheVariants.{Accepted}
 use Rattle.mp_requests.specs.declared.reports.Report.TheVariants as report
 use Rattle.mp_commands.specs.declared.prepared.Prepared.{Prepared}
@@ -363,6 +369,16 @@ samples_added (channel ∷ channels) rows (suc count) long some =
     length-append channel (column_at rows 0)
     ∙ ap (λ (n : ℕ). length channel + n) (length-map rows (λ (values : Row). slice_index_or values 0 None))
 
+-- behind an append a slot has a sample more for each row
+samples_grown : (store : Store) (rows : List Row) (count : ℕ) → length (channels_in store) ≡ count → 0 < count
+    → samples_in (channels_in (added_to store (columns_of count rows))) ≡ samples_in (channels_in store) + length rows
+samples_grown Closed rows count long some = absurd (omega (arith, long, some))
+samples_grown (Open channels) rows count long some = samples_added channels rows count long some
+samples_grown (Kept keep series) rows zero long some = absurd (omega (arith, some))
+samples_grown (Kept keep series) rows (suc count) long some =
+    length-append series (column_at rows 0)
+    ∙ ap (λ (n : ℕ). length series + n) (length-map rows (λ (values : Row). slice_index_or values 0 None))
+
 pub appended : (state : State) (slot : ℕ) (items : List (List ℕ)) (files : Files) (added : List (List Sample))
     (samples : ℕ) (prepared : Prepared) → 0 < length (channels_at state.stores slot)
     → first_cause (append_conditions state.scale state.stores slot items) ≡ None
@@ -380,9 +396,40 @@ appended state slot items files added samples prepared some fine good is long an
     let rows = rows_in (read_items state.scale (length channels) items) in
     let columns = columns_of (length channels) rows in
     let behind : samples_in (channels_at (change.changed stores (change.AddSamples slot columns)) slot) ≡ samples =
-    ap samples_in (channels_put stores slot (extended channels columns) (open_within stores slot _ fine))
-    ∙ (samples_added channels rows (length channels) refl some
+    ap samples_in (channels_put stores slot (added_to (store_at stores slot) columns) (open_within stores slot _ fine))
+    ∙ (samples_grown (store_at stores slot) rows (length channels) refl some
     ∙ (ap (λ (n : ℕ). samples_in channels + n) (good_rows state.scale (length channels) items good) ∙ sym long)) in
     prepared_accepted state files (asked.Append slot items) (report.Append samples) prepared fine refl answer
     (ap AppendReport (sym behind))
     (put ∙ ap (change.AddSamples slot) is)
+
+-- ---- the room
+
+pub most_few : (keep : Option ℕ) → most_samples keep ≤ 4294967296
+most_few None = omega arith
+most_few (Some keep) = omega arith
+
+count_first : (added : List (List Sample)) (count : ℕ) → length added ≡ 1
+    → All (λ samples. length samples ≡ count) added → count_of added ≡ count
+count_first [] count one even = absurd (omega (arith, one))
+count_first (samples ∷ added) count one even =
+    All-head (λ (s : List Sample). length s ≡ count) samples added even
+
+-- a slot that has so much room for as many samples of each channel
+pub room_in : (old new : Held) (added : List (List Sample)) (channels count : ℕ) → HoldsAsBefore old new
+    → channels ≡ channel_count old → 0 < channels → length added ≡ channels
+    → All (λ samples. length samples ≡ count) added → sample_count old + count ≤ most_samples (keep_of old)
+    → (length added ≡ length (streams_in new) → All (λ samples. length samples ≡ count) added
+    → count_in (streams_in old) + count ≤ max_samples → HaveRoom (streams_in new) added)
+    → HasRoomIn new added
+room_in held.Closed new added channels count same are some long even fits room = absurd (omega (arith, are, some))
+room_in (held.Open old) held.Closed added channels count same are some long even fits room = absurd same
+room_in (held.Open old) (held.Open new) added channels count same are some long even fits room =
+    let more = (last_as_before old new same).count in room (omega (arith, long, are, more)) even fits
+room_in (held.Open old) (held.Kept new) added channels count same are some long even fits room = absurd same
+room_in (held.Kept old) held.Closed added channels count same are some long even fits room = absurd same
+room_in (held.Kept old) (held.Open new) added channels count same are some long even fits room = absurd same
+room_in (held.Kept old) (held.Kept new) added channels count same are some long even fits room =
+    let one = long ∙ are in
+    let before = ap (λ (k : Keeping). k.count) same in
+    record { one = one; fits = omega (arith, fits, before, count_first added count one even) }

@@ -19,13 +19,13 @@ use Rattle.mp_replies.specs.declared.causes.Cause.TheVariants as cause
 use Rattle.mp_replies.specs.Command.{LoadReport}
 use Rattle.mp_replies.specs.Change as change
 use Rattle.mp_replies.specs.Command as asked
-use Rattle.mp_replies.specs.Conditions.{Condition, first_cause, when}
+use Rattle.mp_replies.specs.Conditions.{Condition, first_cause, kept_slot, when}
 use Rattle.mp_replies.specs.LimitLaws.{all_long}
 use Rattle.mp_replies.specs.Limits.{max_channels, max_file}
 use Rattle.mp_replies.specs.Line.{Asks}
 use Rattle.mp_replies.specs.LoadCommand.{channels_of, file_conditions, file_in, load_conditions, series_in, table_in}
 use Rattle.mp_replies.specs.Numbers.{all_some, column, columns}
-use Rattle.mp_replies.specs.State.{Files, State, Store, channels_at, samples_in}
+use Rattle.mp_replies.specs.State.{Files, State, Store, Open, channels_at, samples_in}
 use Rattle.mp_stores.specs.Stores.{HaveWindow, count_of, items_in}
 use Rattle.mp_stream.specs.Streams.{Streamed}
 use Rattle.mp_requests.specs.declared.answers.Answer.TheVariants.{Accepted, Refused}
@@ -69,8 +69,9 @@ first_before (condition ∷ others) more cause h =
 load_within : (stores : List Store) (slot : ℕ) (cols : List ℕ) → first_cause (load_conditions stores slot cols) ≡ None
     → slot < length stores
 load_within stores slot cols h =
-    open_within stores slot (first_cause (when (not (length cols == length (channels_at stores slot))) cause.Channel ∷
-    [])) h
+    open_within stores slot
+    (first_cause (kept_slot stores slot ∷ when (not (length cols == length (channels_at stores slot))) cause.Channel
+    ∷ [])) h
 
 -- ---- refusals
 
@@ -245,7 +246,7 @@ loaded state files slot file cols header bytes bundle first samples prepared non
     refl answer
     (ap LoadReport
     (sym (ap samples_in
-    (channels_put state.stores slot (channels_of state.scale cols header (file_in files file))
+    (channels_put state.stores slot (Open (channels_of state.scale cols header (file_in files file)))
     (load_within state.stores slot cols none))
     ∙ behind)))
     (put ∙ ap (change.PutChannels slot) (sym channels))

@@ -10,10 +10,10 @@ use Rattle.mp_replies.specs.Command.{Command}
 use Rattle.mp_replies.specs.Conditions.{first_cause}
 use Rattle.mp_replies.specs.LimitLaws.{limits_kept}
 use Rattle.mp_replies.specs.Line.{Asked, Nothing, Asks, Faulty, asked_of, ends}
-use Rattle.mp_replies.specs.State.{Files, State, first_version}
+use Rattle.mp_replies.specs.State.{Files, State}
 use Rattle.mp_replies.specs.Step.{change_in, conditions, fetches_by, verdict_by, verdict_of}
 use Rattle.mp_stores.specs.Stores.{StandAsBefore, Stored}
-use Rattle.mp_stores.specs.StoreLaws.{channel_lasts, items_last}
+use Rattle.mp_stores.specs.StoreLaws.{items_last, slot_lasts}
 use Rattle.mp_requests.specs.declared.answers.Answer.{Answer}
 use Rattle.mp_requests.specs.declared.answers.Answer.TheVariants.{Silent, Refused, Accepted, Ended}
 use Rattle.mp_requests.specs.declared.context.Context.{Context}
@@ -24,8 +24,8 @@ use Rattle.mp_requests.specs.declared.requests.Comparison.TheVariants.{Join, Mpd
 use Rattle.mp_requests.specs.declared.requests.ReportRequest.{ReportRequest}
 use Rattle.mp_requests.specs.declared.requests.ReportRequest.TheVariants.{Compare}
 use Rattle.mp_requests.specs.Answering.{IsAnswer}
-use Rattle.mp_requests.specs.Requests.{AreNamed, AsksForReport, IsWithinLimits, NamesChannels, compared_by, is_ended}
-use Rattle.mp_requests.specs.Requests.{kind_by, reported_in}
+use Rattle.mp_requests.specs.Requests.{AreNamed, AsksForReport, IsNamed, IsWithinLimits, NamesChannels, compared_by}
+use Rattle.mp_requests.specs.Requests.{is_ended, kind_by, reported_in}
 use Rattle.mp_commands.specs.declared.prepared.Change.{Change}
 use Rattle.mp_commands.specs.declared.prepared.Change.TheVariants.{Keep}
 use Rattle.mp_commands.specs.declared.prepared.Prepared.{Prepared}
@@ -36,9 +36,9 @@ use Rattle.mp_commands.proofs.FileLemmas.{no_file}
 
 -- ---- the line
 
-pub limits_by : (line : List ℕ) (what : Asked) → what ≡ asked_of first_version line → IsWithinLimits what
-limits_by line (Asks command) is = limits_kept first_version line command (sym is)
-limits_by line other is = tt
+pub limits_by : (version : ℕ) (line : List ℕ) (what : Asked) → what ≡ asked_of version line → IsWithinLimits what
+limits_by version line (Asks command) is = limits_kept version line command (sym is)
+limits_by version line other is = tt
 
 -- ---- a request
 
@@ -69,6 +69,7 @@ keep_in : (state : State) (files : Files) (what : Asked) → AsksForReport what
 keep_in state files Nothing h = refl
 keep_in state files (Faulty cause) h = refl
 keep_in state files (Asks (asked.OpenAnew slot channels)) h = absurd h
+keep_in state files (Asks (asked.KeepLast slot keep)) h = absurd h
 keep_in state files (Asks (asked.Load slot file columns header)) h = absurd h
 keep_in state files (Asks (asked.Append slot items)) h = absurd h
 keep_in state files (Asks other) h = keep_by other (first_cause (conditions state files other))
@@ -100,15 +101,25 @@ prepared_report state files request prepared answer is same kept = record {
 }
 
 -- what a report names is still there where only reads and room were changed
+named_lasts : (old new : Stored) (at : Ref) → StandAsBefore old new → IsNamed old at → IsNamed new at
+named_lasts old new at last there =
+    let count = (slot_lasts old new at.slot last).channels in
+    let inside = there.channel in
+    record { slot = there.slot; channel = omega (arith, inside, count) }
+
 report_lasts : (old new : Stored) (report : reports.Report) → StandAsBefore old new → AreNamed old report
     → AreNamed new report
-report_lasts old new (report.Profile at) last there = channel_lasts old new at last there
-report_lasts old new (report.Entry at start) last there = record {
-  channel = channel_lasts old new at last there.channel;
-  within =
-      let same = ap series_of (items_last old new at last) in
-      omega (arith, last.window_is, ap length same, there.within);
-}
+report_lasts old new (report.Profile at) last there = named_lasts old new at last there
+report_lasts old new (report.Entry at start) last there =
+    let slot = slot_lasts old new at.slot last in
+    record {
+      named = named_lasts old new at last there.named;
+      within = λ all.
+          let same = ap series_of (items_last old new at last) in
+          let before = there.within (sym slot.keep ∙ all) in
+          omega (arith, last.window_is, ap length same, before);
+      live = λ kept is. there.live kept (slot.kept kept is);
+    }
 report_lasts old new other last there = tt
 
 pub names_last : (old new : Stored) (answer : Answer) → StandAsBefore old new → NamesChannels old answer
@@ -147,12 +158,13 @@ prepared_faulty context what held prepared cause why answer same kept is =
       is = λ stores stand. record { answer_is = rw (answer ∙ ap Refused same) refl; change_is = ap changed_by kept };
     })
 
-pub refused_ends : (line : List ℕ) (answer : Answer) (cause why : Cause) → answer ≡ Refused cause
-    → Faulty why ≡ asked_of first_version line → is_ended (kind_by answer) ≡ ends line
-refused_ends line answer cause why same is = ap (λ a. is_ended (kind_by a)) same ∙ sym (ends_by line (Faulty why) is)
+pub refused_ends : (version : ℕ) (line : List ℕ) (answer : Answer) (cause why : Cause) → answer ≡ Refused cause
+    → Faulty why ≡ asked_of version line → is_ended (kind_by answer) ≡ ends line
+refused_ends version line answer cause why same is =
+    ap (λ a. is_ended (kind_by a)) same ∙ sym (ends_by version line (Faulty why) is)
 
-pub ends_of : {E : Type 0} (result : Result Prepared E) (line : List ℕ) (what : Asked) (held : Stored)
-    → what ≡ asked_of first_version line → IfOk result (IsReady what held)
+pub ends_of : {E : Type 0} (version : ℕ) (result : Result Prepared E) (line : List ℕ) (what : Asked) (held : Stored)
+    → what ≡ asked_of version line → IfOk result (IsReady what held)
     → IfOk result (λ prepared. is_ended (kind_by prepared.answer) ≡ ends line)
-ends_of (Ok prepared) line what held is h = h.ends ∙ sym (ends_by line what is)
-ends_of (Err stop) line what held is h = tt
+ends_of version (Ok prepared) line what held is h = h.ends ∙ sym (ends_by version line what is)
+ends_of version (Err stop) line what held is h = tt

@@ -6,7 +6,7 @@ use Rattle.mp_replies.specs.Line.{Asked, Nothing, Asks}
 use Rattle.mp_replies.specs.Numbers.{columns}
 use Rattle.mp_requests.specs.Requests.{reported_in}
 use Rattle.mp_commands.specs.declared.requests.ChangeRequest.{ChangeRequest}
-use Rattle.mp_commands.specs.declared.requests.ChangeRequest.TheVariants.{Open, Load, Append}
+use Rattle.mp_commands.specs.declared.requests.ChangeRequest.TheVariants.{Open, Keep, Load, Append}
 use Rattle.mp_commands.specs.declared.requests.Load as loads
 use Rattle.mp_commands.specs.declared.requests.Request.{Request}
 use Rattle.mp_commands.specs.declared.requests.Request.TheVariants.{Blank, Change, Report}
@@ -16,6 +16,7 @@ asks_for load = Asks (commands.Load load.slot load.file.now (unwrap_or (columns 
 
 abbrev pub changed_in : ChangeRequest → Asked
 changed_in (Open opening) = Asks (commands.OpenAnew opening.slot opening.channels)
+changed_in (Keep keeping) = Asks (commands.KeepLast keeping.slot keeping.keep)
 changed_in (Load load) = asks_for load
 changed_in (Append more) = Asks (commands.Append more.slot (fields_in more.items.now))
 

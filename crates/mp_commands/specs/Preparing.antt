@@ -1,8 +1,9 @@
 -- What is prepared for a line before anything changes, and the change.
 use Rattle.std.specs.Prelude.{◌≡◌, ℕ, ◌<◌, ◌==◌, Bool, true, false, List, [], All, length, map}
-use Rattle.std.specs.Prelude.{Option, Some, Result, IfOk, OnErr}
+use Rattle.std.specs.Prelude.{Option, Some, None, if◌then◌else◌, Result, IfOk, OnErr}
 use Rattle.mp_nums.specs.declared.samples.Sample.{Sample}
 use Rattle.mp_defs.specs.Series.{series_of}
+use Rattle.mp_stream.specs.Kept.{Keeping, StandsFor}
 use Rattle.mp_stream.specs.Streams.{Streamed}
 use Rattle.mp_text.specs.Table.{Fault, BadField, NoField, TooManyRows}
 use Rattle.mp_replies.specs.declared.causes.Cause.{Cause}
@@ -15,12 +16,12 @@ use Rattle.mp_replies.specs.State.{Files, State, Store}
 use Rattle.mp_replies.specs.Step.{change_in, fetches_by, verdict_of}
 use Rattle.mp_outside.specs.Counts.{Rose, raised}
 use Rattle.mp_outside.specs.declared.shelves.Shelf as shelves
-use Rattle.mp_stores.specs.Stores.{Stored, AreEven, CanOpen, HaveRoom, StandFor, lists_in, series_in, streams_at}
+use Rattle.mp_stores.specs.Stores.{Stored, AreEven, CanOpen, HasRoomIn, StandFor, lists_in, series_in, slot_at}
 use Rattle.mp_requests.specs.declared.context.Context.{Context}
 use Rattle.mp_requests.specs.Answering.{IsAnswer, IsUnrefused, state_over}
-use Rattle.mp_requests.specs.Requests.{NamesChannels, is_accepted, is_ended, kind_by}
+use Rattle.mp_requests.specs.Requests.{NamesChannels, is_accepted, is_ended, kind_by, version_asked, version_named}
 use Rattle.mp_commands.specs.declared.prepared.Change.{Change}
-use Rattle.mp_commands.specs.declared.prepared.Change.TheVariants.{Keep, PutChannels, AddSamples}
+use Rattle.mp_commands.specs.declared.prepared.Change.TheVariants.{Keep, PutChannels, PutKept, AddSamples}
 use Rattle.mp_commands.specs.declared.prepared.Prepared.{Prepared}
 use Rattle.mp_commands.specs.Reads.{renews}
 
@@ -33,6 +34,7 @@ ToldFor told state asked files = fetches_by state asked ≡ true → told ≡ So
 abbrev pub changed_by : Change → change.Change
 changed_by Keep = change.Keep
 changed_by (PutChannels slot channels) = change.PutChannels slot (series_in channels.items)
+changed_by (PutKept slot kept) = change.PutKept slot kept.keep
 changed_by (AddSamples slot added) = change.AddSamples slot (map series_of (lists_in added.items))
 
 -- what was prepared for a line: its answer, and its change
@@ -44,18 +46,21 @@ pub record IsPrepared (state : State) (files : Files) (asked : Asked) (prepared 
 abbrev pub puts : Change → ℕ → Bool
 puts Keep slot = false
 puts (PutChannels at channels) slot = slot == at
+puts (PutKept at kept) slot = slot == at
 puts (AddSamples at added) slot = false
 
 -- whether it adds samples to a slot
 abbrev pub adds : Change → ℕ → Bool
 adds Keep slot = false
 adds (PutChannels at channels) slot = false
+adds (PutKept at kept) slot = false
 adds (AddSamples at added) slot = slot == at
 
 -- samples are added by an append alone, as many to each channel as it has items
 abbrev pub AddsAsAsked : Asked → Change → Type 0
 AddsAsAsked line Keep = Unit {0}
 AddsAsAsked line (PutChannels slot channels) = Unit {0}
+AddsAsAsked line (PutKept slot kept) = Unit {0}
 AddsAsAsked (Asks (asked.Append at items)) (AddSamples slot added) =
     (slot ≡ at) × All (λ samples. length samples ≡ length items) (lists_in added.items)
 AddsAsAsked other (AddSamples slot added) = ⊥
@@ -87,17 +92,24 @@ pub record CanPut (m slot : ℕ) (channels : List Streamed) : Type 0 where
   pub within : slot < slot_count
   pub are : CanOpen m channels
 
+-- a channel without a sample, of which nothing was read, and of which the last samples can be kept in a slot
+pub record CanPutKept (m slot : ℕ) (kept : Keeping) : Type 0 where
+  pub within : slot < slot_count
+  pub window : kept.m ≡ m
+  pub empty : StandsFor [] kept
+  pub unread : kept.reads ≡ 0
+
 -- as many samples for each channel, for which there is room
 pub record CanAdd (held : Stored) (slot : ℕ) (added : List (List Sample)) : Type 0 where
   pub within : slot < slot_count
-  pub is_open : 0 < length (streams_at held slot)
-  pub room : HaveRoom (streams_at held slot) added
+  pub room : HasRoomIn (slot_at held slot) added
   pub even : AreEven added
 
 -- the change needs no memory
 abbrev pub CanMake : Stored → Change → Type 0
 CanMake held Keep = Unit {0}
 CanMake held (PutChannels slot channels) = CanPut held.m slot channels.items
+CanMake held (PutKept slot kept) = CanPutKept held.m slot kept
 CanMake held (AddSamples slot added) = CanAdd held slot (lists_in added.items)
 
 -- ---- a line
@@ -119,8 +131,9 @@ pub record IsPreparedBySome (context : Context) (what : Asked) (held : Stored) (
   pub is : (stores : List Store) → StandFor held stores
       → IsPrepared (state_over context held stores) files what prepared
 
--- its change can be made in these slots, puts channels where the line asks for it alone, and is none where the line
--- isn't accepted, and its answer names channels of theirs, and ends the run where the line asks for that
+-- Its change can be made in these slots, puts channels where the line asks for it alone, and is none where the line
+-- isn't accepted. Its answer names channels of theirs, ends the run where the line asks for that, and names a version
+-- where it accepts one that the line asks for
 pub record IsReady (what : Asked) (held : Stored) (prepared : Prepared) : Type 0 where
   pub can : CanMake held prepared.change
   pub kept : KeepsUnlessAccepted prepared
@@ -128,6 +141,8 @@ pub record IsReady (what : Asked) (held : Stored) (prepared : Prepared) : Type 0
   pub adds : AddsAsAsked what prepared.change
   pub names : NamesChannels held prepared.answer
   pub ends : is_ended (kind_by prepared.answer) ≡ is_end what
+  pub version : version_named prepared.answer
+      ≡ (if is_accepted (kind_by prepared.answer) then version_asked what else None)
 
 -- whether it asks for a file where the slots stand for some stores
 pub record NeedsFile (context : Context) (what : Asked) (held : Stored) (file : Bool) : Type 0 where

@@ -3,18 +3,18 @@
 ghost use Rattle.std.specs.Prelude.{◌≡◌, ◌+◌, ℕ, ◌<◌, ◌≤◌, ◌==◌, ◌∷◌, [], length, map, replicate, is_ok, true};
 ghost use Rattle.std.specs.Prelude.{List, Option, Ok, Some, None, IfOk, IfErr, OnOk, IsErrOf};
 ghost use Rattle.mp_bytes.specs.Fields.{fields_in};
-ghost use Rattle.mp_defs.specs.Limits.{max_samples};
 ghost use Rattle.mp_defs.specs.Series.{series_of};
-ghost use Rattle.mp_replies.specs.AppendCommand.{append_conditions, bad_in, item_of, read_items as items_read, rows_in};
+ghost use Rattle.mp_replies.specs.AppendCommand.{append_conditions, bad_in, item_of, most_samples};
+ghost use Rattle.mp_replies.specs.AppendCommand.{read_items as items_read, rows_in};
 ghost use Rattle.mp_replies.specs.Change.{extended};
 ghost use Rattle.mp_replies.specs.Command as asked;
 ghost use Rattle.mp_replies.specs.Limits.{max_scale};
 ghost use Rattle.mp_replies.specs.Line.{Asks};
-ghost use Rattle.mp_replies.specs.State.{Files, Store, channels_at, is_closed, store_at};
+ghost use Rattle.mp_replies.specs.State.{Files, Store, channels_at, is_closed, keep_at, store_at};
 ghost use Rattle.mp_requests.specs.Answering.{IsCause};
 ghost use Rattle.mp_requests.specs.Reads.{AreUnread};
 ghost use Rattle.mp_commands.specs.Preparing.{IsReady, IsTaken};
-ghost use Rattle.mp_stores.specs.Stores.{StandAsBefore, StandFor, count_in, lists_in, streams_at};
+ghost use Rattle.mp_stores.specs.Stores.{StandAsBefore, StandFor, keep_of, lists_in, sample_count, slot_at};
 ghost use Rattle.mp_text.specs.Rows.{Row, columns_of};
 
 use crate::prepared::{Change, Prepared};
@@ -25,6 +25,7 @@ use mp_replies::Cause;
 use mp_requests::{Answer, Context, Report, Stop};
 use mp_series::MAX_SAMPLES;
 use mp_stores::Stores;
+use mp_stream::MAX_APPENDED;
 use mp_text::read_sample;
 use std::alloc::Global;
 
@@ -83,7 +84,8 @@ fn count_items(stores: &Stores, form: Form, slot: u64, items: &[u8]) -> Result<u
         (λ stands. append_conditions form.scale stands slot (fields_in items.now)) None) }
     ensures good { OnOk result (bad_in (items_read form.scale form.channels (fields_in items.now)) ≡ None) }
     ensures count { IfOk result (λ count. count ≡ length (fields_in items.now)) }
-    ensures fits { IfOk result (λ count. count_in (streams_at stores.now slot) + count ≤ max_samples) }
+    ensures fits { IfOk result (λ count. sample_count (slot_at stores.now slot) + count
+        ≤ most_samples (keep_of (slot_at stores.now slot))) }
     ensures open { OnOk result (0 < form.channels) }
 {
     if form.channels == 0 {
@@ -93,10 +95,22 @@ fn count_items(stores: &Stores, form: Form, slot: u64, items: &[u8]) -> Result<u
         Ok(count) => count,
         Err(number) => return Err(Cause::Sample(number)),
     };
-    if MAX_SAMPLES - stores.len(slot) < count {
+    if most_in(stores, slot) - stores.len(slot) < count {
         return Err(Cause::Full);
     }
     Ok(count)
+}
+
+/// The most samples of each channel of a slot.
+fn most_in(stores: &Stores, slot: u64) -> u64
+    ensures most { result ≡ most_samples (keep_of (slot_at stores.now slot)) }
+    ensures stands { (stands : List Store) → StandFor stores.now stands
+        → result ≡ most_samples (keep_at stands slot) }
+{
+    match stores.kept(slot) {
+        Some(_) => MAX_APPENDED,
+        None => MAX_SAMPLES,
+    }
 }
 
 /// How many items there are, where none is bad, or the number of the first bad one, counted from 1.

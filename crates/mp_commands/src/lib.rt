@@ -2,6 +2,7 @@
 #![tactic(auto)]
 
 mod append_command;
+mod keep_command;
 mod load_command;
 mod open_command;
 mod prepared;

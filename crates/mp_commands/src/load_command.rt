@@ -67,6 +67,8 @@ fn load_cause(stores: &Stores, slot: u64, names: Columns<'_>) -> Option<Cause>
     let count = stores.count(slot);
     if count == 0 {
         Some(Cause::Slot)
+    } else if stores.is_kept(slot) {
+        Some(Cause::Kept)
     } else if names.count() == count {
         None
     } else {

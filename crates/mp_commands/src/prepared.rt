@@ -6,6 +6,7 @@ use mp_nums::Sample;
 use mp_replies::Cause;
 use mp_requests::Answer;
 use mp_stores::Channel;
+use mp_stream::Kept;
 
 /// What an accepted line changes in the slots. All memory for it is there.
 #[derive(Debug, Drop)]
@@ -13,6 +14,8 @@ pub enum Change {
     Keep,
     /// Channels in place of what stood in a slot.
     PutChannels { slot: u64, channels: Vec<Channel> },
+    /// A channel without a sample, of which the last ones will be kept, in place of what stood in a slot.
+    PutKept { slot: u64, kept: Kept },
     /// Samples behind those of each channel of a slot.
     AddSamples { slot: u64, added: Vec<Vec<Sample>> },
 }

@@ -3,7 +3,6 @@
 ghost use Rattle.std.specs.Prelude.{◌≡◌, IfOk, IsErrOf, false};
 ghost use Rattle.mp_lines.specs.Lines.{asked_by, cause_of as cause_of_fault};
 ghost use Rattle.mp_replies.specs.Line.{asked_of, ends};
-ghost use Rattle.mp_requests.specs.Answering.{version_in};
 ghost use Rattle.mp_requests.specs.Reads.{AreUnread, IsKept};
 ghost use Rattle.mp_requests.specs.Requests.{IsWithinLimits, is_accepted, is_ended, kind_by};
 ghost use Rattle.mp_commands.specs.Commands.{changed_in};
@@ -11,6 +10,7 @@ ghost use Rattle.mp_commands.specs.Preparing.{IsAsked, IsPreparedBySome, IsReady
 ghost use Rattle.mp_stores.specs.Stores.{StandAsBefore};
 
 use crate::append_command::prepare_append;
+use crate::keep_command::prepare_keep;
 use crate::load_command::prepare_load;
 use crate::open_command::prepare_open;
 use crate::prepared::Prepared;
@@ -32,20 +32,20 @@ pub fn prepare<R: Threads + Sync, H: Shelf, G: Gate>(
     shelf: &mut H,
     gate: &G,
 ) -> Result<Prepared, Stop>
-    ensures prepared { IsTaken (H.files shelf.old) context (asked_of (version_in context) line.now) stores.old result }
-    ensures some_files { IfOk result (IsPreparedBySome context (asked_of (version_in context) line.now) stores.old) }
+    ensures prepared { IsTaken (H.files shelf.old) context (asked_of context.version line.now) stores.old result }
+    ensures some_files { IfOk result (IsPreparedBySome context (asked_of context.version line.now) stores.old) }
     ensures ends { IfOk result (λ prepared. is_ended (kind_by prepared.answer) ≡ ends line.now) }
-    ensures ready { IfOk result (IsReady (asked_of (version_in context) line.now) stores.new) }
+    ensures ready { IfOk result (IsReady (asked_of context.version line.now) stores.new) }
 
     // The slots, before the change is made.
-    ensures stores { IsKept (asked_of (version_in context) line.now) stores.old stores.new }
+    ensures stores { IsKept (asked_of context.version line.now) stores.old stores.new }
     ensures unread { IfOk result (λ prepared. is_accepted (kind_by prepared.answer) ≡ false
         → AreUnread stores.old stores.new) }
 
-    ensures shelf { IsAsked H.Shelf (NeedsFile context (asked_of (version_in context) line.now) stores.old)
+    ensures shelf { IsAsked H.Shelf (NeedsFile context (asked_of context.version line.now) stores.old)
         (IsErrOf result Stop.ShelfFault) shelf.old shelf.new }
 {
-    let command = match parse_line(line) {
+    let command = match parse_line(line, context.version) {
         Err(fault) => return Ok(Prepared::refused(cause_of(fault))),
         Ok(command) => command,
     };
@@ -102,6 +102,7 @@ fn prepare_change<R: Threads + Sync, H: Shelf, G: Gate>(
 {
     match request {
         ChangeRequest::Open(opening) => prepare_open(rt, stores, context, opening),
+        ChangeRequest::Keep(keeping) => prepare_keep(stores, context, keeping),
         ChangeRequest::Load(load) => prepare_load(rt, stores, context, load, shelf, gate),
         ChangeRequest::Append(more) => prepare_append(stores, context, more),
     }

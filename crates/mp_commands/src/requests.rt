@@ -1,6 +1,7 @@
 //! What a line asks for: a change of slots, or a report alone.
 
-ghost use Rattle.std.specs.Prelude.{◌≡◌};
+ghost use Rattle.std.specs.Prelude.{◌≡◌, ◌≤◌};
+ghost use Rattle.mp_defs.specs.Limits.{max_samples};
 
 use mp_lines::{Columns, Command};
 use mp_requests::ReportRequest;
@@ -17,6 +18,7 @@ pub(crate) enum Request<'a> {
 #[derive(Clone, Copy, Debug)]
 pub(crate) enum ChangeRequest<'a> {
     Open(Opening),
+    Keep(Keeping),
     Load(Load<'a>),
     Append(Appending<'a>),
 }
@@ -26,6 +28,14 @@ pub(crate) enum ChangeRequest<'a> {
 pub(crate) struct Opening {
     pub(crate) slot: u64,
     pub(crate) channels: u64,
+}
+
+/// An empty channel for a slot, of which so many samples are kept.
+#[derive(Clone, Copy, Debug)]
+pub(crate) struct Keeping {
+    pub(crate) slot: u64,
+    pub(crate) keep: u64,
+    ghost within: { keep ≤ max_samples },
 }
 
 /// Columns of a file for a slot.
@@ -58,6 +68,9 @@ impl<'a> Request<'a> {
             Command::Blank => Request::Blank,
             Command::Open { slot, channels } => {
                 Request::Change(ChangeRequest::Open(Opening { slot, channels }))
+            }
+            Command::Keep { slot, keep } => {
+                Request::Change(ChangeRequest::Keep(Keeping { slot, keep }))
             }
             Command::Load {
                 slot,

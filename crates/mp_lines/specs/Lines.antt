@@ -10,8 +10,8 @@ use Rattle.mp_replies.specs.MotifsCommand.{motif_query}
 use Rattle.mp_replies.specs.Numbers.{columns, refs}
 use Rattle.mp_replies.specs.Shapes.{Shape, by_shape}
 use Rattle.mp_lines.specs.declared.commands.Command.{Command}
-use Rattle.mp_lines.specs.declared.commands.Command.TheVariants.{Blank, Session, Open, Load, Append, Window, Profile}
-use Rattle.mp_lines.specs.declared.commands.Command.TheVariants.{Entry, End}
+use Rattle.mp_lines.specs.declared.commands.Command.TheVariants.{Blank, Session, Open, Keep, Load, Append, Window}
+use Rattle.mp_lines.specs.declared.commands.Command.TheVariants.{Profile, Entry, End}
 use Rattle.mp_lines.specs.declared.commands.Command.TheVariants.{Join, Multi, Match, Motifs, Discords, Chain, Chains}
 use Rattle.mp_lines.specs.declared.commands.Command.TheVariants.{Segments, Mpdist, Consensus}
 use Rattle.mp_lines.specs.declared.commands.LineFault.{LineFault}
@@ -28,6 +28,7 @@ abbrev pub asked_by : Command → Asked
 asked_by Blank = Nothing
 asked_by (Session version) = Asks (asked.Session version)
 asked_by (Open slot channels) = Asks (asked.OpenAnew slot channels)
+asked_by (Keep slot keep) = Asks (asked.KeepLast slot keep)
 asked_by (Load slot file cols header) = Asks (asked.Load slot file.now (unwrap_or (columns cols.field.now) []) header)
 asked_by (Append slot items) = Asks (asked.Append slot (fields_in items.now))
 asked_by (Window at start) = Asks (asked.Window at start)

@@ -1,17 +1,17 @@
 //! What a line asks for.
 
-ghost use Rattle.std.specs.Prelude.{◌≡◌};
+ghost use Rattle.std.specs.Prelude.{◌≡◌, ◌≤◌};
 ghost use Rattle.mp_bytes.specs.Fields.{fields_in};
 ghost use Rattle.mp_replies.specs.Line.{asked_of, asks, command_in};
 ghost use Rattle.mp_replies.specs.Commands.{forms};
-ghost use Rattle.mp_replies.specs.State.{first_version};
+ghost use Rattle.mp_replies.specs.State.{first_version, second_version};
 ghost use Rattle.mp_lines.specs.Lines.{read_as};
 
 use crate::numbers::Columns;
 use crate::ref_lists::Refs;
 use crate::shapes::{
-    append, consensus, load, matches, motifs, no_field, one_ref, ref_and_count, ref_and_start,
-    segments, session, slot_and_number, two_refs,
+    append, consensus, keep, load, matches, motifs, no_field, one_ref, ref_and_count,
+    ref_and_start, segments, session, slot_and_number, two_refs,
 };
 use mp_bytes::{Fields, same_text, without_cr};
 use mp_replies::Ref;
@@ -33,6 +33,11 @@ pub enum Command<'a> {
     Open {
         slot: u64,
         channels: u64,
+    },
+    /// Put an empty channel into a slot, of which so many samples are kept.
+    Keep {
+        slot: u64,
+        keep: u64,
     },
     /// Put these columns of a file into a slot, with the first record passed over where there is a header.
     Load {
@@ -135,10 +140,12 @@ pub enum LineFault {
     Number,
 }
 
-/// Reads a line without its LF. It takes no memory.
+/// Reads a line of a version, without its LF. It takes no memory.
 #[tactic(auto, unfolding(mp_replies::specs::Line::asked_of))]
-pub fn parse_line(line: &[u8]) -> Result<Command<'_>, LineFault>
-    ensures { read_as result ≡ asked_of first_version line.now }
+pub fn parse_line(line: &[u8], version: u64) -> Result<Command<'_>, LineFault>
+    requires first { first_version ≤ version }
+    requires last { version ≤ second_version }
+    ensures { read_as result ≡ asked_of version line.now }
 {
     if line.len() > MAX_LINE {
         return Err(LineFault::Long);
@@ -149,19 +156,25 @@ pub fn parse_line(line: &[u8]) -> Result<Command<'_>, LineFault>
     match fields.next() {
         None => Ok(Command::Blank),
         Some(word) if word.first() == Some(&b'#') => Ok(Command::Blank),
-        Some(word) => parse_command(word, fields),
+        Some(word) => parse_command(word, fields, version),
     }
 }
 
 /// Reads the fields behind a command word, each word's by its row of the table of commands.
-fn parse_command<'a>(word: &[u8], fields: Fields<'a>) -> Result<Command<'a>, LineFault>
-    ensures { read_as result ≡ asks (command_in (forms first_version) word.now (fields_in fields.entry.text.now)) }
+fn parse_command<'a>(
+    word: &[u8],
+    fields: Fields<'a>,
+    version: u64,
+) -> Result<Command<'a>, LineFault>
+    ensures { read_as result ≡ asks (command_in (forms version) word.now (fields_in fields.entry.text.now)) }
 {
     if same_text(word, b"session") {
         session(fields)
     } else if same_text(word, b"open") {
         let (slot, channels) = slot_and_number(fields)?;
         Ok(Command::Open { slot, channels })
+    } else if same_text(word, b"keep") {
+        keep(fields, version)
     } else if same_text(word, b"load") {
         load(fields)
     } else if same_text(word, b"append") {

@@ -11,6 +11,7 @@ ghost use Rattle.mp_replies.specs.Numbers.{
   factor,
   few,
   is_point,
+  kept,
   neighbours,
   number,
   positive,
@@ -34,6 +35,12 @@ const MAX_MOTIFS: u64 = 1_024;
 
 /// The most window lengths of a regime's zone.
 const MAX_FACTOR: u64 = 100;
+
+/// The fewest samples of a slot that are kept, those of the shortest window.
+const MIN_KEPT: u64 = 3;
+
+/// The most samples of a slot that are kept.
+const MAX_KEPT: u64 = 262_144;
 
 /// The greatest column, counted from 0.
 const MAX_COLUMN: u64 = 65_535;
@@ -112,6 +119,16 @@ pub(crate) fn read_factor(field: &[u8]) -> Option<u32>
     ensures { result ≡ factor field.now }
 {
     read_small(field, MAX_FACTOR)
+}
+
+/// How many samples of a slot are kept.
+pub(crate) fn read_kept(field: &[u8]) -> Option<u64>
+    ensures { result ≡ kept field.now }
+{
+    match read_at_most(field, MAX_KEPT) {
+        Some(n) if n >= MIN_KEPT => Some(n),
+        _ => None,
+    }
 }
 
 /// A slot, or a slot and a channel with a point between.

@@ -3,27 +3,32 @@
 ghost use Rattle.std.specs.Prelude.{◌≡◌};
 ghost use Rattle.mp_bytes.specs.Fields.{fields_in};
 ghost use Rattle.mp_replies.specs.AppendCommand.{append_by, append_shape};
+ghost use Rattle.mp_replies.specs.Commands.{keep_form};
 ghost use Rattle.mp_replies.specs.ConsensusCommand.{consensus_by, consensus_shape};
 ghost use Rattle.mp_replies.specs.Line.{asks};
 ghost use Rattle.mp_replies.specs.LoadCommand.{header_of, load_by, load_shape};
 ghost use Rattle.mp_replies.specs.MatchCommand.{match_by, match_shape};
 ghost use Rattle.mp_replies.specs.MotifsCommand.{motifs_by, motifs_shape};
 ghost use Rattle.mp_replies.specs.SegmentsCommand.{segments_by, segments_shape};
-ghost use Rattle.mp_replies.specs.SessionCommand.{session_of};
+ghost use Rattle.mp_replies.specs.SessionCommand.{is_version as is_version_of, session_of};
 ghost use Rattle.mp_replies.specs.Shapes as shape;
 ghost use Rattle.mp_lines.specs.Lines.{IsMadeBy, IsReadBy, read_as};
 
 use crate::commands::{Command, LineFault};
 use crate::numbers::{
-    Columns, read_count, read_factor, read_few, read_neighbours, read_ref, read_squared, read_u64,
+    Columns, read_count, read_factor, read_few, read_kept, read_neighbours, read_ref, read_squared,
+    read_u64,
 };
 use crate::ref_lists::{Refs, is_right_count};
 use crate::texts::{five_texts, one_text, six_texts, three_texts, two_texts};
 use mp_bytes::{Fields, same_text};
 use mp_replies::Ref;
 
-/// The one version that there is.
-const VERSION: u64 = 1;
+/// The version of a session that names none.
+const FIRST_VERSION: u64 = 1;
+
+/// The version that has kept slots, too.
+const SECOND_VERSION: u64 = 2;
 
 // ---- common shapes
 
@@ -81,15 +86,34 @@ pub(crate) fn slot_and_number(fields: Fields<'_>) -> Result<(u64, u64), LineFaul
 
 // ---- shapes of one command
 
-/// `session 1`. Its only refusal is that of the version.
+/// `session 1` or `session 2`. Its only refusal is that of the version.
 pub(crate) fn session(fields: Fields<'_>) -> Result<Command<'_>, LineFault>
     ensures { read_as result ≡ asks (session_of (fields_in fields.entry.text.now)) }
 {
     let field = one_text(fields).ok_or(LineFault::Version)?;
     match read_u64(field) {
-        Some(VERSION) => Ok(Command::Session { version: VERSION }),
+        Some(version) if is_version(version) => Ok(Command::Session { version }),
         _ => Err(LineFault::Version),
     }
+}
+
+fn is_version(number: u64) -> bool
+    ensures { result ≡ is_version_of number }
+{
+    number == FIRST_VERSION || number == SECOND_VERSION
+}
+
+/// `keep S N`, which the first version hasn't.
+pub(crate) fn keep(fields: Fields<'_>, version: u64) -> Result<Command<'_>, LineFault>
+    ensures { read_as result ≡ asks ((keep_form version).read (fields_in fields.entry.text.now)) }
+{
+    if version < SECOND_VERSION {
+        return Err(LineFault::Unknown);
+    }
+    let (slot, keep) = two_texts(fields).ok_or(LineFault::Fields)?;
+    let slot = read_u64(slot).ok_or(LineFault::Number)?;
+    let keep = read_kept(keep).ok_or(LineFault::Number)?;
+    Ok(Command::Keep { slot, keep })
 }
 
 /// `load S FILE COL,COL`, or with `header` behind.

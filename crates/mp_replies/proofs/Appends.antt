@@ -5,25 +5,25 @@ use Rattle.std.specs.Prelude.{Option, Some, None, is_some, is_none, unwrap_or, R
 use Rattle.std.proofs.lemmas.List.{set-set}
 use Rattle.std.proofs.lemmas.Bool.{or_parts}
 use Rattle.std.proofs.lemmas.Bool.Decides.{nat_tests}
-use Rattle.mp_defs.specs.Limits.{max_samples}
 use Rattle.mp_defs.specs.Series.{Series}
 use Rattle.mp_text.specs.Rows.{Row, columns_of, onto}
 use Rattle.mp_replies.specs.declared.causes.Cause.{Cause}
 use Rattle.mp_replies.specs.declared.causes.Cause.TheVariants.{Slot, Sample, Full}
-use Rattle.mp_replies.specs.State.{Files, Store, State, Open, store_at, is_closed, channels_in, channels_at, samples_in}
-use Rattle.mp_replies.specs.State.{version_of}
-use Rattle.mp_replies.specs.Change.{Change, AddSamples, changed, extended}
+use Rattle.mp_replies.specs.State.{Files, Store, State, store_at, is_closed, keep_in, keep_at, channels_in, channels_at}
+use Rattle.mp_replies.specs.State.{samples_in}
+use Rattle.mp_replies.specs.Change.{Change, grown}
 use Rattle.mp_replies.specs.Command.{Append}
 use Rattle.mp_replies.specs.Conditions.{first_cause, when}
 use Rattle.mp_replies.specs.AppendCommand.{item_of, items_of, read_items, rows_in, bad_in, append_conditions}
-use Rattle.mp_replies.specs.AppendCommand.{append_change}
+use Rattle.mp_replies.specs.AppendCommand.{append_change, most_samples}
 use Rattle.mp_replies.specs.Line.{Asked, Asks, asked_of}
 use Rattle.mp_replies.specs.Step.{verdict, verdict_by, verdict_of, cause, cause_in, after, after_by}
 use Rattle.mp_replies.specs.Output.{some_refused, state_after}
 use Rattle.mp_replies.specs.Laws.{AppendEach, AppendsAddUp}
 use Rattle.mp_replies.proofs.BadItems.{item_good}
-use Rattle.mp_replies.proofs.Channels.{with_rows, with_rows-is, length-with_rows, with_rows-append}
-use Rattle.mp_replies.proofs.Channels.{samples_in-with_rows, open_with_channels, store_at-set}
+use Rattle.mp_replies.proofs.Channels.{with_rows, length-with_rows, with_rows-append, samples_in-with_rows}
+use Rattle.mp_replies.proofs.Channels.{open_with_channels, store_at-set, store_with, store_with-is, store_with-append}
+use Rattle.mp_replies.proofs.Channels.{channels-store_with, keep-store_with}
 
 -- ---- samples of items one behind the other
 
@@ -78,15 +78,21 @@ length-items scale n at (item ∷ items) rows h =
 
 -- the stores with these rows behind the samples of a slot's channels
 abbrev stores_with : List Store → ℕ → List Row → List Store
-stores_with stores slot rows = slice_set stores slot (Open (with_rows (channels_at stores slot) rows))
+stores_with stores slot rows = slice_set stores slot (store_with (store_at stores slot) rows)
+
+-- the most samples of the slot's channels
+abbrev most_at : State → ℕ → ℕ
+most_at state slot = most_samples (keep_at state.stores slot)
 
 -- these rows stand behind the samples of the slot's channels, where there was room for them, and nothing else changes
 record Appended (state later : State) (slot : ℕ) (rows : List Row) : Type 0 where
-  room : samples_in (channels_at state.stores slot) + length rows ≤ max_samples
+  room : samples_in (channels_at state.stores slot) + length rows ≤ most_at state slot
+  store : store_at later.stores slot ≡ store_with (store_at state.stores slot) rows
   channels : channels_at later.stores slot ≡ with_rows (channels_at state.stores slot) rows
   stores_are : later.stores ≡ stores_with state.stores slot rows
   window_is : later.window ≡ state.window
   scale_is : later.scale ≡ state.scale
+  version_is : later.version ≡ state.version
   begun_is : later.begun ≡ true
 
 -- the slot has a channel
@@ -96,11 +102,11 @@ HasChannel state slot = 0 < length (channels_at state.stores slot)
 record Passed (state : State) (slot : ℕ) (items : List (List ℕ)) : Type 0 where
   rows : List Row
   rows_are : read_items state.scale (length (channels_at state.stores slot)) items ≡ Ok rows
-  room : samples_in (channels_at state.stores slot) + length items ≤ max_samples
+  room : samples_in (channels_at state.stores slot) + length items ≤ most_at state slot
 
 passed_by : (state : State) (slot : ℕ) (items : List (List ℕ)) (closed over : Bool) (read : Result (List Row) ℕ)
     → read_items state.scale (length (channels_at state.stores slot)) items ≡ read
-    → nat_lt max_samples (samples_in (channels_at state.stores slot) + length items) ≡ over
+    → nat_lt (most_at state slot) (samples_in (channels_at state.stores slot) + length items) ≡ over
     → first_cause (when closed Slot ∷ when (not (is_none (bad_in read))) (Sample (unwrap_or (bad_in read) 0))
     ∷ when over Full ∷ [])
     ≡ None
@@ -115,7 +121,7 @@ passed : (state : State) (slot : ℕ) (items : List (List ℕ))
     → first_cause (append_conditions state.scale state.stores slot items) ≡ None → Passed state slot items
 passed state slot items h =
     passed_by state slot items (is_closed (store_at state.stores slot))
-    (nat_lt max_samples (samples_in (channels_at state.stores slot) + length items))
+    (nat_lt (most_at state slot) (samples_in (channels_at state.stores slot) + length items))
     (read_items state.scale (length (channels_at state.stores slot)) items) refl refl h
 
 unrefused : (o : Option Cause) (change : Change) (items : List (List ℕ)) (slot : ℕ)
@@ -123,12 +129,12 @@ unrefused : (o : Option Cause) (change : Change) (items : List (List ℕ)) (slot
 unrefused None change items slot h = refl
 unrefused (Some why) change items slot h = absurd (cc h)
 
--- the channels behind the change
-changed_channels : (stores : List Store) (slot : ℕ) (added : List Series) → 0 < length (channels_at stores slot)
-    → channels_at (changed stores (AddSamples slot added)) slot ≡ extended (channels_at stores slot) added
-changed_channels stores slot added some =
-    ap channels_in (store_at-set stores slot (Open (extended (channels_at stores slot) added))
-    (open_with_channels (store_at stores slot) some))
+-- the slot behind the change
+changed_store : (stores : List Store) (slot : ℕ) (rows : List Row) → 0 < length (channels_at stores slot)
+    → store_at (stores_with stores slot rows) slot ≡ store_with (store_at stores slot) rows
+changed_store stores slot rows some =
+    store_at-set stores slot (store_with (store_at stores slot) rows)
+    (open_with_channels (store_at stores slot) some)
 
 appended_by : (state : State) (slot : ℕ) (items : List (List ℕ)) (o : Option Cause) (p : Passed state slot items)
     → HasChannel state slot → o ≡ None
@@ -138,18 +144,24 @@ appended_by : (state : State) (slot : ℕ) (items : List (List ℕ)) (o : Option
 appended_by state slot items (Some why) p some is = absurd (cc is)
 appended_by state slot items None p some is =
     let n = length (channels_at state.stores slot) in
+    let store = store_at state.stores slot in
     let added = columns_of n (rows_in (read_items state.scale n items)) in
     let long = length-items state.scale n 1 items p.rows p.rows_are in
-    let extended_are : extended (channels_at state.stores slot) added
-    ≡ with_rows (channels_at state.stores slot) p.rows =
-    ap (λ (r : Result (List Row) ℕ). extended (channels_at state.stores slot) (columns_of n (rows_in r))) p.rows_are
-    ∙ sym (with_rows-is (channels_at state.stores slot) p.rows) in
+    let grown_is : grown store added ≡ store_with store p.rows =
+    ap (λ (r : Result (List Row) ℕ). grown store (columns_of n (rows_in r))) p.rows_are
+    ∙ sym (store_with-is store p.rows) in
+    let stores_are : slice_set state.stores slot (grown store added) ≡ stores_with state.stores slot p.rows =
+    ap (λ (s : Store). slice_set state.stores slot s) grown_is in
+    let store_is : store_at (slice_set state.stores slot (grown store added)) slot ≡ store_with store p.rows =
+    ap (λ (ss : List Store). store_at ss slot) stores_are ∙ changed_store state.stores slot p.rows some in
     record {
       room = omega (arith, p.room, long);
-      channels = changed_channels state.stores slot added some ∙ extended_are;
-      stores_are = ap (λ (cs : List Series). slice_set state.stores slot (Open cs)) extended_are;
+      store = store_is;
+      channels = ap channels_in store_is ∙ channels-store_with store p.rows;
+      stores_are = stores_are;
       window_is = refl;
       scale_is = refl;
+      version_is = refl;
       begun_is = refl;
     }
 
@@ -164,7 +176,7 @@ one_of state files slot items some none =
     (p, appended_by state slot items o p some accepted)
 
 one_line : (state : State) (files : Files) (line : List ℕ) (slot : ℕ) (items : List (List ℕ)) → HasChannel state slot
-    → asked_of (version_of state) line ≡ Asks (Append slot items) → cause state line files ≡ None
+    → asked_of state.version line ≡ Asks (Append slot items) → cause state line files ≡ None
     → (p : Passed state slot items) × Appended state (after state line files) slot p.rows
 unfolding cause after verdict
 one_line state files line slot items some asks none =
@@ -208,29 +220,36 @@ both state middle later slot items more some p one two =
     ap (λ (cs : List Series). with_rows cs two.rows) one.channels ∙ with_rows-append channels p.rows two.rows in
     let held : samples_in (channels_at middle.stores slot) ≡ samples_in channels + length p.rows =
     ap samples_in one.channels ∙ samples_in-with_rows channels p.rows some in
+    let store = store_at state.stores slot in
+    let twice : store_with (store_at middle.stores slot) two.rows ≡ store_with store (p.rows ++ two.rows) =
+    ap (λ (s : Store). store_with s two.rows) one.store ∙ store_with-append store p.rows two.rows in
+    let most : most_at middle slot ≡ most_at state slot =
+    ap (λ (s : Store). most_samples (keep_in s)) one.store ∙ ap most_samples (keep-store_with store p.rows) in
     record {
       rows = p.rows ++ two.rows;
       rows_are = items_of-append state.scale n 1 items more p.rows two.rows p.rows_are others;
       appended = record {
-        room = omega (arith, two.appended.room, held, length-append p.rows two.rows);
+        room = omega (arith, two.appended.room, held, most, length-append p.rows two.rows);
+        store = two.appended.store ∙ twice;
         channels = two.appended.channels ∙ joined;
         stores_are =
             two.appended.stores_are
             ∙ (ap (λ (stores : List Store).
-            slice_set stores slot (Open (with_rows (channels_at middle.stores slot) two.rows)))
+            slice_set stores slot (store_with (store_at middle.stores slot) two.rows))
             one.stores_are
-            ∙ (set-set state.stores slot (Open (with_rows channels p.rows))
-            (Open (with_rows (channels_at middle.stores slot) two.rows))
-            ∙ ap (λ (cs : List Series). slice_set state.stores slot (Open cs)) joined));
+            ∙ (set-set state.stores slot (store_with store p.rows)
+            (store_with (store_at middle.stores slot) two.rows)
+            ∙ ap (λ (s : Store). slice_set state.stores slot s) twice));
         window_is = two.appended.window_is ∙ one.window_is;
         scale_is = two.appended.scale_is ∙ one.scale_is;
+        version_is = two.appended.version_is ∙ one.version_is;
         begun_is = two.appended.begun_is;
       };
     }
 
 several : (state : State) (files : Files) (slot : ℕ) (first : List ℕ) (lines : List (List ℕ))
     (groups : List (List (List ℕ))) → HasChannel state slot
-    → AppendEach (version_of state) slot (first ∷ lines) groups → some_refused state files (first ∷ lines) ≡ false
+    → AppendEach state.version slot (first ∷ lines) groups → some_refused state files (first ∷ lines) ≡ false
     → AllAppended state (state_after state files (first ∷ lines)) slot (all_items groups)
 unfolding all_items
 several state files slot first lines [] some each good = absurd each
@@ -248,32 +267,34 @@ several state files slot first (line ∷ lines) (items ∷ groups) some each goo
     let later = after state first files in
     let parts = or_parts (is_some (cause state first files)) (some_refused later files (line ∷ lines)) good in
     let one = one_line state files first slot items some each.0 (not_some (cause state first files) parts.0) in
+    let others =
+    subst (λ (v : ℕ). AppendEach v slot (line ∷ lines) groups) (sym one.1.version_is) each.1 in
     let rest =
-    several later files slot line lines groups (still_has state later slot one.0.rows some one.1) each.1 parts.1 in
+    several later files slot line lines groups (still_has state later slot one.0.rows some one.1) others parts.1 in
     both state later (state_after later files (line ∷ lines)) slot items (all_items groups) some one.0 one.1 rest
 
 -- ---- one append of all items
 
 none_holds : (state : State) (slot : ℕ) (items : List (List ℕ)) (rows : List Row) → HasChannel state slot
     → read_items state.scale (length (channels_at state.stores slot)) items ≡ Ok rows
-    → samples_in (channels_at state.stores slot) + length items ≤ max_samples
+    → samples_in (channels_at state.stores slot) + length items ≤ most_at state slot
     → first_cause (append_conditions state.scale state.stores slot items) ≡ None
 none_holds state slot items rows some spelled room =
-    let few : nat_lt max_samples (samples_in (channels_at state.stores slot) + length items) ≡ false =
+    let few : nat_lt (most_at state slot) (samples_in (channels_at state.stores slot) + length items) ≡ false =
     grind (arith, nat_tests) in
     rw (open_with_channels (store_at state.stores slot) some, spelled, few) refl
 
 whole_of : (state : State) (files : Files) (slot : ℕ) (items : List (List ℕ)) (rows : List Row) → HasChannel state slot
     → read_items state.scale (length (channels_at state.stores slot)) items ≡ Ok rows
-    → samples_in (channels_at state.stores slot) + length items ≤ max_samples
+    → samples_in (channels_at state.stores slot) + length items ≤ most_at state slot
     → cause_in (verdict_of state files (Asks (Append slot items))) ≡ None
 whole_of state files slot items rows some spelled room = rw (none_holds state slot items rows some spelled room) refl
 
 whole_line : (state : State) (files : Files) (whole : List ℕ) (slot : ℕ) (items : List (List ℕ)) (rows : List Row)
     → HasChannel state slot
-    → asked_of (version_of state) whole ≡ Asks (Append slot items)
+    → asked_of state.version whole ≡ Asks (Append slot items)
     → read_items state.scale (length (channels_at state.stores slot)) items ≡ Ok rows
-    → samples_in (channels_at state.stores slot) + length items ≤ max_samples → cause state whole files ≡ None
+    → samples_in (channels_at state.stores slot) + length items ≤ most_at state slot → cause state whole files ≡ None
 unfolding cause verdict
 whole_line state files whole slot items rows some asks spelled room =
     ap (λ (a : Asked). cause_in (verdict_of state files a)) asks
@@ -298,6 +319,7 @@ appends state files slot first lines groups whole some each asks good =
       record {
         window_is = all.appended.window_is ∙ sym one.1.window_is;
         scale_is = all.appended.scale_is ∙ sym one.1.scale_is;
+        version_is = all.appended.version_is ∙ sym one.1.version_is;
         begun_is = all.appended.begun_is ∙ sym one.1.begun_is;
         stores_are = all.appended.stores_are ∙ (ap (stores_with state.stores slot) same ∙ sym one.1.stores_are);
       },

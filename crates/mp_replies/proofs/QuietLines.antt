@@ -9,7 +9,7 @@ use Rattle.mp_bytes.specs.Fields.{pieces, fields_in, fields, without_cr, is_blan
 use Rattle.mp_bytes.specs.Lines.{max_line}
 use Rattle.mp_replies.specs.declared.causes.Cause.{Cause}
 use Rattle.mp_replies.specs.declared.causes.Cause.TheVariants.{Long}
-use Rattle.mp_replies.specs.State.{Files, State, version_of}
+use Rattle.mp_replies.specs.State.{Files, State}
 use Rattle.mp_replies.specs.Change.{Change}
 use Rattle.mp_replies.specs.Conditions.{first_cause}
 use Rattle.mp_replies.specs.Command.{Command}
@@ -120,12 +120,12 @@ asks_within size read quiet e h = grind (arith, nat_tests)
 pub quiet_lines : QuietLinesAreSilent
 unfolding answer after verdict
 quiet_lines state line files =
-    let asked = asked_of (version_of state) line in
+    let asked = asked_of state.version line in
     let later = after state line files in (
-      λ silent. within (length line) _ _ (line_asks (version_of state) line)
+      λ silent. within (length line) _ _ (line_asks state.version line)
           (ap is_nothing
           (passes_nothing state files asked (silent_passes later (verdict_of state files asked) silent))),
       λ quiet.
           nothing_is_silent later state files asked
-          (is_nothing_means asked (asks_within (length line) _ _ (line_asks (version_of state) line) quiet)),
+          (is_nothing_means asked (asks_within (length line) _ _ (line_asks state.version line) quiet)),
     )

@@ -1,15 +1,17 @@
 -- What holds of every line, by its verdict.
 use Rattle.std.proofs.Common.{◌≡◌, ℕ, ◌+◌, Bool, true, false, List, [], ◌∷◌, ◌++◌, refl, ap, ◌∙◌, sym}
-use Rattle.std.specs.Prelude.{Option, Some, None, is_none, if◌then◌else◌}
+use Rattle.std.specs.Prelude.{Option, Some, None, is_none, if◌then◌else◌, ◌↔◌}
 use Rattle.mp_replies.specs.declared.causes.Cause.{Cause}
-use Rattle.mp_replies.specs.State.{Files, State, opening, version_of}
+use Rattle.mp_replies.specs.State.{Files, State, opening}
 use Rattle.mp_replies.specs.Answer.{Accepted, Ended, Refused}
 use Rattle.mp_replies.specs.Command.{Report}
 use Rattle.mp_replies.specs.Change.{Change}
 use Rattle.mp_replies.specs.Command.{Command, Load, End}
+use Rattle.mp_replies.specs.Commands.{made}
 use Rattle.mp_replies.specs.Conditions.{Condition, first_cause}
+use Rattle.mp_replies.specs.EndLaws.{ends_of_each_version}
 use Rattle.mp_replies.specs.LoadCommand.{load_conditions, file_conditions, file_in}
-use Rattle.mp_replies.specs.Line.{Asked, Nothing, Asks, Faulty, asked_of, is_end, ends}
+use Rattle.mp_replies.specs.Line.{Asked, Nothing, Asks, Faulty, asked_of, is_end}
 use Rattle.mp_replies.specs.Step.{Verdict, Passes, IsRefused, IsAccepted, verdict, verdict_by, verdict_of, cause}
 use Rattle.mp_replies.specs.Step.{cause_in, after, after_by, counted, answer, answer_by, change_by, conditions, is_last}
 use Rattle.mp_replies.specs.Step.{report_by, fetches, fetches_by}
@@ -84,12 +86,19 @@ answered_end later state files (Asks other) report h =
     absurd (goes_on later other (first_cause (conditions state files other)) (change_by state files other) report refl
     h)
 
-pub ends_answered : EndsAreAnswered
-unfolding ends answer after verdict
-ends_answered state line files = (
-  ends_of (after state line files) state files (asked_of (version_of state) line),
-  λ p. answered_end (after state line files) state files (asked_of (version_of state) line) p.0 p.1,
+ends_in : (state : State) (line : List ℕ) (files : Files)
+    → (is_end (asked_of state.version line) ≡ true) ↔ ((report : Report) × (answer state line files ≡ Ended report))
+unfolding answer after verdict
+ends_in state line files = (
+  ends_of (after state line files) state files (asked_of state.version line),
+  λ p. answered_end (after state line files) state files (asked_of state.version line) p.0 p.1,
 )
+
+pub ends_answered : EndsAreAnswered
+ends_answered state line files =
+    let same = ends_of_each_version state.version line in
+    let both = ends_in state line files in
+    (λ h. both.0 (same ∙ h), λ p. sym same ∙ both.1 p)
 
 -- ---- lines that ask for no file
 
@@ -131,7 +140,7 @@ same_verdict state files others (Asks other) h = refl
 pub no_file_read : OtherLinesReadNoFile
 unfolding fetches reply answer after verdict
 no_file_read state line files others h =
-    let same = same_verdict state files others (asked_of (version_of state) line) h in (
+    let same = same_verdict state files others (asked_of state.version line) h in (
       ap (λ (v : Verdict). text_of (state.lines + 1) (answer_by (after_by state v) v)) same,
       ap (after_by state) same,
     )

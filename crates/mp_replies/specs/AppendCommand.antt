@@ -9,12 +9,13 @@ use Rattle.mp_text.specs.Rows.{Row, columns_of, onto}
 use Rattle.mp_text.specs.SampleText.{reading}
 use Rattle.mp_text.specs.declared.refusal.SampleFault.{SampleFault}
 use Rattle.mp_replies.specs.declared.causes.Cause.TheVariants.{Sample, Full}
+use Rattle.mp_defs.specs.Limits.{max_appended}
 use Rattle.mp_replies.specs.Change.{Change, AddSamples}
 use Rattle.mp_replies.specs.Command.{Command, Append}
 use Rattle.mp_replies.specs.Conditions.{Condition, when, no_slot}
 use Rattle.mp_replies.specs.Numbers.{number}
 use Rattle.mp_replies.specs.Shapes.{Shape, at_least, ◌&◌}
-use Rattle.mp_replies.specs.State.{Store, channels_at, samples_in}
+use Rattle.mp_replies.specs.State.{Store, keep_at, channels_at, samples_in}
 
 -- a slot, and at least one item
 abbrev pub append_shape : Shape (ℕ × List (List ℕ))
@@ -66,15 +67,20 @@ read_items scale channels items = items_of scale channels 1 items
 abbrev pub item_condition : Result (List Row) ℕ → Condition
 item_condition read = when (not (is_none (bad_in read))) (Sample (unwrap_or (bad_in read) 0))
 
--- the samples and the items together are more than a series can have
-abbrev pub is_over : List Series → List (List ℕ) → Condition
-is_over channels items = when (nat_lt max_samples (samples_in channels + length items)) Full
+-- the most samples of a channel, by how many of them are kept
+abbrev pub most_samples : Option ℕ → ℕ
+most_samples None = max_samples
+most_samples (Some keep) = max_appended
+
+-- the samples and the items together are more than a channel can have
+abbrev pub is_over : Option ℕ → List Series → List (List ℕ) → Condition
+is_over keep channels items = when (nat_lt (most_samples keep) (samples_in channels + length items)) Full
 
 abbrev pub append_conditions : ℕ → List Store → ℕ → List (List ℕ) → List Condition
 append_conditions scale stores slot items =
     no_slot stores slot
     ∷ item_condition (read_items scale (length (channels_at stores slot)) items)
-    ∷ is_over (channels_at stores slot) items
+    ∷ is_over (keep_at stores slot) (channels_at stores slot) items
     ∷ []
 
 abbrev pub append_change : ℕ → List Store → ℕ → List (List ℕ) → Change

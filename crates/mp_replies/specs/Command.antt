@@ -14,6 +14,8 @@ pub data Command : Type 0 where
   Session : (version : ℕ) → Command
   -- open a slot anew, with so many empty channels
   OpenAnew : (slot channels : ℕ) → Command
+  -- open a slot anew, with an empty channel of which so many samples are kept
+  KeepLast : (slot keep : ℕ) → Command
   -- put these columns of a file into a slot
   Load : (slot : ℕ) (file : List ℕ) (columns : List ℕ) (header : Bool) → Command
   -- add the items, in order
@@ -51,11 +53,14 @@ pub data Report : Type 0 where
   SessionReport : Report
   -- the number of samples in each channel of the slot
   OpenReport : (samples : ℕ) → Report
+  KeepReport : (samples : ℕ) → Report
   LoadReport : (samples : ℕ) → Report
   AppendReport : (samples : ℕ) → Report
   -- the samples of the window at a start, and how many of their digits stand behind the point
   WindowReport : (start : ℕ) (samples : Series) (scale : ℕ) → Report
   ProfileReport : (columns : Columns) → Report
+  -- the columns of the live windows of a kept slot, and where the first of them starts
+  LiveProfileReport : (first : ℕ) (columns : Columns) → Report
   -- the entry of the window at a start, and its left and right entries
   EntryReport : (start : ℕ) (all left right : Option Near) → Report
   -- the entry of each window in another series

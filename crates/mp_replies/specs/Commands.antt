@@ -1,24 +1,27 @@
 -- The tables of commands: a row in each for every command.
-use Rattle.std.specs.Prelude.{ℕ, List, [], ◌∷◌, codes, Some, None, Result, Ok, Err}
+use Rattle.std.specs.Prelude.{ℕ, nat_le, List, [], ◌∷◌, codes, if◌then◌else◌, Some, None, Result, Ok, Err}
 use Rattle.mp_replies.specs.declared.causes.Cause.{Cause}
+use Rattle.mp_replies.specs.declared.causes.Cause.TheVariants.{Unknown}
 use Rattle.mp_replies.specs.Change.{Change, Keep}
-use Rattle.mp_replies.specs.Command.{Command, Session, OpenAnew, Load, Append, Window, Profile, Entry, Join, Multi}
-use Rattle.mp_replies.specs.Command.{Match, Motifs, Discords, Chain, Chains, Segments, Mpdist, Consensus, End}
-use Rattle.mp_replies.specs.Command.{Report, SessionReport, OpenReport, LoadReport, AppendReport, WindowReport}
-use Rattle.mp_replies.specs.Command.{ProfileReport, EntryReport, JoinReport, MpdistReport, MultiReport, MatchReport}
+use Rattle.mp_replies.specs.Command.{Command, Session, OpenAnew, KeepLast, Load, Append, Window, Profile, Entry, Join}
+use Rattle.mp_replies.specs.Command.{Multi, Match, Motifs, Discords, Chain, Chains, Segments, Mpdist, Consensus, End}
+use Rattle.mp_replies.specs.Command.{Report, SessionReport, OpenReport, KeepReport, LoadReport, AppendReport}
+use Rattle.mp_replies.specs.Command.{WindowReport, ProfileReport, LiveProfileReport, EntryReport, JoinReport}
+use Rattle.mp_replies.specs.Command.{MpdistReport, MultiReport, MatchReport}
 use Rattle.mp_replies.specs.Command.{MotifsReport, DiscordsReport, ChainReport, ChainsReport, SegmentsReport}
 use Rattle.mp_replies.specs.Command.{ConsensusReport, EndReport}
 use Rattle.mp_replies.specs.Conditions.{Condition}
 use Rattle.mp_replies.specs.Shapes.{Shape, by_shape, no_field, one_ref, two_refs, ref_and_start, ref_and_count}
 use Rattle.mp_replies.specs.Shapes.{slot_and_number}
-use Rattle.mp_replies.specs.State.{Files, State, channels_at, samples_in}
+use Rattle.mp_replies.specs.State.{Files, State, second_version, channels_at, samples_in}
 use Rattle.mp_replies.specs.Text.{ok_text}
 use Rattle.mp_replies.specs.SessionCommand.{session_of, session_conditions}
 use Rattle.mp_replies.specs.OpenCommand.{open_conditions, open_change}
+use Rattle.mp_replies.specs.KeepCommand.{keep_shape, keep_by, keep_conditions, keep_change}
 use Rattle.mp_replies.specs.LoadCommand.{load_shape, load_by, load_conditions, file_conditions, file_in, load_change}
 use Rattle.mp_replies.specs.AppendCommand.{append_shape, append_by, append_conditions, append_change}
 use Rattle.mp_replies.specs.WindowCommand.{window_conditions, window_report, window_text}
-use Rattle.mp_replies.specs.ProfileCommand.{profile_conditions, profile_report, profile_text}
+use Rattle.mp_replies.specs.ProfileCommand.{profile_conditions, profile_report, profile_text, live_profile_text}
 use Rattle.mp_replies.specs.EntryCommand.{entry_conditions, entry_report, entry_text}
 use Rattle.mp_replies.specs.JoinCommand.{join_conditions, join_report, join_text}
 use Rattle.mp_replies.specs.MultiCommand.{multi_conditions, multi_report, multi_text}
@@ -49,15 +52,26 @@ made make (Err why) = Err why
 abbrev pub row : {A : Type 0} → List ℕ → Shape A → (A → Command) → Form
 row word shape make = record { word = word; read = λ fields. made make (by_shape shape fields) }
 
+-- a form of the versions from a first one on. Before that its word is no command word
+abbrev pub since : ℕ → ℕ → Form → Form
+since first version form = record {
+  word = form.word;
+  read = λ fields. if nat_le first version then form.read fields else Err Unknown;
+}
+
 -- a version line is refused by its own word alone
 abbrev pub session_form : Form
 session_form = record { word = codes "session"; read = session_of }
+
+abbrev pub keep_form : ℕ → Form
+keep_form version = since second_version version (row (codes "keep") keep_shape keep_by)
 
 -- of a version
 abbrev pub forms : ℕ → List Form
 forms version =
     session_form
     ∷ row (codes "open") slot_and_number (λ (slot, channels). OpenAnew slot channels)
+    ∷ keep_form version
     ∷ row (codes "load") load_shape load_by
     ∷ row (codes "append") append_shape append_by
     ∷ row (codes "window") ref_and_start (λ (at, start). Window at start)
@@ -116,6 +130,9 @@ meaning (Session version) = reporting session_conditions (λ state. SessionRepor
 meaning (OpenAnew slot channels) =
     changing (λ state. open_conditions slot channels) (λ state. open_change slot channels)
     (λ state. OpenReport (samples_at state slot))
+meaning (KeepLast slot keep) =
+    changing (λ state. keep_conditions state.window slot keep) (λ state. keep_change slot keep)
+    (λ state. KeepReport (samples_at state slot))
 meaning (Load slot file columns header) = record {
   conditions = λ state. load_conditions state.stores slot columns;
   file_conditions = λ state files. file_conditions state.scale columns header (file_in files file);
@@ -154,10 +171,12 @@ meaning End = reporting (λ state. []) (λ state. EndReport)
 abbrev pub report_text : ℕ → Report → List ℕ
 report_text line SessionReport = ok_text line None
 report_text line (OpenReport samples) = ok_text line (Some samples)
+report_text line (KeepReport samples) = ok_text line (Some samples)
 report_text line (LoadReport samples) = ok_text line (Some samples)
 report_text line (AppendReport samples) = ok_text line (Some samples)
 report_text line (WindowReport start samples scale) = window_text line start samples scale
 report_text line (ProfileReport columns) = profile_text line columns
+report_text line (LiveProfileReport first columns) = live_profile_text line first columns
 report_text line (EntryReport start all left right) = entry_text line start all left right
 report_text line (JoinReport slots) = join_text line slots
 report_text line (MpdistReport dist) = mpdist_text line dist

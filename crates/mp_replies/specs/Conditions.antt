@@ -1,10 +1,11 @@
 -- Why a command is refused: of some conditions, in their order, the first that holds.
 use Rattle.std.specs.Prelude.{ℕ, Bool, ◌||◌, false, nat_le, List, [], ◌∷◌, length, if◌then◌else◌, Option, Some, None}
+use Rattle.std.specs.Prelude.{is_some}
 use Rattle.mp_defs.specs.Window.{windows}
 use Rattle.mp_replies.specs.declared.causes.Cause.{Cause}
-use Rattle.mp_replies.specs.declared.causes.Cause.TheVariants.{Slot, Channel, Index}
+use Rattle.mp_replies.specs.declared.causes.Cause.TheVariants.{Slot, Kept, Channel, Index}
 use Rattle.mp_replies.specs.declared.refs.Ref.{Ref}
-use Rattle.mp_replies.specs.State.{Store, store_at, is_closed, channels_at, series_at}
+use Rattle.mp_replies.specs.State.{Store, store_at, is_closed, keep_at, channels_at, series_at}
 
 -- a word, and whether the command is refused by it where no word before it does
 pub record Condition : Type 0 where
@@ -24,6 +25,10 @@ first_cause (condition ∷ others) = if condition.holds then Some condition.word
 abbrev pub no_slot : List Store → ℕ → Condition
 no_slot stores slot = when (is_closed (store_at stores slot)) Slot
 
+-- the last samples of the slot are kept, and no more
+abbrev pub kept_slot : List Store → ℕ → Condition
+kept_slot stores slot = when (is_some (keep_at stores slot)) Kept
+
 -- the slot has no such channel
 abbrev pub no_channel : List Store → Ref → Condition
 no_channel stores at = when (nat_le (length (channels_at stores at.slot)) at.channel) Channel
@@ -35,6 +40,14 @@ some_closed stores (at ∷ others) = is_closed (store_at stores at.slot) || some
 
 abbrev pub no_slots : List Store → List Ref → Condition
 no_slots stores refs = when (some_closed stores refs) Slot
+
+-- of one of these slots the last samples are kept, and no more
+abbrev pub some_kept : List Store → List Ref → Bool
+some_kept stores [] = false
+some_kept stores (at ∷ others) = is_some (keep_at stores at.slot) || some_kept stores others
+
+abbrev pub kept_slots : List Store → List Ref → Condition
+kept_slots stores refs = when (some_kept stores refs) Kept
 
 -- one of these refs names a channel that its slot hasn't
 abbrev pub some_absent : List Store → List Ref → Bool

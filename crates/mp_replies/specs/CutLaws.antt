@@ -4,7 +4,7 @@ use Rattle.std.proofs.Common.{refl, ap, arith}
 use Rattle.std.proofs.lemmas.List.{length-take-le, take_all}
 use Rattle.std.proofs.lemmas.Bool.Decides.{nat_tests}
 use Rattle.mp_bytes.specs.Lines.{max_line, most_kept, cut}
-use Rattle.mp_replies.specs.State.{Files, State, first_version, version_of}
+use Rattle.mp_replies.specs.State.{Files, State, first_version}
 use Rattle.mp_replies.specs.Answer.{Answer}
 use Rattle.mp_replies.specs.Line.{Asked, asked_of, is_end, ends}
 use Rattle.mp_replies.specs.Step.{Verdict, verdict, verdict_of, cause, cause_in, after, after_by, answer, answer_by}
@@ -33,7 +33,7 @@ asked_cut version line = cut_by version line (nat_lt max_line (length line)) ref
 verdict_cut : (state : State) (files : Files) (line : List ℕ)
     → verdict state (cut line) files ≡ verdict state line files
 unfolding verdict
-verdict_cut state files line = ap (λ (asked : Asked). verdict_of state files asked) (asked_cut (version_of state) line)
+verdict_cut state files line = ap (λ (asked : Asked). verdict_of state files asked) (asked_cut state.version line)
 
 pub cause_cut : (state : State) (files : Files) (line : List ℕ) → cause state (cut line) files ≡ cause state line files
 unfolding cause
@@ -58,7 +58,7 @@ ends_cut line = ap is_end (asked_cut first_version line)
 
 pub fetches_cut : (state : State) (line : List ℕ) → fetches state (cut line) ≡ fetches state line
 unfolding fetches
-fetches_cut state line = ap (fetches_by state) (asked_cut (version_of state) line)
+fetches_cut state line = ap (fetches_by state) (asked_cut state.version line)
 
 pub run_cut : LongLinesAreRunCut
 run_cut state line files = record {

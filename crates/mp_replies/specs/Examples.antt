@@ -7,14 +7,14 @@ use Rattle.mp_bytes.specs.Fields.{fields}
 use Rattle.mp_bytes.specs.Lines.{lines, ended_lines}
 use Rattle.mp_replies.specs.AppendCommand.{item_of}
 use Rattle.mp_replies.specs.declared.refs.Ref.{Ref}
-use Rattle.mp_replies.specs.Command.{Session, OpenAnew, Load, Append, Profile, End}
+use Rattle.mp_replies.specs.Command.{Session, OpenAnew, KeepLast, Load, Append, Profile, End}
 use Rattle.mp_replies.specs.Command.{Join, Multi, Match, Motifs, Discords, Chain, Chains, Segments, Mpdist, Consensus}
 use Rattle.mp_replies.specs.Conditions.{first_cause}
 use Rattle.mp_replies.specs.Line.{Asked, Nothing, Asks, Faulty, asked_of}
 use Rattle.mp_replies.specs.LoadCommand.{file_conditions, file_in, table_in}
 use Rattle.mp_replies.specs.MotifsCommand.{motif_query}
 use Rattle.mp_replies.specs.Words.{Setup, job, session_job}
-use Rattle.mp_replies.specs.State.{Files, State, opening, first_version, Closed, Open}
+use Rattle.mp_replies.specs.State.{Files, State, opening, first_version, second_version, Closed, Open, Kept}
 use Rattle.mp_replies.specs.Step.{cause}
 use Rattle.mp_replies.specs.Output.{output}
 
@@ -86,10 +86,22 @@ channel s c = record { slot = s; channel = c }
 abbrev asked : List ℕ → Asked
 asked line = asked_of first_version line
 
+-- and where it has named the second
+abbrev asked_later : List ℕ → Asked
+asked_later line = asked_of second_version line
+
 -- what lines ask for, and why they are refused whatever the state
 pub record AskedLines : Type 0 where
   pub session : asked (codes "session 01") ≡ Asks (Session 1)
-  pub other_version : asked (codes "session 2") ≡ Faulty cause.Version
+  pub second : asked (codes "session 2") ≡ Asks (Session 2)
+  pub other_version : asked (codes "session 3") ≡ Faulty cause.Version
+  pub keep : asked_later (codes "keep 0 5") ≡ Asks (KeepLast 0 5)
+  pub keep_in_first : asked (codes "keep 0 5") ≡ Faulty cause.Unknown
+  pub keep_alone : asked_later (codes "keep 0") ≡ Faulty cause.Fields
+  pub keep_few : asked_later (codes "keep 0 2") ≡ Faulty cause.Number
+  pub keep_most : asked_later (codes "keep 0 262144") ≡ Asks (KeepLast 0 262144)
+  pub keep_more : asked_later (codes "keep 0 262145") ≡ Faulty cause.Number
+  pub keep_ref : asked_later (codes "keep 0.0 5") ≡ Faulty cause.Number
   pub no_version : asked (codes "session") ≡ Faulty cause.Version
   pub unknown : asked (codes "frob 1") ≡ Faulty cause.Unknown
   pub no_items : asked (codes "append 0") ≡ Faulty cause.Fields
@@ -141,12 +153,37 @@ BadItemIsNamed = (files : Files) → cause start (codes "append 0 7 8 9 10 1.2x"
 -- a session whose slot 0 has this series
 abbrev pub session_of : Series → State
 session_of a =
-    record { window = 3; scale = 0; lines = 1; begun = true; stores = Open (a ∷ []) ∷ replicate 7 Closed }
+    record {
+      window = 3;
+      scale = 0;
+      version = first_version;
+      lines = 1;
+      begun = true;
+      stores = Open (a ∷ []) ∷ replicate 7 Closed;
+    }
+
+-- a session in whose slot 0 the last five samples of this series are kept
+abbrev pub kept_session_of : Series → State
+kept_session_of a =
+    record {
+      window = 3;
+      scale = 0;
+      version = second_version;
+      lines = 2;
+      begun = true;
+      stores = Kept 5 a ∷ replicate 7 Closed;
+    }
 
 -- one more sample than a series can have
 abbrev pub FullSeriesIsRefused : Type 0
 FullSeriesIsRefused =
     (a : Series) (files : Files) → length a ≡ 262144 → cause (session_of a) (codes "append 0 1") files ≡ Some cause.Full
+
+-- and one more than are ever appended where the last ones are kept
+abbrev pub FullKeptSeriesIsRefused : Type 0
+FullKeptSeriesIsRefused =
+    (a : Series) (files : Files)
+    → length a ≡ 4294967296 → cause (kept_session_of a) (codes "append 0 1") files ≡ Some cause.Full
 
 abbrev pub words : List (List ℕ)
 words = codes "--window" ∷ codes "3" ∷ []
@@ -184,8 +221,32 @@ RefusalsOutput =
     (files : Files) → output words files
     (codes "session 2\nsession 1\nsession 1\nfrob 1\nappend 0\n"
     ++ codes "append x 1\nappend 9 1\nappend 3 1\nprofile 0.1\nentry 9.9 x\n")
-    ≡ codes "refused 1 version\nok 2\nrefused 3 version\nrefused 4 unknown\nrefused 5 fields\n"
+    ≡ codes "ok 1\nrefused 2 version\nrefused 3 version\nrefused 4 unknown\nrefused 5 fields\n"
     ++ codes "refused 6 number\nrefused 7 slot\nrefused 8 slot\nrefused 9 channel\nrefused 10 number\n"
+
+-- the last five samples are kept, of which three windows are live
+abbrev pub KeptOutput : Type 0
+KeptOutput =
+    (files : Files) → output words files
+    (codes "session 2\nkeep 0 5\nappend 0 1 2 3 1 2 3 1\nprofile 0\nentry 0 1\ndiscords 0 2\nchains 0\nkeep 0 2\n")
+    ≡ codes "ok 1\nok 2 0\nok 3 7\nprofile 4 3\n2 6 0 0 4\n3 6 1 1 -\n4 6 2 2 -\nrefused 5 index\n"
+    ++ codes "discords 6 2\n2 6 0\n4 6 2\nrefused 7 kept\nrefused 8 number\n"
+
+-- `kept` stands between `slot` and `channel`, and a kept slot is opened anew
+abbrev pub KeptRefusalsOutput : Type 0
+KeptRefusalsOutput =
+    (files : Files) → output words files
+    (codes "session 2\nkeep 1 3\nkeep 8 3\nkeep 8 2\nentry 1.1 0\nentry 1 0\njoin 1.1 2\njoin 0.1 1\nload 1 none 1,2\n"
+    ++ codes "append 1 1,2\nappend 1 1 2 3 4\nentry 1 0\nentry 1 1\nentry 1 2\nopen 1 2\nprofile 1.1\n")
+    ≡ codes "ok 1\nok 2 0\nrefused 3 slot\nrefused 4 number\nrefused 5 channel\nrefused 6 index\nrefused 7 slot\n"
+    ++ codes "refused 8 kept\nrefused 9 kept\nrefused 10 sample 1\nok 11 4\nrefused 12 index\nentry 13 1 - - - -\n"
+    ++ codes "refused 14 index\nok 15 0\nprofile 16 0\n"
+
+-- version 1 has no kept slots
+abbrev pub FirstVersionOutput : Type 0
+FirstVersionOutput =
+    (files : Files) → output words files (codes "session 1\nkeep 0 5\nkeep\n")
+    ≡ codes "ok 1\nrefused 2 unknown\nrefused 3 unknown\n"
 
 -- no line behind `end` is run
 abbrev pub EndOutput : Type 0

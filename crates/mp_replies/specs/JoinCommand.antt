@@ -3,13 +3,14 @@ use Rattle.std.specs.Prelude.{ℕ, List, [], ◌∷◌, ◌++◌, codes, Option}
 use Rattle.mp_nums.specs.declared.nearest.Near.{Near}
 use Rattle.mp_defs.specs.Profile.{ab_join}
 use Rattle.mp_replies.specs.Command.{Report, JoinReport}
-use Rattle.mp_replies.specs.Conditions.{Condition, no_slots, no_channels}
+use Rattle.mp_replies.specs.Conditions.{Condition, no_slots, kept_slots, no_channels}
 use Rattle.mp_replies.specs.declared.refs.Ref.{Ref}
 use Rattle.mp_replies.specs.State.{State, Store, series_at}
 use Rattle.mp_replies.specs.Text.{column_text}
 
 abbrev pub join_conditions : List Store → Ref → Ref → List Condition
-join_conditions stores a b = no_slots stores (a ∷ b ∷ []) ∷ no_channels stores (a ∷ b ∷ []) ∷ []
+join_conditions stores a b =
+    no_slots stores (a ∷ b ∷ []) ∷ kept_slots stores (a ∷ b ∷ []) ∷ no_channels stores (a ∷ b ∷ []) ∷ []
 
 -- ---- the report
 

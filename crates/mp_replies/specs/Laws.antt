@@ -4,20 +4,22 @@ use Rattle.std.specs.Prelude.{length, map}
 use Rattle.std.specs.Prelude.{slice_index_or, Some, None, Ok, Err, flat_map}
 use Rattle.mp_bytes.specs.Fields.{is_blank_line, is_comment}
 use Rattle.mp_bytes.specs.Lines.{max_line, cut}
+use Rattle.mp_defs.specs.Limits.{max_samples, min_window}
 use Rattle.mp_text.specs.Rows.{Row}
 use Rattle.mp_results.specs.Motifs.{MotifQuery}
 use Rattle.mp_replies.specs.declared.causes.Cause.{Cause}
 use Rattle.mp_replies.specs.declared.causes.Cause.TheVariants as words
 use Rattle.mp_replies.specs.Words.{Job}
-use Rattle.mp_replies.specs.State.{Files, State, channels_at, version_of}
+use Rattle.mp_replies.specs.State.{Files, State, channels_at, first_version, second_version}
 use Rattle.mp_replies.specs.Answer.{Silent, Refused, Ended}
 use Rattle.mp_replies.specs.Command.{Report}
-use Rattle.mp_replies.specs.Command.{Command, Load, Append, Match, Motifs, Discords, Segments, Consensus}
+use Rattle.mp_replies.specs.Command.{Command, Session, KeepLast, Load, Append, Match, Motifs, Discords, Segments}
+use Rattle.mp_replies.specs.Command.{Consensus}
 use Rattle.mp_replies.specs.Limits.{max_channels, max_column, max_count, max_factor, max_motifs, max_refs, max_square}
 use Rattle.mp_replies.specs.Limits.{min_refs}
 use Rattle.mp_replies.specs.Conditions.{Condition}
 use Rattle.mp_replies.specs.AppendCommand.{item_of, read_items}
-use Rattle.mp_replies.specs.Line.{Asks, asked_of, ends}
+use Rattle.mp_replies.specs.Line.{Asks, asked_of, ends, is_end}
 use Rattle.mp_replies.specs.Step.{cause, after, counted, answer, conditions, fetches}
 use Rattle.mp_replies.specs.Output.{reply, some_refused, state_after, output_by}
 
@@ -67,6 +69,10 @@ EndsAreAnswered =
     (state : State) (line : List ℕ) (files : Files)
     → (ends line ≡ true) ↔ ((report : Report) × (answer state line files ≡ Ended report))
 
+-- by each version the same lines end it
+abbrev pub EndsAreOfEachVersion : Type 0
+EndsAreOfEachVersion = (version : ℕ) (line : List ℕ) → is_end (asked_of version line) ≡ ends line
+
 -- files change nothing of a line that asks for none
 abbrev pub OtherLinesReadNoFile : Type 0
 OtherLinesReadNoFile =
@@ -83,15 +89,16 @@ rank words.Unknown = 2
 rank words.Fields = 3
 rank words.Number = 4
 rank words.Slot = 5
-rank words.Channel = 6
-rank (words.Sample number) = 7
-rank words.Full = 8
-rank words.File = 9
-rank words.FileSize = 10
-rank (words.Record number) = 11
-rank words.Rows = 12
-rank words.Index = 13
-rank words.Missing = 14
+rank words.Kept = 6
+rank words.Channel = 7
+rank (words.Sample number) = 8
+rank words.Full = 9
+rank words.File = 10
+rank words.FileSize = 11
+rank (words.Record number) = 12
+rank words.Rows = 13
+rank words.Index = 14
+rank words.Missing = 15
 
 -- the word of each stands before that of the next
 abbrev pub StandInOrder : List Condition → Type 0
@@ -137,6 +144,7 @@ AppendEach version slot (line ∷ lines) (items ∷ groups) =
 pub record AreAlike (a b : State) : Type 0 where
   pub window_is : a.window ≡ b.window
   pub scale_is : a.scale ≡ b.scale
+  pub version_is : a.version ≡ b.version
   pub begun_is : a.begun ≡ b.begun
   pub stores_are : a.stores ≡ b.stores
 
@@ -146,8 +154,8 @@ abbrev pub AppendsAddUp : Type 0
 AppendsAddUp =
     (state : State) (files : Files) (slot : ℕ)
     (first : List ℕ) (lines : List (List ℕ)) (groups : List (List (List ℕ))) (whole : List ℕ)
-    → 0 < length (channels_at state.stores slot) → AppendEach (version_of state) slot (first ∷ lines) groups
-    → asked_of (version_of state) whole ≡ Asks (Append slot (flat_map (λ items. items) groups))
+    → 0 < length (channels_at state.stores slot) → AppendEach state.version slot (first ∷ lines) groups
+    → asked_of state.version whole ≡ Asks (Append slot (flat_map (λ items. items) groups))
     → some_refused state files (first ∷ lines) ≡ false
     → (cause state whole files ≡ None)
     × AreAlike (state_after state files (first ∷ lines)) (after state whole files)
@@ -173,6 +181,8 @@ IsMotifQuery query =
 
 -- the numbers that a command names lie within their limits
 abbrev pub IsWithin : Command → Type 0
+IsWithin (Session version) = (first_version ≤ version) × (version ≤ second_version)
+IsWithin (KeepLast slot keep) = (min_window ≤ keep) × (keep ≤ max_samples)
 IsWithin (Load slot file cols header) = AreColumns cols
 IsWithin (Match at query start radius max) = (radius ≤ max_square) × IsCount max_count max
 IsWithin (Motifs at query) = IsMotifQuery query

@@ -1,4 +1,5 @@
 pub mod Limits
+pub mod Band
 pub mod State
 pub mod Numbers
 pub mod Words
@@ -11,6 +12,7 @@ pub mod Text
 pub mod Shapes
 pub mod SessionCommand
 pub mod OpenCommand
+pub mod KeepCommand
 pub mod LoadCommand
 pub mod AppendCommand
 pub mod WindowCommand
@@ -33,6 +35,7 @@ pub mod Report
 pub mod Output
 pub mod Laws
 pub mod CutLaws
+pub mod EndLaws
 pub mod LimitLaws
 pub mod ArcLaws
 pub mod Examples

@@ -1,7 +1,8 @@
 -- What a line asks for lies within its limits.
-use Rattle.std.specs.Prelude.{◌≡◌, ℕ, ◌+◌, ◌≤◌, ◌&&◌, All, Bool, true, false, nat_le, nat_lt, ◌==◌, List, [], ◌∷◌}
+use Rattle.std.specs.Prelude.{◌≡◌, ℕ, ◌+◌, ◌≤◌, ◌&&◌, ◌||◌, All, Bool, true, false, nat_le, nat_lt, ◌==◌, List, [], ◌∷◌}
 use Rattle.std.specs.Prelude.{length}
 use Rattle.std.specs.Prelude.{map, slice_index, codes, if◌then◌else◌, Option, Some, None, ok_or, Result, Ok, Err}
+use Rattle.std.specs.Prelude.{option_and_then}
 use Rattle.std.specs.Option.{option_zip}
 use Rattle.std.proofs.Common.{zero, suc, refl, ap, subst, arith}
 use Rattle.std.proofs.lemmas.Bool.Decides.{nat_tests}
@@ -11,6 +12,7 @@ use Rattle.mp_bytes.specs.Digits.{are_digits, number_of, value_of}
 use Rattle.mp_bytes.specs.Fields.{fields}
 use Rattle.mp_bytes.specs.Lines.{max_line}
 use Rattle.mp_bytes.specs.Values.{values_in}
+use Rattle.mp_defs.specs.Limits.{max_samples, min_window}
 use Rattle.mp_replies.specs.declared.causes.Cause.{Cause}
 use Rattle.mp_replies.specs.declared.causes.Cause.TheVariants as cause
 use Rattle.mp_replies.specs.declared.refs.Ref.{Ref}
@@ -20,15 +22,17 @@ use Rattle.mp_replies.specs.Limits.{max_channels, max_column, max_count, max_dig
 use Rattle.mp_replies.specs.Limits.{max_square, min_refs}
 use Rattle.mp_replies.specs.LoadCommand.{header_of, load_shape}
 use Rattle.mp_replies.specs.Line.{Nothing, Asks, Faulty, asked_in, asked_of, asks, command_in}
-use Rattle.mp_replies.specs.Commands.{Form, forms, made, row}
+use Rattle.mp_replies.specs.Commands.{Form, forms, made, row, since}
+use Rattle.mp_replies.specs.KeepCommand.{keep_by, keep_shape}
 use Rattle.mp_replies.specs.MatchCommand.{match_shape}
 use Rattle.mp_replies.specs.MotifsCommand.{motif_query, motifs_shape}
-use Rattle.mp_replies.specs.Numbers.{all_some, column, columns, count, factor, few, neighbours, number, onto_some}
+use Rattle.mp_replies.specs.Numbers.{all_some, column, columns, count, factor, few, kept, neighbours, number}
+use Rattle.mp_replies.specs.Numbers.{onto_some}
 use Rattle.mp_replies.specs.Numbers.{positive, ref, refs}
 use Rattle.mp_replies.specs.Numbers.{squared}
 use Rattle.mp_replies.specs.SegmentsCommand.{segments_shape}
-use Rattle.mp_replies.specs.SessionCommand.{session_of, session_with}
-use Rattle.mp_replies.specs.State.{first_version}
+use Rattle.mp_replies.specs.SessionCommand.{is_version, session_of, session_with}
+use Rattle.mp_replies.specs.State.{first_version, second_version}
 use Rattle.mp_replies.specs.Shapes.{Shape, by_shape, last, no_field, ref_and_count, ◌&◌}
 use Rattle.mp_replies.specs.Laws.{AreColumns, IsCount, IsMotifQuery, IsWithin, LimitsAreKept}
 
@@ -72,6 +76,25 @@ fews text n h =
     let found = positive_some (number_of max_digits max_motifs text) n h in
     (found.0, at_most max_digits max_motifs text n found.1)
 
+kept_by : (n m : ℕ) (b : Bool) → nat_le min_window n ≡ b → (if b then Some n else None) ≡ Some m
+    → (min_window ≤ m) × (n ≡ m)
+kept_by n m true is h =
+    let same : n ≡ m = cc in
+    (subst (λ k. min_window ≤ k) same (grind (arith, nat_tests)), same)
+kept_by n m false is h = absurd (cc h)
+
+kept_some : (read : Option ℕ) (n : ℕ)
+    → option_and_then (λ (k : ℕ). if nat_le min_window k then Some k else None) read ≡ Some n
+    → (min_window ≤ n) × (read ≡ Some n)
+kept_some None n h = absurd (cc h)
+kept_some (Some m) n h = let found = kept_by m n (nat_le min_window m) refl h in (found.0, ap Some found.1)
+
+-- how many samples are kept
+keeps : Gives kept (λ n. (min_window ≤ n) × (n ≤ max_samples))
+keeps text n h =
+    let found = kept_some (number_of max_digits max_samples text) n h in
+    (found.0, at_most max_digits max_samples text n found.1)
+
 squares : Gives squared (λ n. n ≤ max_square)
 squares = at_most max_digits max_square
 
@@ -103,6 +126,11 @@ behind first rest Q others fields found e =
     (and_gives first rest (λ _. Unit {0}) Q (λ text a is. tt) others fields found e).1
 
 -- ---- what limited fields give
+
+keep_gives : Gives keep_shape.read (λ found. (min_window ≤ found.1) × (found.1 ≤ max_samples))
+keep_gives =
+    behind number (last kept) (λ n. (min_window ≤ n) × (n ≤ max_samples))
+    (last_gives kept (λ n. (min_window ≤ n) × (n ≤ max_samples)) keeps)
 
 match_gives : Gives match_shape.read (λ found. (found.1.1.1.0 ≤ max_square) × IsCount max_count found.1.1.1.1)
 match_gives =
@@ -260,14 +288,20 @@ refs_within fields list fits is =
 
 -- ---- the version of a session
 
-versioned : (n : ℕ) (same : Bool) (command : Command)
+version_by : (n : ℕ) (first second : Bool) → (n == first_version) ≡ first → (n == second_version) ≡ second
+    → (first || second) ≡ true → IsWithin (Session n)
+version_by n first second one two h = (grind (arith, nat_tests), grind (arith, nat_tests))
+
+versioned : (n : ℕ) (same : Bool) (command : Command) → is_version n ≡ same
     → (if same then Ok (Session n) else Err cause.Version) ≡ Ok command → IsWithin command
-versioned n true command e = let is : Session n ≡ command = cc in subst IsWithin is tt
-versioned n false command e = absurd (cc e)
+versioned n true command there e =
+    let is : Session n ≡ command = cc in
+    subst IsWithin is (version_by n (n == first_version) (n == second_version) refl refl there)
+versioned n false command there e = absurd (cc e)
 
 numbered : (read : Option ℕ) (command : Command) → session_with read ≡ Ok command → IsWithin command
 numbered None command e = absurd (cc e)
-numbered (Some n) command e = versioned n (n == first_version) command e
+numbered (Some n) command e = versioned n (is_version n) command refl e
 
 session_within : (fields : List (List ℕ)) (command : Command) → session_of fields ≡ Ok command → IsWithin command
 session_within (field ∷ []) command e = numbered (number field) command e
@@ -284,10 +318,27 @@ infixr 50 ◌and◌
 abbrev ◌and◌ : {A B : Type 0} → A → B → A × B
 ◌and◌ a b = (a, b)
 
+unless_early : (there : Bool) (read : Result Command Cause) (command : Command)
+    → (read ≡ Ok command → IsWithin command) → (if there then read else Err cause.Unknown) ≡ Ok command
+    → IsWithin command
+unless_early true read command h e = h e
+unless_early false read command h e = absurd (cc e)
+
+since_within : (first version : ℕ) (form : Form) → KeepsLimits form → KeepsLimits (since first version form)
+since_within first version form h = record {
+  within = λ fields command.
+      unless_early (nat_le first version) (form.read fields) command (h.within fields command);
+}
+
+keep_within : (found : ℕ × ℕ) → (min_window ≤ found.1) × (found.1 ≤ max_samples) → IsWithin (keep_by found)
+keep_within (slot, keep) h = h
+
 forms_within : (version : ℕ) → AllKeep (forms version)
 forms_within version =
     record { within = session_within }
     and free (codes "open") _ _ (λ _. tt)
+    and since_within second_version version (row (codes "keep") keep_shape keep_by)
+    (row_within (codes "keep") keep_shape _ (λ fields found fits is. keep_within found (keep_gives fields found is)))
     and row_within (codes "load") load_shape _ (λ fields found fits is. load_gives fields found is)
     and free (codes "append") _ _ (λ _. tt)
     and free (codes "window") _ _ (λ _. tt)

@@ -5,12 +5,13 @@ use Rattle.mp_defs.specs.Profile.{ab_join}
 use Rattle.mp_defs.specs.Series.{Series}
 use Rattle.mp_results.specs.Mpdist.{mpdist_of}
 use Rattle.mp_replies.specs.Command.{Report, MpdistReport}
-use Rattle.mp_replies.specs.Conditions.{Condition, no_slots, no_channels}
+use Rattle.mp_replies.specs.Conditions.{Condition, no_slots, kept_slots, no_channels}
 use Rattle.mp_replies.specs.declared.refs.Ref.{Ref}
 use Rattle.mp_replies.specs.State.{State, Store, series_at}
 
 abbrev pub mpdist_conditions : List Store → Ref → Ref → List Condition
-mpdist_conditions stores a b = no_slots stores (a ∷ b ∷ []) ∷ no_channels stores (a ∷ b ∷ []) ∷ []
+mpdist_conditions stores a b =
+    no_slots stores (a ∷ b ∷ []) ∷ kept_slots stores (a ∷ b ∷ []) ∷ no_channels stores (a ∷ b ∷ []) ∷ []
 
 -- ---- the report
 

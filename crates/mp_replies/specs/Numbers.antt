@@ -4,6 +4,7 @@ use Rattle.std.specs.Prelude.{if◌then◌else◌, Option, Some, None, option_ma
 use Rattle.mp_bytes.specs.Bytes.{point}
 use Rattle.mp_bytes.specs.Digits.{number_of}
 use Rattle.mp_bytes.specs.Values.{values_in}
+use Rattle.mp_defs.specs.Limits.{max_samples, min_window}
 use Rattle.mp_replies.specs.Limits.{max_digits, max_number, max_column, max_channels, max_square, max_count, max_motifs}
 use Rattle.mp_replies.specs.Limits.{max_factor}
 use Rattle.mp_replies.specs.declared.refs.Ref.{Ref}
@@ -33,6 +34,11 @@ neighbours field = number_of max_digits max_count field
 -- how many window lengths
 abbrev pub factor : List ℕ → Option ℕ
 factor field = number_of max_digits max_factor field
+
+-- how many samples of a slot are kept
+abbrev pub kept : List ℕ → Option ℕ
+kept field =
+    option_and_then (λ (n : ℕ). if nat_le min_window n then Some n else None) (number_of max_digits max_samples field)
 
 -- what is made of one more value, where all are there
 abbrev pub with_next : {A B : Type 0} → Option (A → B) → Option A → Option B

@@ -1,6 +1,6 @@
 -- What a session keeps between lines.
-use Rattle.std.specs.Prelude.{ℕ, Bool, true, false, List, [], ◌∷◌, length, replicate, slice_get, slice_index_or, Some}
-use Rattle.std.specs.Prelude.{None}
+use Rattle.std.specs.Prelude.{ℕ, Bool, true, false, List, [], ◌∷◌, length, replicate, slice_get, slice_index_or}
+use Rattle.std.specs.Prelude.{Option, Some, None}
 use Rattle.std.specs.FinMap.{FinMap}
 use Rattle.std.specs.Cmp.Lexicographic.{slice_cmp}
 use Rattle.std.specs.Ordering.{nat_cmp}
@@ -11,14 +11,18 @@ use Rattle.mp_replies.specs.declared.refs.Ref.{Ref}
 abbrev pub Files : Type 0
 Files = FinMap (slice_cmp nat_cmp) (List ℕ)
 
--- a slot of the session: closed, or channels of equal length
+-- a slot of the session: closed, or channels of equal length, or one channel of which the last samples are kept
 pub data Store : Type 0 where
   Closed : Store
   Open : (channels : List Series) → Store
+  -- how many samples are kept, and all samples that were ever appended
+  Kept : (keep : ℕ) (series : Series) → Store
 
 pub record State : Type 0 where
   pub window : ℕ
   pub scale : ℕ
+  -- the version by which the next line is read
+  pub version : ℕ
   -- how many lines were run
   pub lines : ℕ
   -- whether a command was accepted
@@ -30,14 +34,21 @@ pub record State : Type 0 where
 abbrev pub first_version : ℕ
 first_version = 1
 
--- the version by which the next line is read
-abbrev pub version_of : State → ℕ
-version_of state = first_version
+-- the version that has kept slots, too
+abbrev pub second_version : ℕ
+second_version = 2
 
 -- at the start slot 0 has one empty channel, and the others are closed
 abbrev pub opening : ℕ → ℕ → State
 opening window scale =
-    record { window = window; scale = scale; lines = 0; begun = false; stores = Open ([] ∷ []) ∷ replicate 7 Closed }
+    record {
+      window = window;
+      scale = scale;
+      version = first_version;
+      lines = 0;
+      begun = false;
+      stores = Open ([] ∷ []) ∷ replicate 7 Closed;
+    }
 
 -- ---- what stands in a slot
 
@@ -48,10 +59,21 @@ store_at stores slot = elim (slice_get stores slot) as (λ _. Store) [ None ↦ 
 abbrev pub is_closed : Store → Bool
 is_closed Closed = true
 is_closed (Open channels) = false
+is_closed (Kept keep series) = false
+
+-- how many samples of a slot are kept, none where all are
+abbrev pub keep_in : Store → Option ℕ
+keep_in Closed = None
+keep_in (Open channels) = None
+keep_in (Kept keep series) = Some keep
+
+abbrev pub keep_at : List Store → ℕ → Option ℕ
+keep_at stores slot = keep_in (store_at stores slot)
 
 abbrev pub channels_in : Store → List Series
 channels_in Closed = []
 channels_in (Open channels) = channels
+channels_in (Kept keep series) = series ∷ []
 
 abbrev pub channels_at : List Store → ℕ → List Series
 channels_at stores slot = channels_in (store_at stores slot)

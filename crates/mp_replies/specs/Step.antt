@@ -1,12 +1,13 @@
 -- One line: why it is refused, what it changes and what it is answered.
 use Rattle.std.specs.Prelude.{ℕ, ◌+◌, Bool, true, false, List, ◌++◌, is_none, if◌then◌else◌, Option, Some, None}
 use Rattle.mp_replies.specs.declared.causes.Cause.{Cause}
-use Rattle.mp_replies.specs.State.{Files, State, version_of}
+use Rattle.mp_replies.specs.State.{Files, State}
 use Rattle.mp_replies.specs.Change.{Change, Keep, changed}
 use Rattle.mp_replies.specs.Command.{Command, Load, End, Report}
 use Rattle.mp_replies.specs.Commands.{meaning}
 use Rattle.mp_replies.specs.Conditions.{Condition, first_cause}
 use Rattle.mp_replies.specs.LoadCommand.{load_conditions}
+use Rattle.mp_replies.specs.SessionCommand.{version_behind}
 use Rattle.mp_replies.specs.Answer.{Answer}
 use Rattle.mp_replies.specs.Answer.{Silent, Refused, Accepted, Ended}
 use Rattle.mp_replies.specs.Line.{Asked, Nothing, Asks, Faulty, asked_of}
@@ -49,7 +50,7 @@ verdict_of state files (Asks command) =
     verdict_by command (first_cause (conditions state files command)) (change_by state files command)
 
 unfoldable pub verdict : State → List ℕ → Files → Verdict
-verdict state line files = verdict_of state files (asked_of (version_of state) line)
+verdict state line files = verdict_of state files (asked_of state.version line)
 
 -- ---- what follows from it
 
@@ -71,7 +72,12 @@ abbrev pub after_by : State → Verdict → State
 after_by state Passes = counted state
 after_by state (IsRefused cause) = counted state
 after_by state (IsAccepted command change) =
-    record state { lines = state.lines + 1; begun = true; stores = changed state.stores change }
+    record state {
+      version = version_behind state.version command;
+      lines = state.lines + 1;
+      begun = true;
+      stores = changed state.stores change;
+    }
 
 abbrev pub answer_by : State → Verdict → Answer
 answer_by later Passes = Silent
@@ -102,4 +108,4 @@ fetches_by state Nothing = false
 fetches_by state (Faulty cause) = false
 
 unfoldable pub fetches : State → List ℕ → Bool
-fetches state line = fetches_by state (asked_of (version_of state) line)
+fetches state line = fetches_by state (asked_of state.version line)

@@ -3,22 +3,25 @@
 pub enum Cause {
     /// The line has more than 1,048,576 bytes.
     Long,
-    /// It begins with `session`, and isn't `session 1`, or some command was accepted before.
+    /// It begins with `session`, and is neither `session 1` nor `session 2`, or some command was accepted before.
     Version,
-    /// Its first field is no command word.
+    /// Its first field is no command word of the session's version.
     Unknown,
     /// The command has another number of fields.
     Fields,
     /// A number, a ref or a list of columns is malformed or outside its limit.
     Number,
-    /// A slot is above 7, or it isn't open.
+    /// A slot is above 7, or it is closed.
     Slot,
+    /// The last samples of a slot are kept, and the command asks for more.
+    Kept,
     /// A slot has no such channel, or another number of channels.
     Channel,
     /// The item of this number, counted from 1, is the first with a value that is no sample, or with another number of
     /// values than the slot has channels.
     Sample(u64),
-    /// A series would be longer than 262,144 samples.
+    /// A series would be longer than 262,144 samples, or one of which the last samples are kept longer than
+    /// 4,294,967,296.
     Full,
     /// There is no such file.
     File,

@@ -7,12 +7,16 @@ ghost use Rattle.mp_replies.specs.Examples.{
   AskedLines,
   BadItemIsNamed,
   FullSeriesIsRefused,
+  FullKeptSeriesIsRefused,
   PlainOutput,
   ShortOutput,
   RefusedPieceOutput,
   EntryOutput,
   ScaledOutput,
   RefusalsOutput,
+  KeptOutput,
+  KeptRefusalsOutput,
+  FirstVersionOutput,
   LoadedFiles,
   LoadOutput,
   OpenOutput,
@@ -56,6 +60,11 @@ pub fn full_series_is_refused()
     ensures { FullSeriesIsRefused }
 {}
 
+/// A series of which the last samples are kept takes no more than 4,294,967,296.
+pub fn full_kept_series_is_refused()
+    ensures { FullKeptSeriesIsRefused }
+{}
+
 /// The profile of 1 2 3 1 2 3 at window length 3.
 pub fn plain_output()
     ensures { PlainOutput }
@@ -85,6 +94,21 @@ pub fn scaled_output()
 /// `full`, and `pattern_output` `index` and `missing`.
 pub fn refusals_output()
     ensures { RefusalsOutput }
+{}
+
+/// The last samples of a slot, and their windows by the numbers that they had from the first sample on.
+pub fn kept_output()
+    ensures { KeptOutput }
+{}
+
+/// Why lines on a slot of which the last samples are kept are refused, and `open` in its place.
+pub fn kept_refusals_output()
+    ensures { KeptRefusalsOutput }
+{}
+
+/// A command of the second version in the first one.
+pub fn first_version_output()
+    ensures { FirstVersionOutput }
 {}
 
 /// The line that ends a run.

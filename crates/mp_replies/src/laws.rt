@@ -7,6 +7,7 @@ ghost use Rattle.mp_replies.specs.Laws.{
   LongLinesAreCut,
   LongLinesAreRunCut,
   EndsAreAnswered,
+  EndsAreOfEachVersion,
   OtherLinesReadNoFile,
   WordsStandInOrder,
   TileAndWorkersChangeNothing,
@@ -40,6 +41,11 @@ pub fn long_lines_are_cut()
 /// A line ends the run exactly where it is accepted as the one that does, whatever the state.
 pub fn ends_are_answered()
     ensures { EndsAreAnswered }
+{}
+
+/// By each version the same lines end the run.
+pub fn ends_are_of_each_version()
+    ensures { EndsAreOfEachVersion }
 {}
 
 /// Of a line that asks for no file, the files change neither the report nor the state behind it.

@@ -44,6 +44,7 @@ fn push_word(text: &mut Vec<u8>, cause: Cause) -> Result<(), Memory>
         Cause::Fields => text.extend_from_slice(b"fields")?,
         Cause::Number => text.extend_from_slice(b"number")?,
         Cause::Slot => text.extend_from_slice(b"slot")?,
+        Cause::Kept => text.extend_from_slice(b"kept")?,
         Cause::Channel => text.extend_from_slice(b"channel")?,
         Cause::Sample(number) => push_numbered(text, b"sample ", number)?,
         Cause::Full => text.extend_from_slice(b"full")?,

@@ -17,7 +17,7 @@ pub use chains::{chain_text, chains_text};
 pub use channels::{consensus_text, mpdist_text};
 pub use matches::{discords_text, match_text, motifs_text};
 pub use mp_replies::Cause;
-pub use profiles::{entry_text, profile_text, window_text};
+pub use profiles::{entry_text, kept_entry_text, kept_profile_text, profile_text, window_text};
 pub use segments::segments_text;
 pub use slots::{SlotsName, slots_text};
 pub use summaries::generated_text;

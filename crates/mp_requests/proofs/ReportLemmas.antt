@@ -21,8 +21,9 @@ use Rattle.mp_replies.specs.Line.{Asks, is_end}
 use Rattle.mp_replies.specs.Numbers.{ref, refs}
 use Rattle.mp_replies.specs.State.{Files, Store, series_at}
 use Rattle.mp_replies.specs.Step.{IsAccepted, after_by, change_by, conditions, is_last, report_by}
-use Rattle.mp_stores.specs.Stores.{AreChannels, IsChannel, StandFor, Stored, channel_series, count_of, items_in}
-use Rattle.mp_stores.specs.Stores.{nothing, series_in, streams_at}
+use Rattle.mp_stores.specs.Stores.{Held, Closed, Open, Kept, AreChannels, IsChannel, StandFor, Stored}
+use Rattle.mp_stores.specs.Stores.{channel_count, channel_series, count_of, items_in, nothing, series_in, streams_at}
+use Rattle.mp_stores.specs.Stores.{streams_in}
 use Rattle.mp_stores.specs.StoreLaws.{series_in_channel, series_stands}
 use Rattle.mp_stream.specs.Streams.{Streamed}
 use Rattle.mp_requests.specs.declared.answers.Answer.TheVariants as answers
@@ -31,25 +32,27 @@ use Rattle.mp_requests.specs.declared.reports.Report as reports
 use Rattle.mp_requests.specs.AnswerLaws.{answer_accepted}
 use Rattle.mp_requests.specs.Answering.{state_over}
 use Rattle.mp_requests.specs.Reports.{IsReported}
-use Rattle.mp_requests.specs.Requests.{NamesChannels, refs_of, report_in}
+use Rattle.mp_requests.specs.Requests.{NamesChannels, refs_of, report_in, version_asked, version_named}
 
 -- ---- reports
 
 -- a command that nothing refuses, whatever stores the slots stand for
 pub reported : {E : Type 0} (context : Context) (command : Command) (held : Stored) (report : reports.Report)
     → NamesChannels held (answers.Accepted report) → false ≡ is_end (Asks command) → is_last command ≡ false
+    → version_named (answers.Accepted report) ≡ version_asked (Asks command)
     → ((stores : List Store) (files : Files) → StandFor held stores
     → first_cause (conditions (state_over context held stores) files command) ≡ None)
     → ((stores : List Store) (files : Files) → StandFor held stores → (let state = state_over context held stores in
     report_in state report ≡ report_by (after_by state (IsAccepted command (change_by state files command))) command))
     → IsReported {E = E} context (Asks command) held (Ok (answers.Accepted report))
-reported context command held report names ends last fine is = record {
+reported context command held report names ends last version fine is = record {
   told = record {
     ok = λ stores files stand.
         answer_accepted (state_over context held stores) files command report (fine stores files stand) last
         (is stores files stand);
     names = names;
     ends = ends;
+    version = version;
   };
   memory = λ stores stand. tt;
 }
@@ -124,6 +127,12 @@ each_channel held slot within =
       slot = within;
       channel = omega (arith, there, get_or-range_with_len 0 count k d there);
     })
+
+-- where there are channels of which all samples are kept, they are all of the slot
+pub some_counted : (held : Held) → 0 < length (streams_in held) → channel_count held ≡ length (streams_in held)
+some_counted Closed some = refl
+some_counted (Open channels) some = refl
+some_counted (Kept kept) some = absurd (omega (arith, some))
 
 -- ---- their lengths
 

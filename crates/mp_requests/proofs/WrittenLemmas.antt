@@ -3,34 +3,19 @@ use Rattle.std.proofs.Common.{◌≡◌, ◌∙◌, ℕ, List, Vec, map, ap, sym
 use Rattle.std.specs.Prelude.{Option}
 use Rattle.std.specs.declared.alloc.Global.{Global}
 use Rattle.mp_nums.specs.Listed.{Listed}
-use Rattle.mp_defs.specs.Profile.{Columns, matrix_profile}
-use Rattle.mp_partial.specs.Profiled.{Profiled}
 use Rattle.mp_results.specs.Chains.{longest_of}
 use Rattle.mp_replies.specs.ChainsCommand.{all_chains_text, chains_text}
-use Rattle.mp_replies.specs.EntryCommand.{entry_in}
-use Rattle.mp_replies.specs.Profiles.{columns_in}
 use Rattle.mp_replies.specs.Commands.{report_text}
-use Rattle.mp_replies.specs.State.{State, series_at}
+use Rattle.mp_replies.specs.State.{State}
 use Rattle.mp_replies.specs.declared.refs.Ref.{Ref}
-use Rattle.mp_stores.specs.Stores.{Stored, channel_series}
+use Rattle.mp_stores.specs.Stores.{Stored}
 use Rattle.mp_requests.specs.declared.reports.Report as reports
 use Rattle.mp_requests.specs.declared.reports.Report.TheVariants as report
-use Rattle.mp_requests.specs.Requests.{AreNamed, AreSlotsOf, IsWindow, report_in}
-use Rattle.mp_requests.proofs.ColumnLemmas.{profile_stands}
+use Rattle.mp_requests.specs.Requests.{AreNamed, IsWindow, report_in}
 
 pub window_named : (held : Stored) (at : Ref) (start : ℕ) (ours : reports.Report) → ours ≡ report.Entry at start
     → AreNamed held ours → IsWindow held at start
 window_named held at start ours is named = subst (AreNamed held) is named
-
-pub entry_written : (state : State) (held : Stored) (line : ℕ) (at : Ref) (start : ℕ) (ours : reports.Report)
-    (profile : Profiled) → ours ≡ report.Entry at start → AreSlotsOf state held → IsWindow held at start
-    → columns_in profile ≡ matrix_profile held.m (channel_series held at)
-    → report_text line (entry_in (columns_in profile) start) ≡ report_text line (report_in state ours)
-entry_written state held line at start ours profile is slots window kept =
-    ap (λ (cs : Columns). report_text line (entry_in cs start))
-    (profile_stands held state.stores at profile slots.stand window.channel kept
-    ∙ ap (λ (n : ℕ). matrix_profile n (series_at state.stores at)) slots.window_is)
-    ∙ ap (λ (r : reports.Report). report_text line (report_in state r)) (sym is)
 
 -- the longest chain is looked for as they are written
 pub chains_written : (state : State) (line : ℕ) (ours : reports.Report) (chains : Vec (Listed ℕ) Global)

@@ -1,10 +1,10 @@
 -- What a line is answered, in the state before it.
-use Rattle.std.specs.Prelude.{◌≡◌, ℕ, List, [], Option, None}
+use Rattle.std.specs.Prelude.{◌≡◌, List, Option, None}
 use Rattle.mp_replies.specs.declared.causes.Cause.{Cause}
 use Rattle.mp_replies.specs.Answer as replies
 use Rattle.mp_replies.specs.Conditions.{Condition, first_cause}
 use Rattle.mp_replies.specs.Line.{Asked, Nothing, Asks, Faulty}
-use Rattle.mp_replies.specs.State.{Files, State, Store, version_of}
+use Rattle.mp_replies.specs.State.{Files, State, Store}
 use Rattle.mp_replies.specs.Step.{after_by, answer_by, state_conditions, verdict_of}
 use Rattle.mp_stores.specs.Stores.{Stored, StandFor}
 use Rattle.mp_requests.specs.declared.answers.Answer.{Answer}
@@ -16,14 +16,11 @@ abbrev pub state_over : Context → Stored → List Store → State
 state_over context held stores = record {
   window = held.m;
   scale = context.settings.scale;
+  version = context.version;
   lines = context.lines;
   begun = context.begun;
   stores = stores;
 }
-
--- the version of each of these states
-abbrev pub version_in : Context → ℕ
-version_in context = version_of (state_over context (record { m = 0; slots = [] }) [])
 
 -- ---- refusals
 

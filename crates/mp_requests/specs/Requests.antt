@@ -1,19 +1,23 @@
 -- What requests ask for, and what answers say.
-use Rattle.std.specs.Prelude.{◌≡◌, ℕ, ◌+◌, ◌≤◌, List, [], ◌∷◌, length, map, option_map, Bool, true, false, unwrap_or}
+use Rattle.std.specs.Prelude.{◌≡◌, ℕ, ◌+◌, ◌<◌, ◌≤◌, List, [], ◌∷◌, length, map, Bool, true, false}
+use Rattle.std.specs.Prelude.{Option, Some, None, option_map, unwrap_or}
 use Rattle.std.specs.List.{range_with_len}
 use Rattle.mp_nums.specs.Listed.{Listed}
 use Rattle.mp_defs.specs.Series.{Series, series_of}
-use Rattle.mp_defs.specs.Profile.{ab_join}
+use Rattle.mp_defs.specs.Profile.{Columns, ab_join}
 use Rattle.mp_results.specs.Consensus.{central}
 use Rattle.mp_results.specs.Curve.{parts_of}
 use Rattle.mp_results.specs.Motifs.{repeated_of}
 use Rattle.mp_replies.specs.Answer as replies
 use Rattle.mp_replies.specs.EntryCommand.{entry_report}
+use Rattle.mp_replies.specs.Limits.{slot_count}
 use Rattle.mp_replies.specs.MpdistCommand.{mpdist_between}
 use Rattle.mp_replies.specs.ProfileCommand.{profile_report}
 use Rattle.mp_replies.specs.State.{State}
 use Rattle.mp_replies.specs.declared.refs.Ref.{Ref}
-use Rattle.mp_stores.specs.Stores.{IsChannel, StandFor, Stored, channel_series, streams_at}
+use Rattle.mp_stores.specs.Stores.{Kept, StandFor, Stored, channel_count, channel_series, keep_of, slot_at, streams_at}
+use Rattle.mp_defs.specs.Band.{first_kept, live_windows}
+use Rattle.mp_stream.specs.Kept.{Keeping}
 use Rattle.mp_requests.specs.declared.answers.Answer.{Answer}
 use Rattle.mp_requests.specs.declared.answers.Answer.TheVariants.{Silent, Refused, Accepted, Ended}
 use Rattle.mp_requests.specs.declared.answers.ReplyKind.{ReplyKind}
@@ -50,6 +54,7 @@ abbrev pub AsksForReport : Asked → Type 0
 AsksForReport Nothing = ⊥
 AsksForReport (Faulty cause) = ⊥
 AsksForReport (Asks (commands.OpenAnew slot channels)) = ⊥
+AsksForReport (Asks (commands.KeepLast slot keep)) = ⊥
 AsksForReport (Asks (commands.Load slot file cols header)) = ⊥
 AsksForReport (Asks (commands.Append slot items)) = ⊥
 AsksForReport (Asks other) = Unit {0}
@@ -106,6 +111,7 @@ lends held other = []
 -- a line that asks for nothing or is refused by itself, and one whose report stands in a profile or shows no samples
 abbrev pub is_unread : Asked → Bool
 is_unread (Asks (commands.OpenAnew slot channels)) = false
+is_unread (Asks (commands.KeepLast slot keep)) = false
 is_unread (Asks (commands.Load slot file cols header)) = false
 is_unread (Asks (commands.Append slot items)) = false
 is_unread (Asks (commands.Window at start)) = false
@@ -121,8 +127,9 @@ is_unread other = true
 
 -- what a report says, where what it names stands in this state
 abbrev pub report_in : State → reports.Report → commands.Report
-report_in state report.Session = commands.SessionReport
+report_in state (report.Session version) = commands.SessionReport
 report_in state (report.Open samples) = commands.OpenReport samples
+report_in state (report.Keep samples) = commands.KeepReport samples
 report_in state (report.Load samples) = commands.LoadReport samples
 report_in state (report.Append samples) = commands.AppendReport samples
 report_in state (report.Window window) =
@@ -148,14 +155,29 @@ abbrev pub compared_in : Comparison → ℕ → Series → Series → commands.R
 compared_in comparison.Join m a b = commands.JoinReport (ab_join m a b)
 compared_in comparison.Mpdist m a b = commands.MpdistReport (mpdist_between m a b)
 
--- a channel has the window that starts there
+-- there is such a channel, of which all samples are kept or the last ones
+pub record IsNamed (held : Stored) (at : Ref) : Type 0 where
+  pub slot : at.slot < slot_count
+  pub channel : at.channel < channel_count (slot_at held at.slot)
+
+-- a live window starts there
+pub record IsLive (kept : Keeping) (start : ℕ) : Type 0 where
+  pub first : first_kept kept.keep kept.count ≤ start
+  pub last : start < first_kept kept.keep kept.count + live_windows kept.keep kept.m kept.count
+
+-- the columns of the live windows of a kept slot
+abbrev pub columns_kept : Keeping → Columns
+columns_kept kept = record { all = kept.all; left = kept.left; right = kept.right }
+
+-- a channel has the window that starts there, and of a kept slot it is a live one
 pub record IsWindow (held : Stored) (at : Ref) (start : ℕ) : Type 0 where
-  pub channel : IsChannel held at
-  pub within : start + held.m ≤ length (channel_series held at)
+  pub named : IsNamed held at
+  pub within : keep_of (slot_at held at.slot) ≡ None → start + held.m ≤ length (channel_series held at)
+  pub live : (kept : Keeping) → slot_at held at.slot ≡ Kept kept → IsLive kept start
 
 -- the slots have what a report names
 abbrev pub AreNamed : Stored → reports.Report → Type 0
-AreNamed held (report.Profile at) = IsChannel held at
+AreNamed held (report.Profile at) = IsNamed held at
 AreNamed held (report.Entry at start) = IsWindow held at start
 AreNamed held other = Unit {0}
 
@@ -179,6 +201,18 @@ NamesChannels held (Ended report) = AreNamed held report
 pub record AreSlotsOf (state : State) (held : Stored) : Type 0 where
   pub window_is : held.m ≡ state.window
   pub stand : StandFor held state.stores
+
+-- ---- versions
+
+-- the version that an accepted answer names, by which the lines behind it are read
+abbrev pub version_named : Answer → Option ℕ
+version_named (Accepted (report.Session version)) = Some version
+version_named other = None
+
+-- the version that a line asks for
+abbrev pub version_asked : Asked → Option ℕ
+version_asked (Asks (commands.Session version)) = Some version
+version_asked other = None
 
 -- ---- kinds
 

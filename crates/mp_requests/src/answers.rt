@@ -69,7 +69,7 @@ pub enum Answer {
 impl Answer {
     ghost use Rattle.mp_replies.specs.Report.{text_of};
     ghost use Rattle.mp_replies.specs.State.{State};
-    ghost use Rattle.mp_requests.specs.Requests.{AreSlotsOf, NamesChannels, answered};
+    ghost use Rattle.mp_requests.specs.Requests.{AreSlotsOf, NamesChannels, answered, version_named};
 
     /// What becomes of the line.
     pub fn kind(&self) -> ReplyKind
@@ -80,6 +80,16 @@ impl Answer {
             Answer::Refused(_) => ReplyKind::Refused,
             Answer::Accepted(_) => ReplyKind::Accepted,
             Answer::Ended(_) => ReplyKind::Ended,
+        }
+    }
+
+    /// The version by which the lines behind it are read, where it names one.
+    pub fn version(&self) -> Option<u64>
+        ensures { result ≡ version_named self.now }
+    {
+        match self {
+            Answer::Accepted(Report::Session { version }) => Some(*version),
+            Answer::Silent | Answer::Refused(_) | Answer::Accepted(_) | Answer::Ended(_) => None,
         }
     }
 

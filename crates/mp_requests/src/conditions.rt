@@ -2,22 +2,44 @@
 
 ghost use Rattle.std.specs.Prelude.{◌≡◌, ◌+◌, ◌≤◌, ◌<◌, List, ◌∷◌, [], All, length, IfNone};
 ghost use Rattle.std.specs.Bool.{OnFalse};
-ghost use Rattle.mp_replies.specs.Conditions.{no_channel, no_channels, no_slot, no_slots, no_window};
-ghost use Rattle.mp_replies.specs.Conditions.{some_absent, some_closed};
+ghost use Rattle.mp_replies.specs.Conditions.{kept_slot, kept_slots, no_channel, no_channels, no_slot, no_slots};
+ghost use Rattle.mp_replies.specs.Conditions.{no_window, some_absent, some_closed, some_kept};
+ghost use Rattle.mp_replies.specs.Band.{is_dropped as is_dropped_in};
+ghost use Rattle.mp_replies.specs.EntryCommand.{entry_conditions, is_absent as is_absent_in};
 ghost use Rattle.mp_replies.specs.MatchCommand.{match_conditions};
 ghost use Rattle.mp_replies.specs.MultiCommand.{multi_conditions};
-ghost use Rattle.mp_replies.specs.State.{Store};
+ghost use Rattle.mp_replies.specs.State.{Store, keep_at, series_at};
 ghost use Rattle.mp_requests.specs.Answering.{IsCause};
-ghost use Rattle.mp_stores.specs.Stores.{AreChannels, IsChannel, StandFor, channel_series, streams_at};
+ghost use Rattle.mp_requests.specs.Requests.{IsLive, IsNamed, IsWindow};
+ghost use Rattle.mp_stores.specs.Stores.{AreChannels, IsChannel, IsOpenSlot, StandFor, channel_series, streams_at};
 
 use mp_replies::{Cause, Ref};
 use mp_series::windows;
 use mp_stores::{SLOTS, Stores};
+use mp_stream::Kept;
 
-/// Why a ref names no channel, if it doesn't.
+/// Why a ref names no channel of which all samples are kept, if it doesn't.
 pub(crate) fn ref_cause(stores: &Stores, at: Ref) -> Option<Cause>
-    ensures cause { IsCause stores.now (λ stands. no_slot stands at.slot ∷ no_channel stands at ∷ []) result }
+    ensures cause { IsCause stores.now
+        (λ stands. no_slot stands at.slot ∷ kept_slot stands at.slot ∷ no_channel stands at ∷ []) result }
     ensures channel { IfNone result (IsChannel stores.now at) }
+{
+    let count = stores.count(at.slot);
+    if count == 0 {
+        Some(Cause::Slot)
+    } else if stores.is_kept(at.slot) {
+        Some(Cause::Kept)
+    } else if count <= at.channel {
+        Some(Cause::Channel)
+    } else {
+        None
+    }
+}
+
+/// Why a ref names no channel, if it doesn't. It may be that of a kept slot.
+pub(crate) fn any_ref_cause(stores: &Stores, at: Ref) -> Option<Cause>
+    ensures cause { IsCause stores.now (λ stands. no_slot stands at.slot ∷ no_channel stands at ∷ []) result }
+    ensures named { IfNone result (IsNamed stores.now at) }
 {
     let count = stores.count(at.slot);
     if count == 0 {
@@ -29,14 +51,18 @@ pub(crate) fn ref_cause(stores: &Stores, at: Ref) -> Option<Cause>
     }
 }
 
-/// Why some refs name no channels, if they don't: one of them no open slot, or else one of them no channel of its slot.
+/// Why some refs name no channels of which all samples are kept, if they don't: one of them a closed slot, or else one
+/// of them a kept slot, or else one of them no channel of its slot.
 pub(crate) fn refs_cause(stores: &Stores, refs: &[Ref]) -> Option<Cause>
     ensures cause { IsCause stores.now
-        (λ stands. no_slots stands refs.now ∷ no_channels stands refs.now ∷ []) result }
+        (λ stands. no_slots stands refs.now ∷ kept_slots stands refs.now ∷ no_channels stands refs.now ∷ []) result }
     ensures channels { IfNone result (All (IsChannel stores.now) refs.now) }
 {
     if is_some_closed(stores, refs) {
         return Some(Cause::Slot);
+    }
+    if is_some_kept(stores, refs) {
+        return Some(Cause::Kept);
     }
     if is_some_absent(stores, refs) {
         return Some(Cause::Channel);
@@ -44,7 +70,20 @@ pub(crate) fn refs_cause(stores: &Stores, refs: &[Ref]) -> Option<Cause>
     None
 }
 
-/// Whether the slot of one of them isn't open.
+/// Whether the slot of one of them is a kept one.
+fn is_some_kept(stores: &Stores, refs: &[Ref]) -> bool
+    ensures kept { (stands : List Store) → StandFor stores.now stands → result ≡ some_kept stands refs.now }
+    ensures open { OnFalse result (All (IsOpenSlot stores.now) refs.now) }
+{
+    for at in refs {
+        if stores.is_kept(at.slot) {
+            return true;
+        }
+    }
+    false
+}
+
+/// Whether the slot of one of them is closed.
 fn is_some_closed(stores: &Stores, refs: &[Ref]) -> bool
     ensures { (stands : List Store) → StandFor stores.now stands → result ≡ some_closed stands refs.now }
 {
@@ -59,7 +98,7 @@ fn is_some_closed(stores: &Stores, refs: &[Ref]) -> bool
 /// Whether one of them names a channel that its slot hasn't.
 fn is_some_absent(stores: &Stores, refs: &[Ref]) -> bool
     ensures absent { (stands : List Store) → StandFor stores.now stands → result ≡ some_absent stands refs.now }
-    ensures channels { OnFalse result (All (IsChannel stores.now) refs.now) }
+    ensures channels { OnFalse result (All (IsOpenSlot stores.now) refs.now → All (IsChannel stores.now) refs.now) }
 {
     for at in refs {
         if stores.count(at.slot) <= at.channel {
@@ -72,7 +111,8 @@ fn is_some_absent(stores: &Stores, refs: &[Ref]) -> bool
 /// Why a ref and a start name no window, if they don't.
 pub(crate) fn window_cause(stores: &Stores, at: Ref, start: u64) -> Option<Cause>
     ensures cause { IsCause stores.now (λ stands.
-        no_slot stands at.slot ∷ no_channel stands at ∷ no_window stores.now.m stands at start ∷ []) result }
+        no_slot stands at.slot ∷ kept_slot stands at.slot ∷ no_channel stands at
+        ∷ no_window stores.now.m stands at start ∷ []) result }
     ensures channel { IfNone result (IsChannel stores.now at) }
     ensures window { IfNone result (start + stores.now.m ≤ length (channel_series stores.now at)) }
 {
@@ -84,6 +124,43 @@ pub(crate) fn window_cause(stores: &Stores, at: Ref, start: u64) -> Option<Cause
     } else {
         None
     }
+}
+
+/// Why a ref and a start name no entry of a profile, if they don't. In a kept slot the live windows have one.
+pub(crate) fn entry_cause(stores: &Stores, at: Ref, start: u64) -> Option<Cause>
+    ensures cause { IsCause stores.now (λ stands. entry_conditions stores.now.m stands at start) result }
+    ensures window { IfNone result (IsWindow stores.now at start) }
+{
+    if let Some(cause) = any_ref_cause(stores, at) {
+        return Some(cause);
+    }
+    if is_absent(stores, at, start) {
+        Some(Cause::Index)
+    } else {
+        None
+    }
+}
+
+/// Whether a channel has no window that starts there, or in a kept slot no live one.
+fn is_absent(stores: &Stores, at: Ref, start: u64) -> bool
+    requires { IsNamed stores.now at }
+    ensures absent { (stands : List Store) → StandFor stores.now stands
+        → result ≡ is_absent_in (keep_at stands at.slot) stores.now.m (series_at stands at) start }
+    ensures window { OnFalse result (IsWindow stores.now at start) }
+{
+    match stores.kept(at.slot) {
+        Some(kept) => is_dropped(kept, start),
+        None => windows(stores.channel_len(at), stores.window_len()) <= start,
+    }
+}
+
+/// Whether no live window starts there.
+fn is_dropped(kept: &Kept, start: u64) -> bool
+    ensures dropped { result ≡ is_dropped_in kept.now.keep kept.now.m kept.now.count start }
+    ensures live { OnFalse result (IsLive kept.now start) }
+{
+    let first = kept.first();
+    start < first || kept.live() <= start - first
 }
 
 /// Why a match is refused, if it is: its refs, the start of the pattern's window, or a sample that this window lacks.
@@ -116,6 +193,8 @@ pub(crate) fn multi_cause(stores: &Stores, slot: u64, k: u64) -> Option<Cause>
     let count = stores.count(slot);
     if count == 0 {
         Some(Cause::Slot)
+    } else if stores.is_kept(slot) {
+        Some(Cause::Kept)
     } else if (1..=count).contains(&k) {
         None
     } else {

@@ -4,6 +4,7 @@
 mod answers;
 mod conditions;
 mod context;
+mod named;
 mod replies;
 mod reports;
 mod requests;

@@ -3,6 +3,7 @@
 ghost use Rattle.std.specs.Prelude.{◌<◌, ◌≤◌, All, length};
 ghost use Rattle.mp_replies.specs.Limits.{max_scale};
 
+use crate::named::{named_entry_text, named_profile_text};
 use mp_chains::longest;
 use mp_nums::{Centre, Discord, Memory, Motif, NearList, Places, Ratio, Sample, Slots, Sq, Text};
 use mp_replies::Ref;
@@ -10,7 +11,7 @@ use mp_report::answers::ok_text;
 use mp_report::chains::{chain_text, chains_text};
 use mp_report::channels::{consensus_text, mpdist_text};
 use mp_report::matches::{discords_text, match_text, motifs_text};
-use mp_report::profiles::{entry_text, profile_text, window_text};
+use mp_report::profiles::window_text;
 use mp_report::segments::segments_text;
 use mp_report::slots::{SlotsName, slots_text};
 use mp_stores::Stores;
@@ -20,13 +21,15 @@ use std::alloc::Global;
 /// not copied.
 #[derive(Debug, Drop)]
 pub enum Report {
-    Session,
-    /// How many samples each channel of the slot has.
+    /// The version of the lines that follow.
+    Session { version: u64 },
+    /// How many samples each channel of the slot has, or were ever appended to a kept one.
     Open { samples: u64 },
+    Keep { samples: u64 },
     Load { samples: u64 },
     Append { samples: u64 },
     Window(Window),
-    /// The profile of this channel, which its slot keeps.
+    /// The profile of this channel, which its slot keeps, or that of the live windows of a kept slot.
     Profile(Ref),
     /// The entry in it of the window that starts there.
     Entry { at: Ref, start: u64 },
@@ -75,16 +78,17 @@ impl Report {
             → IfOk result (λ text. text.items ≡ report_text line (report_in state self.now)) }
     {
         match self {
-            Report::Session | Report::End => ok_text(alloc, line, None),
-            Report::Open { samples } | Report::Load { samples } | Report::Append { samples } => {
-                ok_text(alloc, line, Some(*samples))
-            }
+            Report::Session { .. } | Report::End => ok_text(alloc, line, None),
+            Report::Open { samples }
+            | Report::Keep { samples }
+            | Report::Load { samples }
+            | Report::Append { samples } => ok_text(alloc, line, Some(*samples)),
             Report::Window(window) => {
                 let samples = window.samples.as_slice();
                 window_text(alloc, line, window.start, samples, window.scale)
             }
-            Report::Profile(at) => profile_text(alloc, line, stores.profile(*at)),
-            Report::Entry { at, start } => entry_text(alloc, line, stores.profile(*at), *start),
+            Report::Profile(at) => named_profile_text(alloc, line, stores, *at),
+            Report::Entry { at, start } => named_entry_text(alloc, line, stores, *at, *start),
             Report::Join(slots) => slots_text(alloc, line, SlotsName::Join, slots.as_slice()),
             Report::Mpdist(dist) => mpdist_text(alloc, line, *dist),
             Report::Multi(slots) => slots_text(alloc, line, SlotsName::Multi, slots.as_slice()),

@@ -176,8 +176,11 @@ impl<'a> ReportRequest<'a> {
             }
             Command::Consensus { refs } => ReportRequest::Consensus(refs),
             Command::End => ReportRequest::End,
-            Command::Blank | Command::Open { .. } | Command::Load { .. } | Command::Append { .. } =>
-                unreachable!(),
+            Command::Blank
+            | Command::Open { .. }
+            | Command::Keep { .. }
+            | Command::Load { .. }
+            | Command::Append { .. } => unreachable!(),
         }
     }
 
@@ -193,7 +196,7 @@ impl<'a> ReportRequest<'a> {
         ensures stores { OnlyReads (reported_in self.entry) stores.old stores.new result }
     {
         match self {
-            ReportRequest::Session { .. } => Ok(report_session(context)),
+            ReportRequest::Session { version } => Ok(report_session(context, version)),
             ReportRequest::Window { at, start } => report_window(stores, context, at, start),
             ReportRequest::Profile { at } => Ok(report_profile(stores, context, at)),
             ReportRequest::Entry { at, start } => Ok(report_entry(stores, context, at, start)),

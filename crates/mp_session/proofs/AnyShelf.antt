@@ -15,14 +15,14 @@ use Rattle.mp_replies.specs.Line.{Asked, Asks, asked_of}
 use Rattle.mp_replies.specs.LoadCommand.{file_conditions, file_in, load_conditions}
 use Rattle.mp_replies.specs.Output.{reply}
 use Rattle.mp_replies.specs.Report.{text_of}
-use Rattle.mp_replies.specs.State.{Files, State, Store, store_at, version_of}
+use Rattle.mp_replies.specs.State.{Files, State, Store, store_at}
 use Rattle.mp_replies.specs.Step.{IsAccepted, Verdict, after, after_by, answer, answer_by}
 use Rattle.mp_replies.specs.Step.{change_by, conditions, counted, fetches, fetches_by, is_last, report_by, verdict}
 use Rattle.mp_replies.specs.Step.{verdict_by, verdict_of}
 use Rattle.mp_requests.specs.declared.replies.Reply.{Reply}
 use Rattle.mp_session.specs.Sessions.{IsFileRefused, IsOfFile, IsReplyBySome, IsReplyOverAny, SessionParts}
 use Rattle.mp_session.specs.Sessions.{StandsFor, WasAccepted, changes}
-use Rattle.mp_session.proofs.StepLemmas.{accepted_by}
+use Rattle.mp_session.proofs.StepLemmas.{accepted_by, version_by}
 
 -- ---- a line that isn't accepted
 
@@ -51,6 +51,7 @@ other_store (s ∷ stores) (suc at) (suc slot) store apart =
 others_stay : (state : State) (files : Files) (command : Command) (slot : ℕ) → changes (Asks command) slot ≡ false
     → store_at (changed state.stores (change_by state files command)) slot ≡ store_at state.stores slot
 others_stay state files (asked.OpenAnew at channels) slot apart = other_store state.stores at slot _ apart
+others_stay state files (asked.KeepLast at keep) slot apart = other_store state.stores at slot _ apart
 others_stay state files (asked.Load at file columns header) slot apart = other_store state.stores at slot _ apart
 others_stay state files (asked.Append at items) slot apart = other_store state.stores at slot _ apart
 others_stay state files other slot apart = refl
@@ -62,7 +63,15 @@ accepted_where : (state later : State) (new : SessionParts) (command : Command) 
     → StandsFor new (after_by state (verdict_by command why change)) → WasAccepted (Asks command) state new
 accepted_where state later new command (Some why) change stay h stands = absurd (cc h)
 accepted_where state later new command None change stay h stands =
-    record { stores = changed state.stores change; stands = stands; others = stay }
+    let stores = changed state.stores change in
+    record {
+      stores = stores;
+      stands = subst (λ (v : ℕ).
+          StandsFor new
+          (record state { version = v; lines = state.lines + 1; begun = true; stores = stores }))
+          (version_by state.version command) stands;
+      others = stay;
+    }
 
 accepted_of : (state later : State) (new : SessionParts) (files : Files) (what : Asked)
     → is_accepted (kind_of (answer_by later (verdict_of state files what))) ≡ true
@@ -74,10 +83,10 @@ accepted_of state later new files other h stands = absurd (cc h)
 
 was_accepted : (state : State) (new : SessionParts) (line : List ℕ) (files : Files)
     → is_accepted (kind_of (answer state line files)) ≡ true → StandsFor new (after state line files)
-    → WasAccepted (asked_of (version_of state) line) state new
+    → WasAccepted (asked_of state.version line) state new
 unfolding answer after verdict
 was_accepted state new line files h stands =
-    accepted_of state (after state line files) new files (asked_of (version_of state) line) h stands
+    accepted_of state (after state line files) new files (asked_of state.version line) h stands
 
 -- ---- a load that is refused by its file
 
@@ -133,7 +142,7 @@ file_refused : (state : State) (line : List ℕ) (files : Files) (text : List �
     → IsFileRefused (state.lines + 1) text
 unfolding answer verdict fetches reply
 file_refused state line files text asks kind is =
-    refused_of state (after state line files) files (asked_of (version_of state) line) (state.lines + 1) text asks
+    refused_of state (after state line files) files (asked_of state.version line) (state.lines + 1) text asks
     kind is
 
 -- ---- what a reply by some files says of the session

@@ -10,17 +10,18 @@ use Rattle.mp_nums.specs.declared.samples.Sample.{Sample}
 use Rattle.mp_defs.specs.Window.{windows}
 use Rattle.mp_replies.specs.Command as asked
 use Rattle.mp_replies.specs.Line.{Asked, Asks}
-use Rattle.mp_stores.specs.StoreLaws.{last_at}
-use Rattle.mp_stores.specs.Stores.{HasRoomFor, HaveRoom, StandAsBefore, Stored, count_in, count_of, reads_at}
-use Rattle.mp_stores.specs.Stores.{reads_to_add, streams_at}
+use Rattle.mp_stores.specs.StoreLaws.{last_as_before}
+use Rattle.mp_stores.specs.Stores as held
+use Rattle.mp_stores.specs.Stores.{HasRoomFor, HasRoomIn, Held, HoldsAsBefore, StandAsBefore, Stored}
+use Rattle.mp_stores.specs.Stores.{added_reads, count_in, count_of, reads_at, reads_to_add, slot_at}
 use Rattle.mp_requests.specs.declared.replies.Reply.{Reply}
 use Rattle.mp_requests.specs.Requests.{is_accepted, is_unread, kind_by}
 use Rattle.mp_requests.specs.Reads.{AreUnread, IsKept, WereRead, most_lent}
 use Rattle.mp_commands.specs.declared.prepared.Change.{Change}
-use Rattle.mp_commands.specs.declared.prepared.Change.TheVariants.{Keep, PutChannels, AddSamples}
+use Rattle.mp_commands.specs.declared.prepared.Change.TheVariants.{Keep, PutChannels, PutKept, AddSamples}
 use Rattle.mp_commands.specs.declared.prepared.Prepared.{Prepared}
 use Rattle.mp_commands.specs.Preparing.{AddsAsAsked, IsReady, adds, puts}
-use Rattle.mp_commands.specs.Reads.{append_reads, most_added, most_reads, renews}
+use Rattle.mp_commands.specs.Reads.{append_reads, most_added, most_reads, reads_for_items, renews}
 use Rattle.mp_session.specs.Sessions.{AddsEach, WereReadBy}
 
 -- ---- samples for each channel
@@ -30,26 +31,50 @@ count_is : (added : List (List Sample)) (count : ℕ) → 0 < length added
 count_is [] count some each = absurd (omega (arith, some))
 count_is (samples ∷ added) count some each = All-head (λ (s : List Sample). length s ≡ count) samples added each
 
-pub add_reads : (held : Stored) (slot count : ℕ) (added : List (List Sample)) → 0 < length (streams_at held slot)
-    → HaveRoom (streams_at held slot) added → All (λ samples. length samples ≡ count) added
-    → reads_to_add held slot added ≡ append_reads held slot count
-add_reads held slot count added some room each =
-    let channels = streams_at held slot in
+add_reads_in : (m : ℕ) (here : Held) (count : ℕ) (added : List (List Sample)) → HasRoomIn here added
+    → All (λ samples. length samples ≡ count) added → added_reads m here added ≡ reads_for_items m here count
+add_reads_in m held.Closed count added room each = absurd room
+add_reads_in m (held.Open []) count [] room each = omega arith
+add_reads_in m (held.Open []) count (samples ∷ added) room each =
+    let long = AllZip-long HasRoomFor [] (samples ∷ added) room in absurd (omega (arith, long))
+add_reads_in m (held.Open (channel ∷ others)) count added room each =
+    let channels = channel ∷ others in
     let long : length added ≡ length channels = AllZip-long HasRoomFor channels added room in
-    let same : count_of added ≡ count = count_is added count (omega (arith, long, some)) each in
-    ap (λ (n : ℕ). n * (count_of added * (4 * (windows (count_in channels + count_of added) held.m + held.m)))) long
-    ∙ ap (λ (c : ℕ). length channels * (c * (4 * (windows (count_in channels + c) held.m + held.m)))) same
+    let same : count_of added ≡ count = count_is added count (omega (arith, long)) each in
+    ap (λ (n : ℕ). n * (count_of added * (4 * (windows (count_in channels + count_of added) m + m)))) long
+    ∙ ap (λ (c : ℕ). length channels * (c * (4 * (windows (count_in channels + c) m + m)))) same
+add_reads_in m (held.Kept kept) count added room each =
+    let same : count_of added ≡ count = count_is added count (omega (arith, room.one)) each in
+    ap (λ (c : ℕ). c * (4 * (kept.keep + m))) same
+
+pub add_reads : (stored : Stored) (slot count : ℕ) (added : List (List Sample))
+    → HasRoomIn (slot_at stored slot) added → All (λ samples. length samples ≡ count) added
+    → reads_to_add stored slot added ≡ append_reads stored slot count
+add_reads stored slot count added room each =
+    add_reads_in stored.m (slot_at stored slot) count added room each
+
+reads_same_in : (m count : ℕ) (old new : Held) → HoldsAsBefore old new
+    → reads_for_items m new count ≡ reads_for_items m old count
+reads_same_in m count held.Closed held.Closed same = refl
+reads_same_in m count held.Closed (held.Open new) same = absurd same
+reads_same_in m count held.Closed (held.Kept new) same = absurd same
+reads_same_in m count (held.Open old) held.Closed same = absurd same
+reads_same_in m count (held.Open old) (held.Open new) same =
+    let last = last_as_before old new same in
+    ap (λ (k : ℕ). k * (count * (4 * (windows (count_in new + count) m + m)))) last.count
+    ∙ ap (λ (k : ℕ). length old * (count * (4 * (windows (k + count) m + m)))) (ap count_of last.items)
+reads_same_in m count (held.Open old) (held.Kept new) same = absurd same
+reads_same_in m count (held.Kept old) held.Closed same = absurd same
+reads_same_in m count (held.Kept old) (held.Open new) same = absurd same
+reads_same_in m count (held.Kept old) (held.Kept new) same =
+    ap (λ (h : Held). reads_for_items m h count) (ap held.Kept same)
 
 -- an append reads as much where the slots hold what they held
 append_reads_same : (old new : Stored) → StandAsBefore old new → (slot count : ℕ)
     → append_reads new slot count ≡ append_reads old slot count
 append_reads_same old new same slot count =
-    let last = last_at old new slot same in
-    let channels = streams_at old slot in
-    let n = count_in channels in
-    ap (λ (k : ℕ). k * (count * (4 * (windows (count_in (streams_at new slot) + count) new.m + new.m)))) last.count
-    ∙ (ap (λ (k : ℕ). length channels * (count * (4 * (windows (k + count) new.m + new.m)))) (ap count_of last.items)
-    ∙ ap (λ (k : ℕ). length channels * (count * (4 * (windows (n + count) k + k)))) same.window_is)
+    reads_same_in new.m count (slot_at old slot) (slot_at new slot) (same.each slot)
+    ∙ ap (λ (m : ℕ). reads_for_items m (slot_at old slot) count) same.window_is
 
 -- ---- the line that was run
 
@@ -59,6 +84,7 @@ pub adds_as_asked : (old mid new : Stored) (asked : Asked) (change : Change) (sl
     → StandAsBefore old mid → reads_at new slot ≤ reads_at mid slot + most_added old asked slot
 adds_as_asked old mid new asked Keep slot is adding added same = absurd (cc adding)
 adds_as_asked old mid new asked (PutChannels at channels) slot is adding added same = absurd (cc adding)
+adds_as_asked old mid new asked (PutKept at kept) slot is adding added same = absurd (cc adding)
 adds_as_asked old mid new (Asks (asked.Append at items)) (AddSamples to more) slot is adding added same =
     let here : slot ≡ to = grind (arith, nat_tests) in
     let named : to ≡ at = is.0 in
@@ -91,12 +117,14 @@ lent_none held other slot is = cc
 
 renews_none : (what : Asked) (slot : ℕ) → is_unread what ≡ true → renews what slot ≡ false
 renews_none (Asks (asked.OpenAnew at channels)) slot is = cc
+renews_none (Asks (asked.KeepLast at keep)) slot is = cc
 renews_none other slot is = cc
 
 adds_none : (what : Asked) (change : Change) (slot : ℕ) → AddsAsAsked what change → is_unread what ≡ true
     → adds change slot ≡ false
 adds_none what Keep slot asks is = refl
 adds_none what (PutChannels at channels) slot asks is = refl
+adds_none what (PutKept at kept) slot asks is = refl
 adds_none (Asks (asked.Append at items)) (AddSamples to more) slot asks is = absurd (cc is)
 adds_none other (AddSamples to more) slot asks is = absurd asks
 

@@ -13,7 +13,7 @@ use Rattle.mp_feed.specs.Writing.{none}
 use Rattle.mp_feed.specs.WritingLaws.{wrote_on}
 use Rattle.mp_bytes.specs.Lines.{cut}
 use Rattle.mp_replies.specs.CutLaws.{ends_cut}
-use Rattle.mp_replies.specs.State.{Files, State, version_of}
+use Rattle.mp_replies.specs.State.{Files, State}
 use Rattle.mp_replies.specs.Step.{cause, after, fetches}
 use Rattle.mp_replies.specs.Output.{reply, replies, state_after, some_refused, some_ends, until_end}
 use Rattle.mp_replies.specs.Line.{asked_of, ends}
@@ -99,7 +99,7 @@ told_then state files ran more t = λ asks.
     t (some_fetch-append state files ran more ∙ rw asks (or-true (some_fetch state files ran)))
 
 pub told_line : {told : Option Files} (state : State) (files : Files) (line : List ℕ)
-    → ToldForAll told state files (line ∷ []) → ToldFor told state (asked_of (version_of state) line) files
+    → ToldForAll told state files (line ∷ []) → ToldFor told state (asked_of state.version line) files
 unfolding fetches
 told_line state files line t = λ asks. t (rw asks refl)
 

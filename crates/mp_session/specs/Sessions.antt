@@ -1,29 +1,31 @@
 -- What a session holds, and the states that it stands for.
 use Rattle.std.specs.Prelude.{◌≡◌, ℕ, ◌+◌, ◌≤◌, ◌==◌, Bool, true, false, ◌||◌, List, [], ◌∷◌, All, length}
-use Rattle.std.specs.Prelude.{Option, Some, Result, IfOk, OnOk, OnErr}
+use Rattle.std.specs.Prelude.{Option, Some, unwrap_or, Result, IfOk, OnOk, OnErr}
 use Rattle.mp_feed.specs.Reading.{bit}
 use Rattle.mp_replies.specs.declared.causes.Cause.{Cause}
 use Rattle.mp_replies.specs.declared.causes.Cause.TheVariants.{File, FileSize, Record, Rows}
-use Rattle.mp_replies.specs.Command.{OpenAnew, Load, Append}
+use Rattle.mp_replies.specs.Command.{OpenAnew, KeepLast, Load, Append}
 use Rattle.mp_replies.specs.Line.{Asked, Asks, asked_of}
 use Rattle.mp_replies.specs.Output.{reply}
-use Rattle.mp_replies.specs.State.{Files, State, Store, store_at, version_of}
+use Rattle.mp_replies.specs.State.{Files, State, Store, first_version, second_version, store_at}
 use Rattle.mp_replies.specs.Step.{after, answer, counted, fetches}
 use Rattle.mp_replies.specs.Text.{refused_text}
 use Rattle.mp_replies.specs.Words.{Setup}
 use Rattle.mp_stores.specs.Stores.{StandChanged, StandFor, Stored, lists_in, reads_at}
-use Rattle.mp_requests.specs.Requests.{is_accepted, is_unread, kind_of}
+use Rattle.mp_requests.specs.Requests.{is_accepted, is_unread, kind_of, version_asked}
 use Rattle.mp_requests.specs.declared.answers.ReplyKind.TheVariants as kinds
 use Rattle.mp_requests.specs.Reads.{AreUnread}
 use Rattle.mp_requests.specs.declared.replies.Reply.{Reply}
 use Rattle.mp_commands.specs.Reads.{most_reads, renews}
 use Rattle.mp_commands.specs.declared.prepared.Change.{Change}
-use Rattle.mp_commands.specs.declared.prepared.Change.TheVariants.{Keep, PutChannels, AddSamples}
+use Rattle.mp_commands.specs.declared.prepared.Change.TheVariants.{Keep, PutChannels, PutKept, AddSamples}
 use Rattle.mp_commands.specs.Preparing.{changed_by}
 
 -- what is seen of a session
 pub record SessionParts : Type 0 where
   pub settings : Setup
+  -- the version by which the next line is read
+  pub version : ℕ
   -- how many lines were run
   pub lines : ℕ
   -- whether a command was accepted
@@ -31,28 +33,27 @@ pub record SessionParts : Type 0 where
   -- what stands in the eight slots
   pub stores : Stored
 
+-- the slots have the window length of the settings, and there is such a version
+pub record AreParts (session : SessionParts) : Type 0 where
+  pub window : session.stores.m ≡ session.settings.window
+  pub first : first_version ≤ session.version
+  pub last : session.version ≤ second_version
+
 pub record StandsFor (session : SessionParts) (state : State) : Type 0 where
   pub window_is : state.window ≡ session.settings.window
   pub scale_is : state.scale ≡ session.settings.scale
+  pub version_is : state.version ≡ session.version
   pub lines_is : state.lines ≡ session.lines
   pub begun_is : state.begun ≡ session.begun
   pub stores_stand : StandFor session.stores state.stores
 
--- the version by which the next line is read, that of each of these states
-abbrev pub version_at : SessionParts → ℕ
-version_at session = version_of record {
-  window = session.settings.window;
-  scale = session.settings.scale;
-  lines = session.lines;
-  begun = session.begun;
-  stores = [];
-}
-
 -- ---- the change of a line
 
--- the line is counted, and its change made. Reads and room are left open
-pub record HasCommitted (old new : SessionParts) (change : Change) (accepted : Bool) : Type 0 where
+-- the line is counted, the version that it names is that of the next line, and its change is made. Reads and room are
+-- left open
+pub record HasCommitted (old new : SessionParts) (change : Change) (accepted : Bool) (named : Option ℕ) : Type 0 where
   pub settings_are : new.settings ≡ old.settings
+  pub version_is : new.version ≡ unwrap_or named old.version
   pub lines_is : new.lines ≡ old.lines + 1
   pub begun_is : new.begun ≡ (old.begun || accepted)
   pub stores_stand : StandChanged (changed_by change) old.stores new.stores
@@ -61,6 +62,7 @@ pub record HasCommitted (old new : SessionParts) (change : Change) (accepted : B
 abbrev pub AddsEach : Change → ℕ → ℕ → Type 0
 AddsEach Keep slot count = ⊥
 AddsEach (PutChannels at channels) slot count = ⊥
+AddsEach (PutKept at kept) slot count = ⊥
 AddsEach (AddSamples at added) slot count = (at ≡ slot) × All (λ samples. length samples ≡ count) (lists_in added.items)
 
 -- ---- a reply
@@ -83,14 +85,22 @@ pub record IsReplyBySome (line : List ℕ) (old new : SessionParts) (answered : 
 -- whether a line that asks for this changes a slot where it is accepted
 abbrev pub changes : Asked → ℕ → Bool
 changes (Asks (OpenAnew at channels)) slot = slot == at
+changes (Asks (KeepLast at keep)) slot = slot == at
 changes (Asks (Load at file columns header)) slot = slot == at
 changes (Asks (Append at items)) slot = slot == at
 changes other slot = false
 
--- the line was counted and a command accepted, and no slot was changed but one that the line asks to change
+-- the line was counted and a command accepted, the version is the one that it asks for, if it asks for one, and no slot
+-- was changed but one that the line asks to change
 pub record WasAccepted (what : Asked) (state : State) (new : SessionParts) : Type 0 where
   pub stores : List Store
-  pub stands : StandsFor new (record state { lines = state.lines + 1; begun = true; stores = stores })
+  pub stands : StandsFor new
+      (record state {
+        version = unwrap_or (version_asked what) state.version;
+        lines = state.lines + 1;
+        begun = true;
+        stores = stores;
+      })
   pub others : (slot : ℕ) → changes what slot ≡ false → store_at stores slot ≡ store_at state.stores slot
 
 -- the words by which a line is refused for its file
@@ -111,7 +121,7 @@ pub record IsFileRefused (line : ℕ) (text : List ℕ) : Type 0 where
 -- that asks for its file is refused for that alone
 pub record IsReplyOverAny (state : State) (line : List ℕ) (new : SessionParts) (answered : Reply) : Type 0 where
   pub unaccepted : is_accepted answered.kind ≡ false → StandsFor new (counted state)
-  pub accepted : is_accepted answered.kind ≡ true → WasAccepted (asked_of (version_of state) line) state new
+  pub accepted : is_accepted answered.kind ≡ true → WasAccepted (asked_of state.version line) state new
   pub file_refused : fetches state line ≡ true → answered.kind ≡ kinds.Refused
       → IsFileRefused (state.lines + 1) answered.text.items
 

@@ -13,35 +13,50 @@ use std::alloc::Global;
 use std::marker::Model;
 use std::thread::Threads;
 
+/// The version of the lines of a session that has named none.
+const FIRST_VERSION: u64 = 1;
+
 /// What is kept between lines.
 #[derive(Debug, Drop)]
 pub struct Session {
     settings: Settings,
+    version: u64,
     lines: u64,
     begun: bool,
     stores: Stores,
 }
 
 impl Model for Session {
-    ghost use Rattle.std.specs.Prelude.{◌≡◌};
-    ghost use Rattle.mp_session.specs.Sessions.{SessionParts};
+    ghost use Rattle.mp_session.specs.Sessions.{AreParts, SessionParts};
 
     ghost Value = { SessionParts };
 
-    ghost view = { λ s. record { settings = s.settings; lines = s.lines; begun = s.begun; stores = s.stores } };
+    ghost view = { λ s. record {
+      settings = s.settings;
+      version = s.version;
+      lines = s.lines;
+      begun = s.begun;
+      stores = s.stores;
+    } };
 
-    ghost invariant = { λ s. s.stores.m ≡ s.settings.window };
+    ghost invariant = { λ s. AreParts (record {
+      settings = s.settings;
+      version = s.version;
+      lines = s.lines;
+      begun = s.begun;
+      stores = s.stores;
+    }) };
 }
 
 impl Session {
     ghost use Rattle.mp_replies.specs.Line.{asked_of, ends};
-    ghost use Rattle.mp_replies.specs.State.{Files, State, opening, store_at, version_of, Closed};
+    ghost use Rattle.mp_replies.specs.State.{Files, State, first_version, opening, second_version, store_at, Closed};
     ghost use Rattle.mp_requests.specs.Requests.{is_ended};
     ghost use Rattle.mp_commands.specs.Preparing.{CanMake, IsAsked, ToldFor, adds, puts};
     ghost use Rattle.mp_commands.specs.Reads.{append_reads};
     ghost use Rattle.mp_stores.specs.Stores.{reads_at};
     ghost use Rattle.mp_session.specs.Sessions.{AddsEach, AsksFile, HasCommitted, IsReplyBy, IsReplyBySome};
-    ghost use Rattle.mp_session.specs.Sessions.{IsReplyOverAny, StandsFor, WasCounted, WereReadBy, version_at};
+    ghost use Rattle.mp_session.specs.Sessions.{IsReplyOverAny, StandsFor, WasCounted, WereReadBy};
 
     /// Slot 0 is open with one empty channel, all other slots are closed, and no line was run.
     pub fn new<R: Threads + Sync>(
@@ -56,6 +71,7 @@ impl Session {
     {
         Ok(Session {
             settings,
+            version: FIRST_VERSION,
             lines: 0,
             begun: false,
             stores: Stores::new(rt, alloc, settings.window())?,
@@ -80,7 +96,7 @@ impl Session {
 
         // What the definitions say, in every state that the session stands for, by the files that the shelf tells.
         ensures told { (state : State) (files : Files) → StandsFor self.old state
-            → ToldFor (H.files shelf.old) state (asked_of (version_of state) line.now) files
+            → ToldFor (H.files shelf.old) state (asked_of state.version line.now) files
             → IfOk result (IsReplyBy state files line.now self.new) }
 
         // What they say over any shelf, also one that tells nothing.
@@ -91,29 +107,34 @@ impl Session {
 
         ensures ends { IfOk result (λ r. is_ended r.kind ≡ ends line.now) }
         ensures counted { WasCounted self.old self.new result }
-        ensures reads { WereReadBy (asked_of (version_at self.old) line.now) self.old.stores self.new.stores result }
+        ensures reads { WereReadBy (asked_of self.old.version line.now) self.old.stores self.new.stores result }
         ensures shelf { IsAsked H.Shelf (AsksFile line.now self.old) (IsErrOf result Stop.ShelfFault) shelf.old
             shelf.new }
     {
         let context = Context {
             alloc,
             settings: self.settings,
+            version: self.version,
             lines: self.lines,
             begun: self.begun,
         };
         let prepared = prepare(rt, &mut self.stores, context, line, shelf, gate)?;
         let Prepared { answer, change } = prepared;
         let accepted = answer.kind().is_accepted();
+        let named = answer.version();
         let reply = answer.reply(alloc, self.lines + 1, &self.stores)?;
-        self.commit(change, accepted);
+        self.commit(change, accepted, named);
         Ok(reply)
     }
 
-    /// Counts the line and makes its change, for which all memory was taken.
-    fn commit(&mut self, change: Change, accepted: bool)
+    /// Counts the line and makes its change, for which all memory was taken. The version that it names is that of the
+    /// next line.
+    fn commit(&mut self, change: Change, accepted: bool, named: Option<u64>)
         requires lines { self.old.lines < 2 ^ 64 - 1 }
         requires can { CanMake self.old.stores change }
-        ensures committed { HasCommitted self.old self.new change accepted }
+        requires first { IfSome named (λ version. first_version ≤ version) }
+        requires last { IfSome named (λ version. version ≤ second_version) }
+        ensures committed { HasCommitted self.old self.new change accepted named }
         ensures rise { (slot : ℕ) → puts change slot ≡ false
             → reads_at self.old.stores slot ≤ reads_at self.new.stores slot }
         ensures rest { (slot : ℕ) → puts change slot ≡ false → adds change slot ≡ false
@@ -121,23 +142,25 @@ impl Session {
         ensures added { (slot count : ℕ) → AddsEach change slot count
             → reads_at self.new.stores slot ≤ reads_at self.old.stores slot + append_reads self.old.stores slot count }
     {
+        self.version = named.unwrap_or(self.version);
         self.lines += 1;
         self.begun |= accepted;
         match change {
             Change::Keep => {}
             Change::PutChannels { slot, channels } => self.stores.put(slot, channels),
+            Change::PutKept { slot, kept } => self.stores.put_kept(slot, kept),
             Change::AddSamples { slot, added } => self.stores.add(slot, added.as_slice()),
         }
     }
 
-    /// How often samples of the slot were read, of all its channels together, `None` where the slot isn't open.
+    /// How often samples of the slot were read, of all its channels together, `None` where the slot is closed.
     ///
     /// A sample that is appended is compared with every window, from the samples that enter these and leave them. A
     /// channel that is loaded begins with the reads of its first profile. A line that compares a channel with others
     /// has its samples lent, so that each counts as read as often as there are samples, as for every pair of them. A
     /// report of a profile reads none. The count stays at its greatest value.
     pub fn reads(&self, slot: u64) -> Option<u128>
-        ensures open { (state : State) → StandsFor self.now state
+        ensures closed { (state : State) → StandsFor self.now state
             → IsNone result ↔ (store_at state.stores slot ≡ Closed) }
         ensures value { IfSome result (λ reads. reads ≡ min (reads_at self.now.stores slot) (2 ^ 128 - 1)) }
     {

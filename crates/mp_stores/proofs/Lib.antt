@@ -1,4 +1,5 @@
 pub mod ArcLemmas
 pub mod CopyLemmas
 pub mod GroupLemmas
+pub mod KeptLemmas
 pub mod StoreLemmas

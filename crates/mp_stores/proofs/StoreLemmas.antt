@@ -1,7 +1,8 @@
 -- One slot of several, changed.
 use Rattle.std.proofs.Common.{◌≡◌, ◌≢◌, ℕ, zero, suc, ◌+◌, ◌-◌, ◌*◌, ◌<◌, ◌≤◌, List, [], ◌∷◌, ◌++◌, length, get_or}
 use Rattle.std.proofs.Common.{set, map, refl, ap, ◌∙◌, sym, arith, subst, Vec, append_assoc, replicate, lit≤, ⊎_elim}
-use Rattle.std.specs.Prelude.{All, take, drop, slice_get, Some, None, Result, Ok, Err, IfOk}
+use Rattle.std.specs.Prelude.{All, take, drop, slice_get, Option, Some, None, is_some, IfSome, IfNone}
+use Rattle.std.specs.Prelude.{false, Result, Ok, Err, IfOk}
 use Rattle.std.specs.List.{take-map, drop-map}
 use Rattle.std.specs.declared.alloc.Global.{Global}
 use Rattle.std.proofs.lemmas.Bool.{cases_eq}
@@ -15,20 +16,23 @@ use Rattle.std.proofs.Math.Seq.{map-set_same}
 use Rattle.mp_nums.specs.declared.samples.Sample.{Sample}
 use Rattle.mp_defs.specs.Limits.{max_samples, max_window, min_window}
 use Rattle.mp_defs.specs.Series.{Series, reading_of, series_of}
-use Rattle.mp_defs.specs.Window.{windows}
-use Rattle.mp_replies.specs.Change.{extended}
+use Rattle.mp_replies.specs.Change.{extended, grown as added_to}
 use Rattle.mp_replies.specs.State as states
-use Rattle.mp_replies.specs.State.{Store, channels_in, store_at}
+use Rattle.mp_replies.specs.State.{Store, store_at}
+use Rattle.mp_stream.specs.Kept.{Keeping}
 use Rattle.mp_stream.specs.Streams.{Streamed}
 use Rattle.mp_stores.specs.declared.store.Store.{Store as Kept}
 use Rattle.mp_stores.specs.declared.store.Store.TheVariants as program
-use Rattle.mp_stores.specs.Channels.{HasGrownBy, HaveGrown}
+use Rattle.mp_stores.specs.Channels.{HasGrownBy, HaveGrown, KeptHasGrown}
 use Rattle.mp_stores.specs.Seen.{held_of}
 use Rattle.mp_stores.specs.StoreLaws.{holds_still, last_as_before}
-use Rattle.mp_stores.specs.Stores.{Held, Closed, Open, AreAlike, AreChannels, AreEven, AreStores, CanOpen, HasRoomFor}
-use Rattle.mp_stores.specs.Stores.{HaveRoom, HaveWindow, HoldsAsBefore, IsHeld, RoomWasMade, StandFor, StandForStore}
+use Rattle.mp_stores.specs.Stores as held
+use Rattle.mp_stores.specs.Stores.{Held, Closed, Open, AreAlike, AreChannels, AreEven, AreStores, CanAppend, CanKeep}
+use Rattle.mp_stores.specs.Stores.{CanOpen, HasRoomFor}
+use Rattle.mp_stores.specs.Stores.{HasRoomIn, HaveRoom, HaveWindow, HoldsAsBefore, IsHeld, IsOfSamples, RoomWasMade}
+use Rattle.mp_stores.specs.Stores.{StandFor, StandForStore, StandsForAll, added_reads, keep_of}
 use Rattle.mp_stores.specs.Stores.{Stored, WasRead, WasReadIn, count_in, count_of, items_in, lasting, lent_of}
-use Rattle.mp_stores.specs.Stores.{nothing, reads_at, reads_in, reads_of, series_in, slot_at, stream_in}
+use Rattle.mp_stores.specs.Stores.{lists_in, nothing, reads_at, reads_in, reads_of, series_in, slot_at, stream_in}
 use Rattle.mp_stores.specs.Stores.{streams_at, streams_in, without_room}
 use Rattle.mp_stores.proofs.GroupLemmas.{HaveRisen, extended_from, risen_from, window_kept}
 
@@ -112,6 +116,7 @@ held_as_before m (Open old) (Open new) same is =
       alike = subst AreAlike (sym last.items) is.alike;
       window = window_like m old new same is.window;
     }
+held_as_before m (held.Kept old) (held.Kept new) same is = subst (CanKeep m) (sym same) is
 held_as_before m old new same is = absurd same
 
 -- the slots behind that
@@ -235,6 +240,8 @@ room_for m Closed [] more is spare long lists fits = tt
 room_for m Closed (list ∷ added) more is spare long lists fits = absurd (omega (arith, long))
 room_for m (Open channels) added more is spare long lists fits =
     room_each (count_in channels) more channels added long spare is.alike.same lists fits
+room_for m (held.Kept kept) [] more is spare long lists fits = tt
+room_for m (held.Kept kept) (list ∷ added) more is spare long lists fits = absurd (omega (arith, long))
 
 -- ---- samples were added
 
@@ -309,23 +316,55 @@ grown_open m old new added long even grown is =
 
 grown_stands : (old new : List Streamed) (added : List (List Sample)) → length added ≡ length old
     → HaveGrown added old new → (store : Store) → StandForStore (Open old) store
-    → StandForStore (Open new) (states.Open (extended (channels_in store) (map series_of added)))
+    → StandForStore (Open new) (added_to store (map series_of added))
 grown_stands old new added long grown states.Closed stands = absurd stands
+grown_stands old new added long grown (states.Kept keep series) stands = absurd stands
 grown_stands old new added long grown (states.Open series) stands =
     ap (λ (list : List Series). extended list (map series_of added)) (stands ∙ series_of_items old)
     ∙ (sym (map_extended (items_in old) added)
     ∙ (ap (map series_of) (sym (extended_from old new added long grown)) ∙ sym (series_of_items new)))
 
+-- samples behind those of which the last ones are kept
+kept_stands : (old new : Keeping) (list : List Sample) → KeptHasGrown list old new → (store : Store)
+    → StandsForAll old store → StandsForAll new (added_to store (series_of list ∷ []))
+kept_stands old new list grown store stands = record {
+  samples = stands.samples ++ list;
+  store_is =
+      ap (λ (s : Store). added_to s (series_of list ∷ [])) stands.store_is
+      ∙ (ap (states.Kept old.keep) (sym (map-append reading_of stands.samples list))
+      ∙ ap (λ (keep : ℕ). states.Kept keep (series_of (stands.samples ++ list))) (sym grown.keep_is));
+  stands = grown.stands stands.samples stands.stands;
+}
+
 -- samples were added to the channels of a slot
 pub record WasExtended (m : ℕ) (added : List (List Sample)) (old new : Held) : Type 0 where
   pub is : IsHeld m new
-  pub risen : HaveRisen (reads_of old) (reads_of new)
-      (length added * (count_of added * (4 * (windows (count_in (streams_in old) + count_of added) m + m))))
-  pub stands : (store : Store) → StandForStore old store
-      → StandForStore new (states.Open (extended (channels_in store) (map series_of added)))
+  pub risen : HaveRisen (reads_of old) (reads_of new) (added_reads m old added)
+  pub stands : (store : Store) → StandForStore old store → StandForStore new (added_to store (map series_of added))
+
+was_kept : (m : ℕ) (old new : Keeping) (added : List (List Sample)) → CanAppend old added
+    → KeptHasGrown (get_or added 0 []) old new → CanKeep m old → WasExtended m added (held.Kept old) (held.Kept new)
+was_kept m old new [] can grown is = absurd (omega (arith, can.one))
+was_kept m old new (list ∷ []) can grown is =
+    let stands = grown.stands is.samples is.stands in
+    record {
+      is = record {
+        window = grown.window_is ∙ is.window;
+        few = omega (arith, stands.count, length-append is.samples list, is.stands.count, can.fits);
+        samples = is.samples ++ list;
+        stands = stands;
+      };
+      risen = record {
+        rise = grown.rise;
+        most_reads =
+            subst (λ (n : ℕ). new.reads ≤ old.reads + length list * (4 * (old.keep + n))) is.window grown.most_reads;
+      };
+      stands = λ store stands. kept_stands old new list grown store stands;
+    }
+was_kept m old new (list ∷ next ∷ added) can grown is = absurd (omega (arith, can.one))
 
 was_extended : (m : ℕ) (old new : Held) (added : List (List Sample)) → HasGrownBy added old new
-    → HaveRoom (streams_in old) added → AreEven added → IsHeld m old → WasExtended m added old new
+    → HasRoomIn old added → AreEven added → IsHeld m old → WasExtended m added old new
 was_extended m (Open old) (Open new) added grown room even is =
     let long = AllZip-long HasRoomFor old added room in
     record {
@@ -335,6 +374,7 @@ was_extended m (Open old) (Open new) added grown room even is =
           (even_count added even);
       stands = grown_stands old new added long grown;
     }
+was_extended m (held.Kept old) (held.Kept new) added grown room even is = was_kept m old new added room grown is
 was_extended m old new added grown room even is = absurd grown
 
 -- ---- another store stands there
@@ -409,7 +449,7 @@ module _ {m : ℕ} {stored : List Kept} {old : Stored} {slot : ℕ} {v : Kept} (
       (subst (λ (h : Held). WasReadIn (most h) h (held_of w)) slot_seen read))
 
   pub seen_extended : (w : Kept) (added : List (List Sample)) → HasGrownBy added (held_of v) (held_of w)
-      → HaveRoom (streams_at old slot) added → AreEven added
+      → HasRoomIn (slot_at old slot) added → AreEven added
       → WasExtended old.m added (slot_at old slot) (held_of w)
   seen_extended w added grown room even =
       was_extended old.m (slot_at old slot) (held_of w) added
@@ -421,6 +461,7 @@ module _ {m : ℕ} {stored : List Kept} {old : Stored} {slot : ℕ} {v : Kept} (
 pub window_in : (m : ℕ) (held : Held) (k : ℕ) → IsHeld m held → k < length (streams_in held)
     → (stream_in held k).m ≡ m
 window_in m Closed k is inside = absurd (omega (arith, inside))
+window_in m (held.Kept kept) k is inside = absurd (omega (arith, inside))
 window_in m (Open channels) k is inside =
     All-get_or (λ (c : Streamed). c.m ≡ m) channels k nothing inside is.window
 
@@ -529,23 +570,27 @@ view_at_start m stored pushed first channel n all one open_is h =
 -- ---- the channels of a slot
 
 pub record AreIn (m : ℕ) (held : Held) (channels : List Streamed) : Type 0 where
-  pub closed : channels ≡ [] → held ≡ Closed
+  pub closed : channels ≡ [] → keep_of held ≡ None → held ≡ Closed
   pub few : length channels ≤ 8
   pub alike : AreChannels channels
   pub window : HaveWindow m channels
 
-pub are_in : (m : ℕ) (held : Held) → IsHeld m held → AreIn m held (streams_in held)
-are_in m Closed is = record {
-  closed = λ none. refl;
+none_in : (m : ℕ) (held : Held) → (keep_of held ≡ None → held ≡ Closed) → AreIn m held []
+none_in m held closed = record {
+  closed = λ none all. closed all;
   few = omega arith;
   alike = record { few = omega arith; same = All-nil (λ (samples : List Sample). length samples ≡ 0) };
   window = All-nil (λ (c : Streamed). c.m ≡ m);
 }
+
+pub are_in : (m : ℕ) (held : Held) → IsHeld m held → AreIn m held (streams_in held)
+are_in m Closed is = none_in m Closed (λ all. refl)
+are_in m (held.Kept kept) is = none_in m (held.Kept kept) (λ all. absurd (cc all))
 are_in m (Open channels) is =
     let some = is.some in
     let few = is.alike.few in
     record {
-      closed = λ none. absurd (omega (arith, some, ap length none));
+      closed = λ none all. absurd (omega (arith, some, ap length none));
       few = omega (arith, few, length-map channels (λ (c : Streamed). c.items));
       alike = is.alike;
       window = is.window;
@@ -553,7 +598,7 @@ are_in m (Open channels) is =
 
 pub record ChannelsSeen (old : Stored) (slot : ℕ) (channels : List Streamed) : Type 0 where
   pub are : channels ≡ streams_at old slot
-  pub closed : channels ≡ [] → slot_at old slot ≡ Closed
+  pub closed : channels ≡ [] → keep_of (slot_at old slot) ≡ None → slot_at old slot ≡ Closed
   pub few : length channels ≤ 8
   pub within : 0 < length channels → slot < 8
   pub alike : AreChannels channels
@@ -573,6 +618,67 @@ channels_seen {old = old} {slot = slot} channels all is same =
       alike = here.alike;
       window = here.window;
     })
+
+-- ---- a kept slot
+
+-- it has no channel that could be lent
+pub none_alike : AreChannels []
+none_alike = record { few = omega arith; same = All-nil (λ (samples : List Sample). length samples ≡ 0) }
+
+-- what is kept in a slot can be kept there
+pub can_keep : {X : Type 0} (found : Option X) (seen : X → Keeping) (m : ℕ) (here : Held) → IsHeld m here
+    → IfSome found (λ x. here ≡ held.Kept (seen x)) → IfSome found (λ x. CanKeep m (seen x))
+can_keep None seen m here is kept = tt
+can_keep (Some x) seen m here is kept = subst (IsHeld m) kept is
+
+pub in_some : {X P : Type 0} (found : Option X) → P → IfSome found (λ x. P)
+in_some None p = tt
+in_some (Some x) p = p
+
+-- whether samples are kept there
+pub is_kept_by : {X : Type 0} (found : Option X) (seen : X → Keeping) (here : Held)
+    → IfSome found (λ x. here ≡ held.Kept (seen x)) → IfNone found (keep_of here ≡ None)
+    → is_some found ≡ is_some (keep_of here)
+is_kept_by None seen here kept none = sym (ap is_some none)
+is_kept_by (Some x) seen here kept none = sym (ap (λ (h : Held). is_some (keep_of h)) kept)
+
+pub none_kept : {X : Type 0} (found : Option X) (here : Held) → IfNone found (keep_of here ≡ None)
+    → is_some found ≡ false → keep_of here ≡ None
+none_kept None here none is = none
+none_kept (Some x) here none is = absurd (cc is)
+
+pub of_samples : (m : ℕ) (here : Held) → IsHeld m here → IsOfSamples here
+of_samples m Closed is = tt
+of_samples m (Open channels) is = tt
+of_samples m (held.Kept kept) is = (is.samples, is.stands)
+
+-- samples for its one channel
+pub record IsOneList (added : List (Vec Sample Global)) (list : Vec Sample Global) : Type 0 where
+  pub first : list.items ≡ get_or (lists_in added) 0 []
+  pub count : length list.items ≡ count_of (lists_in added)
+
+pub one_list : (added : List (Vec Sample Global)) (list : Vec Sample Global) → length (lists_in added) ≡ 1
+    → list ≡ get_or added 0 list → IsOneList added list
+one_list [] list one is = absurd (omega (arith, one))
+one_list (samples ∷ added) list one is =
+    let same = ap (λ (s : Vec Sample Global). s.items) is in record { first = same; count = ap length same }
+
+pub kept_room : (store : Kept) (kept : Keeping) (added : List (List Sample)) → store ≡ program.Kept kept
+    → HasRoomIn (held_of store) added → CanAppend kept added
+kept_room store kept added here room = subst (λ (s : Kept). HasRoomIn (held_of s) added) here room
+
+pub kept_of_samples : (store : Kept) (kept : Keeping) → store ≡ program.Kept kept → IsOfSamples (held_of store)
+    → IsOfSamples (held.Kept kept)
+kept_of_samples store kept here of = subst (λ (s : Kept). IsOfSamples (held_of s)) here of
+
+pub kept_grown : (store : Kept) (kept new : Keeping) (added : List (List Sample)) (samples : List Sample)
+    → store ≡ program.Kept kept → samples ≡ get_or added 0 [] → KeptHasGrown samples kept new
+    → HasGrownBy added (held_of store) (held.Kept new)
+kept_grown store kept new added samples here first grown =
+    subst (λ (s : Kept). HasGrownBy added (held_of s) (held.Kept new)) (sym here)
+    (subst (λ (list : List Sample). KeptHasGrown list kept new) first grown)
+
+-- ---- the first channel
 
 -- how many samples the first of some channels has
 pub first_long : (channels : List Streamed) (channel : Streamed) → Some channel ≡ slice_get channels 0

@@ -8,8 +8,9 @@ use Rattle.mp_defs.specs.Series.{series_of}
 use Rattle.mp_defs.specs.Window.{windows}
 use Rattle.mp_defs.specs.Profile.{matrix_profile}
 use Rattle.mp_results.specs.Arcs.{index_of, indices_of}
-use Rattle.mp_stores.specs.Stores.{Held, Open, nothing}
+use Rattle.mp_stores.specs.Stores.{Held, Open, Kept, nothing}
 use Rattle.mp_stream.specs.Blocks.{block_len}
+use Rattle.mp_stream.specs.Kept.{Keeping, StandsFor}
 use Rattle.mp_stream.specs.Streams.{IsKnown, Streamed}
 use Rattle.mp_partial.specs.Values.{Column}
 
@@ -57,7 +58,16 @@ pub record HaveGrown (added : List (List Sample)) (old new : List Streamed) : Ty
   pub each : (k : ℕ) → k < length old
       → HasGrown (slice_index_or added k []) (slice_index_or old k nothing) (slice_index_or new k nothing)
 
--- and a slot that is open
+-- samples were added to what is kept
+pub record KeptHasGrown (samples : List Sample) (old new : Keeping) : Type 0 where
+  pub stands : (before : List Sample) → StandsFor before old → StandsFor (before ++ samples) new
+  pub keep_is : new.keep ≡ old.keep
+  pub window_is : new.m ≡ old.m
+  pub rise : old.reads ≤ new.reads
+  pub most_reads : new.reads ≤ old.reads + length samples * (4 * (old.keep + old.m))
+
+-- and a slot that is open or kept
 abbrev pub HasGrownBy : List (List Sample) → Held → Held → Type 0
 HasGrownBy added (Open old) (Open new) = HaveGrown added old new
+HasGrownBy added (Kept old) (Kept new) = KeptHasGrown (slice_index_or added 0 []) old new
 HasGrownBy added old new = ⊥

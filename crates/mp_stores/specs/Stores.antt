@@ -1,7 +1,7 @@
 -- What is seen of slots, and the stores that they stand for.
 use Rattle.std.specs.Prelude.{◌≡◌, ◌≢◌, ℕ, ◌+◌, ◌*◌, ◌<◌, ◌≤◌, ◌==◌, if◌then◌else◌, List, [], ◌∷◌, All, length, map}
 use Rattle.std.specs.Prelude.{sum_by}
-use Rattle.std.specs.Prelude.{slice_index_or, Vec}
+use Rattle.std.specs.Prelude.{slice_index_or, Option, Some, None, Vec}
 use Rattle.std.specs.List.{AllZip}
 use Rattle.std.specs.declared.alloc.Global.{Global}
 use Rattle.mp_nums.specs.declared.samples.Sample.{Sample}
@@ -13,6 +13,8 @@ use Rattle.mp_replies.specs.Limits.{max_channels, slot_count}
 use Rattle.mp_replies.specs.State as states
 use Rattle.mp_replies.specs.State.{Store, store_at}
 use Rattle.mp_replies.specs.declared.refs.Ref.{Ref}
+use Rattle.mp_defs.specs.Limits.{max_appended}
+use Rattle.mp_stream.specs.Kept.{Keeping, StandsFor}
 use Rattle.mp_stream.specs.Streams.{Streamed}
 
 -- what stands in a slot
@@ -20,6 +22,8 @@ pub data Held : Type 0 where
   Closed : Held
   -- channels of the same length
   Open : (channels : List Streamed) → Held
+  -- one channel, of which the last samples are kept
+  Kept : (kept : Keeping) → Held
 
 -- the slots, and the window length of all channels
 pub record Stored : Type 0 where
@@ -69,12 +73,38 @@ pub record CanOpen (m : ℕ) (channels : List Streamed) : Type 0 where
   pub alike : AreChannels channels
   pub window : HaveWindow m channels
 
+-- what is kept of some samples, of which there are not too many, can stand in a slot
+pub record CanKeep (m : ℕ) (kept : Keeping) : Type 0 where
+  pub window : kept.m ≡ m
+  pub few : kept.count ≤ max_appended
+  pub samples : List Sample
+  pub stands : StandsFor samples kept
+
 -- ---- slots
 
 -- the channels of a slot, none where it isn't open
 abbrev pub streams_in : Held → List Streamed
 streams_in Closed = []
 streams_in (Open channels) = channels
+streams_in (Kept kept) = []
+
+-- how many channels a slot has
+abbrev pub channel_count : Held → ℕ
+channel_count Closed = 0
+channel_count (Open channels) = length channels
+channel_count (Kept kept) = 1
+
+-- how many samples each of them has, or were ever appended to it
+abbrev pub sample_count : Held → ℕ
+sample_count Closed = 0
+sample_count (Open channels) = count_in channels
+sample_count (Kept kept) = kept.count
+
+-- how many samples of a slot are kept, none where all are
+abbrev pub keep_of : Held → Option ℕ
+keep_of Closed = None
+keep_of (Open channels) = None
+keep_of (Kept kept) = Some kept.keep
 
 -- a channel, with nothing in it where there is none
 abbrev pub stream_in : Held → ℕ → Streamed
@@ -84,11 +114,18 @@ stream_in held channel = slice_index_or (streams_in held) channel nothing
 abbrev pub reads_of : Held → ℕ
 reads_of Closed = 0
 reads_of (Open channels) = reads_in channels
+reads_of (Kept kept) = kept.reads
 
 -- what stands in a slot may stand there
 abbrev pub IsHeld : ℕ → Held → Type 0
 IsHeld m Closed = Unit {0}
 IsHeld m (Open channels) = CanOpen m channels
+IsHeld m (Kept kept) = CanKeep m kept
+
+-- what is kept is kept of some samples
+abbrev pub IsOfSamples : Held → Type 0
+IsOfSamples (Kept kept) = (samples : List Sample) × StandsFor samples kept
+IsOfSamples held = Unit {0}
 
 abbrev pub slot_at : Stored → ℕ → Held
 slot_at stored slot = slice_index_or stored.slots slot Closed
@@ -106,7 +143,11 @@ channel_at stored at = stream_in (slot_at stored at.slot) at.channel
 abbrev pub channel_series : Stored → Ref → Series
 channel_series stored at = series_of (channel_at stored at).items
 
--- there is such a channel
+-- all samples of the channels of a slot are kept, if it has channels
+abbrev pub IsOpenSlot : Stored → Ref → Type 0
+IsOpenSlot stored at = channel_count (slot_at stored at.slot) ≡ length (streams_at stored at.slot)
+
+-- there is such a channel, of which all samples are kept
 pub record IsChannel (stored : Stored) (at : Ref) : Type 0 where
   pub slot : at.slot < slot_count
   pub channel : at.channel < length (streams_at stored at.slot)
@@ -119,10 +160,19 @@ pub record AreStores (stored : Stored) : Type 0 where
 
 -- ---- the stores that slots stand for
 
--- a closed slot stands for a closed store, and an open one for the series of its channels
+-- what is kept of some samples stands for the store of all of them. It does so for each list of samples of which the
+-- same would be kept, since it doesn't hold those that were dropped
+pub record StandsForAll (kept : Keeping) (store : Store) : Type 0 where
+  pub samples : List Sample
+  pub store_is : store ≡ states.Kept kept.keep (series_of samples)
+  pub stands : StandsFor samples kept
+
+-- a closed slot stands for a closed store, an open one for the series of its channels, and a kept one for each series
+-- of which it may be what is kept
 abbrev pub StandForStore : Held → Store → Type 0
 StandForStore Closed states.Closed = Unit {0}
 StandForStore (Open channels) (states.Open series) = series ≡ series_in channels
+StandForStore (Kept kept) store = StandsForAll kept store
 StandForStore held store = ⊥
 
 -- slots stand for as many stores, each for its own
@@ -144,6 +194,7 @@ lasting channel = record channel { reads = 0; spare = 0; changed = [] }
 abbrev pub HoldsAsBefore : Held → Held → Type 0
 HoldsAsBefore Closed Closed = Unit {0}
 HoldsAsBefore (Open old) (Open new) = map lasting new ≡ map lasting old
+HoldsAsBefore (Kept old) (Kept new) = new ≡ old
 HoldsAsBefore old new = ⊥
 
 -- and each of several does. So they stand for the stores that they stood for
@@ -174,6 +225,17 @@ pub record HasRoomFor (channel : Streamed) (samples : List Sample) : Type 0 wher
 abbrev pub HaveRoom : List Streamed → List (List Sample) → Type 0
 HaveRoom channels added = AllZip HasRoomFor channels added
 
+-- there is one list of samples for the channel of a kept slot, which may still be appended
+pub record CanAppend (kept : Keeping) (added : List (List Sample)) : Type 0 where
+  pub one : length added ≡ 1
+  pub fits : kept.count + count_of added ≤ max_appended
+
+-- a slot has channels, and there is room for these samples
+abbrev pub HasRoomIn : Held → List (List Sample) → Type 0
+HasRoomIn Closed added = ⊥
+HasRoomIn (Open channels) added = HaveRoom channels added
+HasRoomIn (Kept kept) added = CanAppend kept added
+
 -- each of these lists has as many samples
 pub record AreEven (added : List (List Sample)) : Type 0 where
   pub count : ℕ
@@ -202,9 +264,14 @@ abbrev pub lent_once : Stored → Ref → ℕ → ℕ
 lent_once stored at slot = if slot == at.slot then lent_of (slot_at stored at.slot) at.channel else 0
 
 -- the most by which samples that are added raise the count of a slot: for each of them four times its channel's windows
--- and the samples of one
-abbrev pub reads_to_add : Stored → ℕ → List (List Sample) → ℕ
-reads_to_add stored slot added =
+-- and the samples of one, and in a kept slot four times the samples that are kept and those of a window
+abbrev pub added_reads : ℕ → Held → List (List Sample) → ℕ
+added_reads m (Kept kept) added = count_of added * (4 * (kept.keep + m))
+added_reads m held added =
     length added
     * (count_of added
-    * (4 * (windows (count_in (streams_at stored slot) + count_of added) stored.m + stored.m)))
+    * (4 * (windows (count_in (streams_in held) + count_of added) m + m)))
+
+-- and in one of several slots
+abbrev pub reads_to_add : Stored → ℕ → List (List Sample) → ℕ
+reads_to_add stored slot added = added_reads stored.m (slot_at stored slot) added

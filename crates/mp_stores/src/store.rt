@@ -1,17 +1,20 @@
 //! What stands in one slot.
 
 ghost use Rattle.std.specs.Prelude.{◌≡◌, ◌↔◌, ◌+◌, ◌-◌, ◌^◌, ◌<◌, ◌≤◌, ◌++◌, ◌∷◌, [], length, min, take, drop};
-ghost use Rattle.std.specs.Prelude.{All, IfOk, OnOk, IsNone, IfSome};
+ghost use Rattle.std.specs.Prelude.{All, IfOk, OnOk, IsNone, IfNone, IfSome, None};
 ghost use Rattle.mp_defs.specs.Limits.{max_samples};
-ghost use Rattle.mp_stores.specs.Channels.{HasGrownBy};
+ghost use Rattle.mp_stores.specs.Channels.{HasGrownBy, KeptHasGrown};
 ghost use Rattle.mp_stores.specs.Seen.{held_of};
-ghost use Rattle.mp_stores.specs.Stores.{Closed, HaveRoom, WasReadIn, lent_of, lists_in, reads_of, stream_in};
-ghost use Rattle.mp_stores.specs.Stores.{streams_in};
+ghost use Rattle.mp_stores.specs.Stores as held;
+ghost use Rattle.mp_stores.specs.Stores.{Closed, HasRoomIn, IsOfSamples, WasReadIn, keep_of, lent_of, lists_in};
+ghost use Rattle.mp_stores.specs.Stores.{reads_of, stream_in, streams_in};
+ghost use Rattle.mp_defs.specs.Limits.{max_appended};
 
 use crate::channels::Channel;
 use crate::groups::{add_all, reads_of, reserve_all};
 use mp_nums::{Memory, Sample};
 use mp_series::Bundle;
+use mp_stream::Kept;
 use std::alloc::Global;
 
 /// What stands in a slot.
@@ -20,6 +23,8 @@ pub(crate) enum Store {
     Closed,
     /// Channels of the same length, counted from 0.
     Open(Vec<Channel>),
+    /// One channel, of which the last samples are kept.
+    Kept(Kept),
 }
 
 impl Store {
@@ -28,8 +33,19 @@ impl Store {
         ensures { result.now ≡ streams_in (held_of self.now) }
     {
         match self {
-            Store::Closed => &[],
+            Store::Closed | Store::Kept(_) => &[],
             Store::Open(channels) => channels.as_slice(),
+        }
+    }
+
+    /// What is kept of its samples, `None` where all are.
+    pub(crate) fn kept(&self) -> Option<&Kept>
+        ensures some { IfSome result (λ kept. held_of self.now ≡ held.Kept kept.now) }
+        ensures none { IfNone result (keep_of (held_of self.now) ≡ None) }
+    {
+        match self {
+            Store::Closed | Store::Open(_) => None,
+            Store::Kept(kept) => Some(kept),
         }
     }
 
@@ -41,6 +57,7 @@ impl Store {
         match self {
             Store::Closed => None,
             Store::Open(channels) => Some(reads_of(channels.as_slice())),
+            Store::Kept(kept) => Some(kept.reads()),
         }
     }
 
@@ -59,7 +76,7 @@ impl Store {
         ensures read { WasReadIn (lent_of (held_of self.old) channel) (held_of self.old) (held_of self.new) }
     {
         match self {
-            Store::Closed => unreachable!(),
+            Store::Closed | Store::Kept(_) => unreachable!(),
             Store::Open(channels) => channels[channel as usize].window(alloc, start),
         }
     }
@@ -72,31 +89,43 @@ impl Store {
         ensures read { WasReadIn (lent_of (held_of self.old) channel) (held_of self.old) (held_of self.new) }
     {
         match self {
-            Store::Closed => unreachable!(),
+            Store::Closed | Store::Kept(_) => unreachable!(),
             Store::Open(channels) => channels[channel as usize].copy_to(bundle),
         }
     }
 
-    /// Makes room for so many more samples in each channel.
+    /// Makes room for so many more samples in each channel. A kept one needs none.
     pub(crate) fn reserve(&mut self, more: u64) -> Result<(), Memory>
         ensures ok { OnOk result (All (λ channel. more ≤ channel.spare) (streams_in (held_of self.new))) }
         ensures read { WasReadIn 0 (held_of self.old) (held_of self.new) }
     {
         match self {
-            Store::Closed => Ok(()),
+            Store::Closed | Store::Kept(_) => Ok(()),
             Store::Open(channels) => reserve_all(channels.as_mut_slice(), more),
         }
     }
 
     /// Appends to each channel its samples, for which there is room.
     pub(crate) fn add(&mut self, added: &[Vec<Sample>])
-        requires open { 0 < length (streams_in (held_of self.old)) }
-        requires room { HaveRoom (streams_in (held_of self.old)) (lists_in added.now) }
+        requires room { HasRoomIn (held_of self.old) (lists_in added.now) }
+        requires kept { IsOfSamples (held_of self.old) }
         ensures { HasGrownBy (lists_in added.now) (held_of self.old) (held_of self.new) }
     {
         match self {
             Store::Closed => unreachable!(),
             Store::Open(channels) => add_all(channels.as_mut_slice(), added),
+            Store::Kept(kept) => append_all(kept, added[0].as_slice()),
         }
+    }
+}
+
+/// Appends the samples to those of which the last ones are kept.
+fn append_all(kept: &mut Kept, samples: &[Sample])
+    requires room { kept.old.count + length samples.now ≤ max_appended }
+    requires kept { IsOfSamples (held.Kept kept.old) }
+    ensures { KeptHasGrown samples.now kept.old kept.new }
+{
+    for sample in samples {
+        kept.append(*sample).unwrap();
     }
 }

@@ -1,7 +1,9 @@
 //! The stores.
 
 ghost use Rattle.std.specs.Prelude.{◌≡◌, ◌≢◌, ◌==◌, ◌↔◌, ◌+◌, ◌-◌, ◌*◌, ◌^◌, ◌<◌, ◌≤◌, ℕ, List, [], ◌∷◌, ◌++◌, length};
-ghost use Rattle.std.specs.Prelude.{map, min, sum_by, take, drop, replicate, All, IfOk, OnOk, IsNone, IfSome};
+ghost use Rattle.std.specs.Prelude.{map, min, sum_by, take, drop, replicate, All, IfOk, OnOk, IsNone, IfNone, IfSome};
+ghost use Rattle.std.specs.Prelude.{None, is_some};
+ghost use Rattle.std.specs.Bool.{OnFalse};
 
 use crate::channels::Channel;
 use crate::store::Store;
@@ -9,6 +11,7 @@ use mp_nums::{Memory, Places, Sample};
 use mp_partial::Profile;
 use mp_replies::Ref;
 use mp_series::Bundle;
+use mp_stream::Kept;
 use std::alloc::Global;
 use std::marker::Model;
 use std::thread::Threads;
@@ -20,8 +23,8 @@ pub const SLOTS: u64 = 8;
 pub const MAX_CHANNELS: u64 = 8;
 
 /// The stores of a session, one in each slot, and the slots counted from 0. A slot is closed, or open with channels of
-/// the same length, counted from 0. All channels have the same window length. They are seen as that length and what
-/// stands in each slot.
+/// the same length, counted from 0, or kept, with one channel of which the last samples are kept. All channels have the
+/// same window length. They are seen as that length and what stands in each slot.
 #[derive(Debug, Drop)]
 pub struct Stores {
     m: u32,
@@ -48,11 +51,16 @@ impl Stores {
     ghost use Rattle.mp_defs.specs.Series.{series_of};
     ghost use Rattle.mp_defs.specs.Window.{is_free, windows};
     ghost use Rattle.mp_nums.specs.declared.samples.Sample.{Sample};
-    ghost use Rattle.mp_replies.specs.Change.{AddSamples, PutChannels};
+    ghost use Rattle.mp_replies.specs.AppendCommand.{most_samples};
+    ghost use Rattle.mp_replies.specs.Change.{AddSamples, PutChannels, PutKept};
     ghost use Rattle.mp_replies.specs.State as states;
-    ghost use Rattle.mp_replies.specs.State.{channels_at, is_closed, samples_in, store_at};
+    ghost use Rattle.mp_replies.specs.State.{channels_at, is_closed, keep_at, samples_in, store_at};
     ghost use Rattle.mp_replies.specs.Profiles.{columns_in};
-    ghost use Rattle.mp_stores.specs.Stores.{Closed, Open, AreChannels, AreEven, CanOpen, HaveRoom, HaveWindow};
+    ghost use Rattle.mp_stores.specs.Stores as held;
+    ghost use Rattle.mp_stores.specs.Stores.{HasRoomIn, channel_count, keep_of, sample_count};
+    ghost use Rattle.mp_stream.specs.Kept.{StandsFor};
+    ghost use Rattle.mp_stores.specs.Stores.{Closed, Open, AreChannels, AreEven, CanKeep, CanOpen, HaveRoom};
+    ghost use Rattle.mp_stores.specs.Stores.{HaveWindow};
     ghost use Rattle.mp_stores.specs.Stores.{IsChannel};
     ghost use Rattle.mp_stores.specs.Stores.{StandAsBefore, StandChanged, StandFor, WasRead, channel_at};
     ghost use Rattle.mp_stores.specs.Stores.{channel_series};
@@ -90,7 +98,7 @@ impl Stores {
     /// The channels of a slot, none where it isn't open.
     fn channels(&self, slot: u64) -> &[Channel]
         ensures channels { result.now ≡ streams_at self.now slot }
-        ensures closed { result.now ≡ [] → slot_at self.now slot ≡ Closed }
+        ensures closed { result.now ≡ [] → keep_of (slot_at self.now slot) ≡ None → slot_at self.now slot ≡ Closed }
         ensures few { length result.now ≤ MAX_CHANNELS }
         ensures open { 0 < length result.now → slot < SLOTS }
         ensures alike { AreChannels result.now }
@@ -111,9 +119,32 @@ impl Stores {
         &self.channels(at.slot)[at.channel as usize]
     }
 
-    /// How many channels a slot has, 0 where it isn't open.
+    /// What is kept of the samples of a slot, `None` where all are.
+    pub fn kept(&self, slot: u64) -> Option<&Kept>
+        ensures some { IfSome result (λ kept. slot_at self.now slot ≡ held.Kept kept.now) }
+        ensures within { IfSome result (λ kept. slot < SLOTS) }
+        ensures stands { IfSome result (λ kept. CanKeep self.now.m kept.now) }
+        ensures none { IfNone result (keep_of (slot_at self.now slot) ≡ None) }
+    {
+        match self.stored.get(slot as usize) {
+            Some(store) => store.kept(),
+            None => None,
+        }
+    }
+
+    /// Whether the last samples of a slot are kept, and no more.
+    pub fn is_kept(&self, slot: u64) -> bool
+        ensures kept { (stores : List states.Store) → StandFor self.now stores
+            → result ≡ is_some (keep_at stores slot) }
+        ensures open { OnFalse result
+            (channel_count (slot_at self.now slot) ≡ length (streams_at self.now slot)) }
+    {
+        self.kept(slot).is_some()
+    }
+
+    /// How many channels a slot has, 0 where it is closed.
     pub fn count(&self, slot: u64) -> u64
-        ensures count { result ≡ length (streams_at self.now slot) }
+        ensures count { result ≡ channel_count (slot_at self.now slot) }
         ensures channels { (stores : List states.Store) → StandFor self.now stores
             → result ≡ length (channels_at stores slot) }
         ensures closed { (stores : List states.Store) → StandFor self.now stores
@@ -122,14 +153,28 @@ impl Stores {
         ensures open { 0 < result → slot < SLOTS }
         ensures alike { AreChannels (streams_at self.now slot) }
     {
-        self.channels(slot).len() as u64
+        match self.kept(slot) {
+            Some(_) => 1,
+            None => self.channels(slot).len() as u64,
+        }
     }
 
-    /// How many samples each channel of a slot has.
+    /// How many samples each channel of a slot has, or were ever appended to a kept one.
     pub fn len(&self, slot: u64) -> u64
-        ensures count { result ≡ count_in (streams_at self.now slot) }
+        ensures count { result ≡ sample_count (slot_at self.now slot) }
         ensures length { (stores : List states.Store) → StandFor self.now stores
             → result ≡ samples_in (channels_at stores slot) }
+        ensures within { result ≤ most_samples (keep_of (slot_at self.now slot)) }
+    {
+        match self.kept(slot) {
+            Some(kept) => kept.len(),
+            None => self.open_len(slot),
+        }
+    }
+
+    /// How many samples each channel of a slot has, 0 where it isn't open.
+    fn open_len(&self, slot: u64) -> u64
+        ensures count { result ≡ count_in (streams_at self.now slot) }
         ensures within { result ≤ max_samples }
     {
         match self.channels(slot).first() {
@@ -238,12 +283,12 @@ impl Stores {
         self.stored[slot as usize].reserve(more)
     }
 
-    /// Appends to each channel of an open slot its samples, as many to each, for which there is room. For each of them
-    /// it reads no more than four samples for each window and for each sample of one.
+    /// Appends to each channel of a slot its samples, as many to each, for which there is room. For each of them it
+    /// reads no more than four samples for each window and for each sample of one, and in a kept slot no more than four
+    /// for each sample that may be kept and for each sample of a window.
     pub fn add(&mut self, slot: u64, added: &[Vec<Sample>])
         requires slot { slot < SLOTS }
-        requires open { 0 < length (streams_at self.old slot) }
-        requires room { HaveRoom (streams_at self.old slot) (lists_in added.now) }
+        requires room { HasRoomIn (slot_at self.old slot) (lists_in added.now) }
         requires same { AreEven (lists_in added.now) }
         ensures m { self.new.m ≡ self.old.m }
         ensures stands { StandChanged (AddSamples slot (map series_of (lists_in added.now))) self.old self.new }
@@ -265,5 +310,18 @@ impl Stores {
         ensures others { (other : ℕ) → other ≢ slot → slot_at self.new other ≡ slot_at self.old other }
     {
         self.stored[slot as usize] = Store::Open(channels);
+    }
+
+    /// Puts a channel without a sample, of which the last ones will be kept, in place of what stood in a slot.
+    pub fn put_kept(&mut self, slot: u64, kept: Kept)
+        requires slot { slot < SLOTS }
+        requires window { kept.m ≡ self.old.m }
+        requires empty { StandsFor [] kept }
+        ensures m { self.new.m ≡ self.old.m }
+        ensures stands { StandChanged (PutKept slot kept.keep) self.old self.new }
+        ensures kept { slot_at self.new slot ≡ held.Kept kept }
+        ensures others { (other : ℕ) → other ≢ slot → slot_at self.new other ≡ slot_at self.old other }
+    {
+        self.stored[slot as usize] = Store::Kept(kept);
     }
 }

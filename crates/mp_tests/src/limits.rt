@@ -88,7 +88,7 @@ fn a_line_and_a_series_have_a_greatest_length(rt: HostRuntime) {
 
 /// Lines that are refused, and the reports of each where it is one byte too long, where it isn't, and of an end.
 static REFUSED: [(&str, &str); 9] = [
-    ("session 2", "refused 1 long\nrefused 2 version\nok 3\n"),
+    ("session 3", "refused 1 long\nrefused 2 version\nok 3\n"),
     ("frob", "refused 1 long\nrefused 2 unknown\nok 3\n"),
     ("open", "refused 1 long\nrefused 2 fields\nok 3\n"),
     ("append x 1", "refused 1 long\nrefused 2 number\nok 3\n"),

@@ -10,6 +10,7 @@ ghost use Rattle.mp_replies.specs.Limits.{max_channels};
 ghost use Rattle.mp_replies.specs.Line.{Asks};
 ghost use Rattle.mp_requests.specs.Requests.{refs_of};
 ghost use Rattle.mp_requests.specs.Reports.{IsReported, OnlyReads};
+ghost use Rattle.mp_stores.specs.Stores.{channel_count, slot_at, streams_at};
 
 use crate::answers::Answer;
 use crate::conditions::multi_cause;
@@ -74,8 +75,9 @@ fn together<R: Threads + Sync, G: Gate>(
     )
 }
 
-/// All channels of a slot.
+/// All channels of an open slot.
 fn channels_of(alloc: Global, stores: &Stores, slot: u64) -> Result<Vec<Ref>, Memory>
+    requires { channel_count (slot_at stores.now slot) ≡ length (streams_at stores.now slot) }
     ensures { IfOk result (λ refs. refs.items ≡ refs_of stores.now slot) }
 {
     let mut refs = Vec::new(alloc);

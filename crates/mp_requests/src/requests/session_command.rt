@@ -1,6 +1,5 @@
-//! `session 1`: the version of the lines that follow.
+//! `session 1` or `session 2`: the version of the lines that follow.
 
-ghost use Rattle.std.specs.Prelude.{ℕ};
 ghost use Rattle.mp_replies.specs.Command as asked;
 ghost use Rattle.mp_replies.specs.Line.{Asks};
 ghost use Rattle.mp_requests.specs.Reports.{IsAnswered};
@@ -12,12 +11,12 @@ use crate::reports::Report;
 use mp_replies::Cause;
 
 /// It comes before all other commands.
-pub(crate) fn report_session(context: Context) -> Answer
-    ensures { (held : Stored) (version : ℕ) → IsAnswered context (Asks (asked.Session version)) held result }
+pub(crate) fn report_session(context: Context, version: u64) -> Answer
+    ensures { (held : Stored) → IsAnswered context (Asks (asked.Session version)) held result }
 {
     if context.begun {
         Answer::Refused(Cause::Version)
     } else {
-        Answer::Accepted(Report::Session)
+        Answer::Accepted(Report::Session { version })
     }
 }

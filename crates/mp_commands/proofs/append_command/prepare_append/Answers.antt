@@ -2,10 +2,10 @@ use Rattle.std.proofs.Common.{◌≡◌, ◌∙◌, ◌+◌, ℕ, sym, ap, refl,
 use Rattle.std.specs.Prelude.{All}
 use Rattle.mp_bytes.specs.Fields.{fields_in}
 use Rattle.mp_replies.specs.State.{channels_at, samples_in}
-use Rattle.mp_stores.specs.Stores.{lists_in, streams_at}
-use Rattle.mp_stores.specs.StoreLaws.{last_at, stand_as_before}
+use Rattle.mp_stores.specs.Stores.{keep_of, lists_in, slot_at}
+use Rattle.mp_stores.specs.StoreLaws.{stand_as_before}
 use Rattle.mp_requests.specs.Answering.{state_over}
-use Rattle.mp_commands.proofs.AppendLemmas.{added_even, added_long, appended}
+use Rattle.mp_commands.proofs.AppendLemmas.{added_even, added_long, appended, most_few, room_in}
 use Rattle.mp_commands.proofs.append_command.prepare_append.Goals as goal
 
 pub returns-clause-prepared : goal.returns-clause-prepared
@@ -27,29 +27,35 @@ returns-clause-prepared c = λ told. record {
   stop = λ stores stand. tt;
 }
 
+pub overflow_add-samples : goal.overflow_add-samples
+overflow_add-samples c =
+    let slot = c.args.more.slot in
+    let most = most_few (keep_of (slot_at c.args.stores.now slot)) in
+    let later = most_few (keep_of (slot_at c.reserve.new.self slot)) in
+    omega (arith, c.len.ensures.within, later, c.in-Ok.ensures.fits, most)
+
 pub returns-clause-ready : goal.returns-clause-ready
 returns-clause-ready c =
     let items = fields_in c.args.more.items.now in
+    let slot = c.args.more.slot in
     let added = lists_in c.in_ok-added.added.items in
     let n = c.count.result in
     let even = added_even c.scale.result n items added c.in-Ok.ensures.good c.in_ok-added.ensures in
     record {
-      can =
-          let last = last_at c.args.stores.now c.reserve.new.self c.args.more.slot c.reserve.ensures.stands in
-          let same : length (streams_at c.reserve.new.self c.args.more.slot) ≡ n = last.count
-          ∙ sym c.count.ensures.count in
-          record {
-            within = c.count.ensures.open c.in-Ok.ensures.open;
-            is_open = omega (arith, same, c.in-Ok.ensures.open);
-            room = c.in_ok-reserve.ensures.room added
-                (added_long n _ added c.in_ok-added.ensures ∙ sym same)
-                (subst (λ (m : ℕ). All (λ samples. length samples ≡ m) added) (sym c.in-Ok.ensures.count) even)
-                c.in-Ok.ensures.fits;
-            even = record { count = length items; each = even };
-          };
+      can = record {
+        within = c.count.ensures.open c.in-Ok.ensures.open;
+        room =
+            room_in (slot_at c.args.stores.now slot) (slot_at c.reserve.new.self slot) added n c.in-Ok.count
+            (c.reserve.ensures.stands.each slot) c.count.ensures.count c.in-Ok.ensures.open
+            (added_long n _ added c.in_ok-added.ensures)
+            (subst (λ (m : ℕ). All (λ samples. length samples ≡ m) added) (sym c.in-Ok.ensures.count) even)
+            c.in-Ok.ensures.fits (c.in_ok-reserve.ensures.room added);
+        even = record { count = length items; each = even };
+      };
       kept = λ h. absurd (cc h);
       renewed = λ other put. absurd (cc put);
       adds = (refl, even);
       names = tt;
       ends = refl;
+      version = refl;
     }

@@ -79,4 +79,5 @@ returns-clause-ready g c = record {
   adds = tt;
   names = tt;
   ends = refl;
+  version = refl;
 }

@@ -29,4 +29,5 @@ returns-clause-ready g c = record {
   adds = tt;
   names = tt;
   ends = refl;
+  version = refl;
 }

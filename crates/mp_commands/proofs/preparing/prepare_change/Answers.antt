@@ -14,6 +14,12 @@ returns-in-Open-clause-some_files g c =
     (sym (ap changed_in c.in-Open.is))
     (some_taken c.args.context _ c.args.stores.now c.prepare_open.result c.prepare_open.ensures.prepared)
 
+pub returns-in-Keep-clause-some_files : goal.returns-in-Keep-clause-some_files
+returns-in-Keep-clause-some_files g c =
+    subst (λ (what : Asked). IfOk c.prepare_keep.result (IsPreparedBySome c.args.context what c.args.stores.now))
+    (sym (ap changed_in c.in-Keep.is))
+    (some_taken c.args.context _ c.args.stores.now c.prepare_keep.result c.prepare_keep.ensures.prepared)
+
 pub returns-in-Append-clause-some_files : goal.returns-in-Append-clause-some_files
 returns-in-Append-clause-some_files g c =
     subst (λ (what : Asked). IfOk c.prepare_append.result (IsPreparedBySome c.args.context what c.args.stores.now))
@@ -26,6 +32,13 @@ returns-in-Open-clause-shelf g c =
     (needs_none c.args.context (changed_in c.args.request) c.args.stores.now
     (λ state. ap (λ request. fetches_by state (changed_in request)) c.in-Open.is))
     c.prepare_open.ensures.calm
+
+pub returns-in-Keep-clause-shelf : goal.returns-in-Keep-clause-shelf
+returns-in-Keep-clause-shelf g c =
+    unasked c.args.shelf.now
+    (needs_none c.args.context (changed_in c.args.request) c.args.stores.now
+    (λ state. ap (λ request. fetches_by state (changed_in request)) c.in-Keep.is))
+    c.prepare_keep.ensures.calm
 
 pub returns-in-Append-clause-shelf : goal.returns-in-Append-clause-shelf
 returns-in-Append-clause-shelf g c =

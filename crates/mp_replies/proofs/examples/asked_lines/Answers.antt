@@ -6,7 +6,15 @@ pub returns : goal.returns
 unfolding asked_of
 returns c = record {
   session = refl;
+  second = refl;
   other_version = refl;
+  keep = refl;
+  keep_in_first = refl;
+  keep_alone = refl;
+  keep_few = refl;
+  keep_most = refl;
+  keep_more = refl;
+  keep_ref = refl;
   no_version = refl;
   unknown = refl;
   no_items = refl;

@@ -2,12 +2,13 @@ use Rattle.std.proofs.Common.{◌≡◌, ◌<◌, ℕ, List, drop, get_or}
 use Rattle.mp_replies.specs.Conditions.{some_absent}
 use Rattle.mp_replies.specs.declared.refs.Ref.{Ref}
 use Rattle.mp_replies.specs.State.{Store}
-use Rattle.mp_stores.specs.Stores.{IsChannel, StandFor}
+use Rattle.mp_stores.specs.Stores.{IsChannel, IsOpenSlot, StandFor}
 use Rattle.mp_requests.proofs.conditions.is_some_absent.Given as goal
 
 abbrev pub invariant-loop-at : goal.invariant-loop-at
 invariant-loop-at l = record {
   same : (stands : List Store) → StandFor l.stores stands
       → some_absent stands l.refs ≡ some_absent stands (drop l.at-index l.refs);
-  there : (k : ℕ) (d : Ref) → k < l.at-index → IsChannel l.stores (get_or l.refs k d);
+  there : (k : ℕ) (d : Ref) → k < l.at-index → IsOpenSlot l.stores (get_or l.refs k d)
+      → IsChannel l.stores (get_or l.refs k d);
 }

@@ -1,31 +1,21 @@
-use Rattle.std.proofs.Common.{◌∙◌, arith}
+use Rattle.std.proofs.Common.{◌∙◌, ap, sym}
 use Rattle.std.proofs.lemmas.Result.{IfOk-weaker}
-use Rattle.mp_stores.specs.Stores.{channel_series}
-use Rattle.mp_requests.proofs.ColumnLemmas.{profile_long}
-use Rattle.mp_requests.proofs.WrittenLemmas.{chains_written, entry_written, window_named}
+use Rattle.mp_replies.specs.Commands.{report_text}
+use Rattle.mp_requests.specs.declared.reports.Report as reports
+use Rattle.mp_requests.specs.Requests.{report_in}
+use Rattle.mp_requests.proofs.WrittenLemmas.{chains_written, window_named}
 use Rattle.mp_requests.proofs.reports.Report.text.Goals as goal
 
-pub entry_text-requires : goal.entry_text-requires
-entry_text-requires c =
-    let held = c.args.stores.now in
-    let at = c.in-Entry.at in
-    let window = window_named held at c.in-Entry.start c.args.self.now c.in-Entry.is c.requires in
-    let profile = c.profile-in-Entry.result.now in
-    let long = profile_long held.m (channel_series held at) profile c.profile-in-Entry.ensures in
-    omega (arith, long, window.within)
+pub named_entry_text-requires : goal.named_entry_text-requires
+named_entry_text-requires c =
+    window_named c.args.stores.now c.in-Entry.at c.in-Entry.start c.args.self.now c.in-Entry.is c.requires
 
 pub returns-in-Entry : goal.returns-in-Entry
 returns-in-Entry c = λ state slots.
-    let held = c.args.stores.now in
-    let at = c.in-Entry.at in
-    let start = c.in-Entry.start in
-    let ours = c.args.self.now in
-    IfOk-weaker c.entry_text.result _ _
-    (λ text is.
-    is
-    ∙ entry_written state held c.args.line at start ours c.profile-in-Entry.result.now c.in-Entry.is slots
-    (window_named held at start ours c.in-Entry.is c.requires) c.profile-in-Entry.ensures)
-    c.entry_text.ensures
+    let line = c.args.line in
+    IfOk-weaker c.named_entry_text.result _ _
+    (λ text is. is ∙ ap (λ (r : reports.Report). report_text line (report_in state r)) (sym c.in-Entry.is))
+    (c.named_entry_text.ensures state slots)
 
 pub returns-in-Chains : goal.returns-in-Chains
 returns-in-Chains c = λ state slots.

@@ -11,6 +11,6 @@ returns-in-Session-clause-report g c =
     subst (λ (what : Asked). IsReported {E = Memory} c.args.context what c.args.stores.now (Ok answer))
     (sym (ap reported_in c.in-Session.is))
     (record {
-      told = c.report_session.ensures c.args.stores.now c.in-Session.version;
+      told = c.report_session.ensures c.args.stores.now;
       memory = λ stores stand. tt;
     })

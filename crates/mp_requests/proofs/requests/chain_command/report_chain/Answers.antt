@@ -29,7 +29,7 @@ returns c =
     let held = c.args.stores.now in
     let at = c.args.at in
     let start = c.args.start in
-    reported c.args.context (asked.Chain at start) held (report.Chain c.in_ok-chain.chain) tt refl refl
+    reported c.args.context (asked.Chain at start) held (report.Chain c.in_ok-chain.chain) tt refl refl refl
     (λ stores files. c.in_default.ensures.cause stores)
     (λ stores files stand.
     let columns = matrix_profile held.m (series_at stores at) in

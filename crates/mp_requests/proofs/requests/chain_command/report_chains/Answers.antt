@@ -21,7 +21,7 @@ pub returns : goal.returns
 returns c =
     let held = c.args.stores.now in
     let at = c.args.at in
-    reported c.args.context (asked.Chains at) held (report.Chains c.in_ok-chains.chains) tt refl refl
+    reported c.args.context (asked.Chains at) held (report.Chains c.in_ok-chains.chains) tt refl refl refl
     (λ stores files. c.in_default.ensures.cause stores)
     (λ stores files stand.
     let columns = matrix_profile held.m (series_at stores at) in

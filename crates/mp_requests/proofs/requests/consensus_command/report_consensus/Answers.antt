@@ -18,6 +18,7 @@ returns-clause-report g c = record {
         search rules;
     names = tt;
     ends = refl;
+    version = refl;
   };
   memory = λ stores stand. tt;
 }

@@ -25,6 +25,7 @@ returns-clause-report g c =
     let radius = c.args.pattern.radius in
     let max = c.args.pattern.max in
     reported c.args.context (asked.Match at query start radius max) held (report.Match c.in_ok-found.found) tt refl refl
+    refl
     (λ stores files. c.in_default.ensures.cause stores)
     (λ stores files stand.
     let a = series_at stores at in

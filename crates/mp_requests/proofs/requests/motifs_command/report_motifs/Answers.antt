@@ -37,7 +37,7 @@ returns-clause-report g c =
     let at = c.args.repeats.at in
     let sought = c.args.repeats in
     let query = motif_query sought.count sought.cutoff sought.radius sought.neighbours sought.matches in
-    reported c.args.context (asked.Motifs at query) old (report.Motifs c.in_ok-found.found) tt refl refl
+    reported c.args.context (asked.Motifs at query) old (report.Motifs c.in_ok-found.found) tt refl refl refl
     (λ stores files. c.in_default.ensures.cause stores)
     (λ stores files stand.
     let copy : series_of c.series.result.now ≡ series_at stores at =

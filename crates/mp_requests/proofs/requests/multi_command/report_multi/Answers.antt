@@ -7,12 +7,17 @@ use Rattle.mp_replies.specs.Command.{MultiReport}
 use Rattle.mp_replies.specs.Command as asked
 use Rattle.mp_replies.specs.State.{channels_at}
 use Rattle.mp_stores.specs.StoreLaws.{channels_stand}
-use Rattle.mp_stores.specs.Stores.{IsChannel, series_in, streams_at}
+use Rattle.mp_stores.specs.Stores.{IsChannel, series_in, slot_at, streams_at}
 use Rattle.mp_stream.specs.Streams.{Streamed}
 use Rattle.mp_requests.specs.declared.reports.Report.TheVariants as report
 use Rattle.mp_requests.specs.Requests.{refs_of}
 use Rattle.mp_requests.proofs.ReportLemmas.{copied_channels, copied_long, each_channel, have_one_length, reported}
+use Rattle.mp_requests.proofs.ReportLemmas.{some_counted}
 use Rattle.mp_requests.proofs.requests.multi_command.report_multi.Goals as goal
+
+pub channels_of-requires : goal.channels_of-requires
+channels_of-requires g c =
+    some_counted (slot_at c.args.stores.now c.args.slot) c.in_default.ensures.open
 
 pub copies-requires : goal.copies-requires
 copies-requires g c =
@@ -53,7 +58,7 @@ returns-clause-report g c =
     let held = c.args.stores.now in
     let slot = c.args.slot in
     let k = c.args.k in
-    reported c.args.context (asked.Multi slot k) held (report.Multi c.in_ok-slots.slots) tt refl refl
+    reported c.args.context (asked.Multi slot k) held (report.Multi c.in_ok-slots.slots) tt refl refl refl
     (λ stores files. c.in_default.ensures.cause stores)
     (λ stores files stand.
     let copies : map series_of c.in_ok-channels.channels ≡ channels_at stores slot =

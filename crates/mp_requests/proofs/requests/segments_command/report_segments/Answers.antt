@@ -83,6 +83,7 @@ returns c = record {
         ∙ ap (SegmentsReport (regimes_in curve (factor * held.m) count)) parts);
     names = tt;
     ends = refl;
+    version = refl;
   };
   memory = λ stores stand. tt;
 }

@@ -19,7 +19,7 @@ returns-in-AddSamples-clause-added c = λ slot count each.
     let kept = ap (λ (s : SessionParts). s.stores) c.self.view_is in
     let here = subst (λ (change : Change). AddsEach change slot count) c.in-AddSamples.is each in
     let can = subst (λ (change : Change). CanMake c.args.self.now.stores change) c.in-AddSamples.is c.requires.can in
-    let same = add_reads c.args.self.now.stores at count lists can.is_open can.room here.1 in
+    let same = add_reads c.args.self.now.stores at count lists can.room here.1 in
     let added =
     subst (λ (all : List (Vec Sample Global)). reads_at new at ≤ reads_at old at + reads_to_add old at (lists_in all))
     c.as_slice.ensures.value c.add.ensures.reads in

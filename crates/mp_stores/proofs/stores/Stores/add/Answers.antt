@@ -1,27 +1,27 @@
-use Rattle.std.proofs.Common.{◌+◌, ◌<◌, ◌≤◌, length, map, set, subst, sym}
+use Rattle.std.proofs.Common.{◌+◌, ◌≤◌, map, set, subst, sym}
 use Rattle.mp_defs.specs.Series.{series_of}
-use Rattle.mp_replies.specs.Change.{extended}
-use Rattle.mp_replies.specs.State.{Open, channels_at, store_at}
+use Rattle.mp_replies.specs.Change.{grown as grown_by}
+use Rattle.mp_replies.specs.State.{store_at}
 use Rattle.mp_stores.specs.Seen.{held_of}
-use Rattle.mp_stores.specs.Stores.{Held, HaveRoom, lists_in, reads_at, reads_of, reads_to_add, slot_at, streams_in}
-use Rattle.mp_stores.proofs.StoreLemmas.{AreSeen, AreSet, WasExtended, seen_extended, seen_set, slot_seen, view}
+use Rattle.mp_stores.specs.Stores.{Held, HasRoomIn, IsOfSamples, lists_in, reads_at, reads_of, reads_to_add, slot_at}
+use Rattle.mp_stores.proofs.StoreLemmas.{AreSeen, AreSet, WasExtended, of_samples, seen_extended, seen_set, slot_seen}
+use Rattle.mp_stores.proofs.StoreLemmas.{stores_seen, view}
 use Rattle.mp_stores.proofs.stores.Stores.add.Goals as goal
-
-pub add-requires-clause-open : goal.add-requires-clause-open
-add-requires-clause-open c =
-    let all : AreSeen c.self.inside.m c.self.inside.stored.items c.args.self.now c.args.slot =
-    record { seen = c.self.view_is; are = c.self.invariant; within = c.requires.slot } in
-    subst (λ (h : Held). 0 < length (streams_in h))
-    (sym (slot_seen all c.index_mut.ensures.value))
-    c.requires.open
 
 pub add-requires-clause-room : goal.add-requires-clause-room
 add-requires-clause-room c =
     let all : AreSeen c.self.inside.m c.self.inside.stored.items c.args.self.now c.args.slot =
     record { seen = c.self.view_is; are = c.self.invariant; within = c.requires.slot } in
-    subst (λ (h : Held). HaveRoom (streams_in h) (lists_in c.args.added.now))
-    (sym (slot_seen all c.index_mut.ensures.value))
+    subst (λ (h : Held). HasRoomIn h (lists_in c.args.added.now)) (sym (slot_seen all c.index_mut.ensures.value))
     c.requires.room
+
+pub add-requires-clause-kept : goal.add-requires-clause-kept
+add-requires-clause-kept c =
+    let all : AreSeen c.self.inside.m c.self.inside.stored.items c.args.self.now c.args.slot =
+    record { seen = c.self.view_is; are = c.self.invariant; within = c.requires.slot } in
+    let are = stores_seen all in
+    subst IsOfSamples (sym (slot_seen all c.index_mut.ensures.value))
+    (of_samples c.args.self.now.m (slot_at c.args.self.now c.args.slot) (are.each c.args.slot))
 
 abbrev all : (c : goal.After-self-1)
     → AreSeen c.self.inside.m c.self.inside.stored.items c.args.self.now c.args.slot
@@ -37,7 +37,7 @@ grown c =
 abbrev behind : (c : goal.After-self-1)
     → AreSet c.args.self.now (view c.self.inside.m (set c.self.inside.stored.items c.args.slot c.add.new.self))
     c.args.slot (held_of c.add.new.self)
-    (λ stores. Open (extended (channels_at stores c.args.slot) (map series_of (lists_in c.args.added.now))))
+    (λ stores. grown_by (store_at stores c.args.slot) (map series_of (lists_in c.args.added.now)))
 behind c =
     seen_set (all c) c.add.new.self _ (grown c).is
     (λ stores stand. (grown c).stands (store_at stores c.args.slot) (stand.each c.args.slot))

@@ -1,26 +1,38 @@
-use Rattle.std.proofs.Common.{◌∙◌, ap, sym}
-use Rattle.mp_stores.specs.StoreLaws.{samples_stand}
-use Rattle.mp_stores.specs.Stores.{count_in}
-use Rattle.mp_stores.proofs.StoreLemmas.{first_long, none_long}
+use Rattle.std.proofs.Common.{◌≤◌, ◌∙◌, ℕ, ap, subst, sym}
+use Rattle.std.specs.Prelude.{Option}
+use Rattle.mp_replies.specs.AppendCommand.{most_samples}
+use Rattle.mp_stores.specs.StoreLaws.{open_sampled, samples_stand}
+use Rattle.mp_stores.specs.Stores.{Held, keep_of, sample_count, slot_at}
 use Rattle.mp_stores.proofs.stores.Stores.len.Goals as goal
 
+-- ---- a kept slot
+
 pub returns-in-Some-clause-count : goal.returns-in-Some-clause-count
-returns-in-Some-clause-count c =
-    c.len.ensures.length
-    ∙ (first_long c.channels.result.now c.in-Some.channel.now c.in-Some.ensures.value
-    ∙ ap count_in c.channels.ensures.channels)
+returns-in-Some-clause-count c = c.len.ensures.length ∙ sym (ap sample_count c.in-Some.ensures.some)
 
 pub returns-in-Some-clause-length : goal.returns-in-Some-clause-length
 returns-in-Some-clause-length c = λ stores stand.
     c.len.ensures.length
-    ∙ (first_long c.channels.result.now c.in-Some.channel.now c.in-Some.ensures.value
-    ∙ (ap count_in c.channels.ensures.channels ∙ sym (samples_stand c.args.self.now stores c.args.slot stand)))
+    ∙ (sym (ap sample_count c.in-Some.ensures.some)
+    ∙ sym (samples_stand c.args.self.now stores c.args.slot stand))
+
+pub returns-in-Some-clause-within : goal.returns-in-Some-clause-within
+returns-in-Some-clause-within c =
+    subst (λ (h : Held). c.len.result ≤ most_samples (keep_of h)) (sym c.in-Some.ensures.some) c.len.ensures.within
+
+-- ---- any other
 
 pub returns-in-None-clause-count : goal.returns-in-None-clause-count
 returns-in-None-clause-count c =
-    none_long c.channels.result.now c.in-None.ensures.value ∙ ap count_in c.channels.ensures.channels
+    c.open_len.ensures.count ∙ sym (open_sampled (slot_at c.args.self.now c.args.slot) c.in-None.ensures.none)
 
 pub returns-in-None-clause-length : goal.returns-in-None-clause-length
 returns-in-None-clause-length c = λ stores stand.
-    none_long c.channels.result.now c.in-None.ensures.value
-    ∙ (ap count_in c.channels.ensures.channels ∙ sym (samples_stand c.args.self.now stores c.args.slot stand))
+    c.open_len.ensures.count
+    ∙ (sym (open_sampled (slot_at c.args.self.now c.args.slot) c.in-None.ensures.none)
+    ∙ sym (samples_stand c.args.self.now stores c.args.slot stand))
+
+pub returns-in-None-clause-within : goal.returns-in-None-clause-within
+returns-in-None-clause-within c =
+    subst (λ (keep : Option ℕ). c.open_len.result ≤ most_samples keep) (sym c.in-None.ensures.none)
+    c.open_len.ensures.within
