@@ -3,6 +3,7 @@ pub mod Order
 pub mod Matches
 pub mod Discords
 pub mod Motifs
+pub mod Ranks
 pub mod Columns
 pub mod Chains
 pub mod Arcs

@@ -5,7 +5,7 @@ use Rattle.std.specs.Prelude.{Option, Some, None}
 use Rattle.mp_nums.specs.declared.nearest.Near.{Near}
 use Rattle.mp_defs.specs.Series.{Series}
 use Rattle.mp_partial.specs.Values.{Value}
-use Rattle.mp_topk.specs.Ranks.{ranks_of}
+use Rattle.mp_results.specs.Ranks.{ranks_of}
 use Rattle.mp_topk.specs.Ranking.{slots_of, those_in}
 use Rattle.mp_topk.specs.RankLaws.{those_in_slots}
 use Rattle.mp_topk.proofs.Through.{those_from_end, those_from_none, those_from_some}

@@ -9,7 +9,7 @@ use Rattle.std.proofs.lemmas.List.{map-set}
 use Rattle.std.proofs.lemmas.List.Elements.{All-cons, All-head, All-nil, All-replicate, All-set, All-tail}
 use Rattle.std.proofs.lemmas.Simd.{get_or-zip2, length-zip2}
 use Rattle.mp_nums.specs.declared.nearest.Near.{Near}
-use Rattle.mp_topk.specs.Ranks.{put}
+use Rattle.mp_results.specs.Ranks.{put}
 use Rattle.mp_topk.specs.Ranking.{AreRanked, AreRanks, HasRanks, is_rising, merged_lists, merged_ranks, no_ranks}
 use Rattle.mp_topk.specs.Ranking.{put_all}
 use Rattle.mp_topk.specs.Ranking.{put_at, slots_of, those_in}

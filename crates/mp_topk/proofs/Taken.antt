@@ -14,7 +14,7 @@ use Rattle.mp_cuts.specs.Pairs.{has_pair, no_tile}
 use Rattle.mp_scans.specs.Offering.{in_block}
 use Rattle.mp_tiles.specs.Among.{either_way}
 use Rattle.mp_tiles.specs.Pieces.{OwnTiling}
-use Rattle.mp_topk.specs.Ranks.{in_order}
+use Rattle.mp_results.specs.Ranks.{in_order}
 use Rattle.mp_topk.specs.Ranking.{AreRanks, is_rising, merged_lists, merged_ranks, put_all, slots_of}
 use Rattle.mp_topk.specs.RankLaws.{lists_commute, take_all, take_few, take_rises, those_in_slots}
 use Rattle.mp_topk.specs.Taking.{chosen, lists_among}

@@ -5,7 +5,7 @@ use Rattle.std.specs.Prelude.{Option, Some, None, slice_get, slice_set, if◌the
 use Rattle.std.proofs.lemmas.List.{length-take}
 use Rattle.mp_nums.specs.declared.nearest.Near.{Near}
 use Rattle.mp_nums.specs.Near.{comes_before, nearer_of}
-use Rattle.mp_topk.specs.Ranks.{put, put_if_there}
+use Rattle.mp_results.specs.Ranks.{put, put_if_there}
 use Rattle.mp_topk.specs.Ranking.{AreRanked, is_rising, later_of, padded, put_all, those_in}
 use Rattle.mp_topk.specs.RankLaws.{all_put, put_before, put_rises, rising_head, rising_tail, take_all, take_few}
 use Rattle.mp_topk.specs.RankLaws.{take_rises}

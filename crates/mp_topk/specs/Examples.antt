@@ -2,7 +2,7 @@
 use Rattle.std.specs.Prelude.{◌≡◌, [], ◌∷◌}
 use Rattle.mp_defs.specs.Least.{near_at}
 use Rattle.mp_defs.specs.Examples.{plain, tied}
-use Rattle.mp_topk.specs.Ranks.{ranks_of}
+use Rattle.mp_results.specs.Ranks.{ranks_of}
 
 -- of 1 2 3 1 2 3
 abbrev pub PlainRanks : Type 0

@@ -7,7 +7,7 @@ use Rattle.mp_nums.specs.declared.nearest.Near.{Near}
 use Rattle.mp_nums.specs.Near.{comes_before, nearer_of}
 use Rattle.mp_defs.specs.Least.{near_at}
 use Rattle.mp_scans.specs.Slots.{Covers}
-use Rattle.mp_topk.specs.Ranks.{put}
+use Rattle.mp_results.specs.Ranks.{put}
 use Rattle.mp_topk.specs.Ranking.{AreRanked, is_rising, padded, precedes, those_in}
 use Rattle.mp_topk.specs.RankLaws.{put_before, rising_head, rising_tail, take_few}
 use Rattle.mp_topk.specs.TakingLaws.{GivesNothing}

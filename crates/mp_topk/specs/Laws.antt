@@ -4,7 +4,7 @@ use Rattle.mp_nums.specs.declared.nearest.Near.{Near}
 use Rattle.mp_defs.specs.Series.{Series}
 use Rattle.mp_defs.specs.Window.{is_allowed}
 use Rattle.mp_defs.specs.Profile.{entry}
-use Rattle.mp_topk.specs.Ranks.{in_order, ranks}
+use Rattle.mp_results.specs.Ranks.{in_order, ranks}
 use Rattle.mp_topk.specs.Ranking.{is_rising}
 
 -- the first rank of a window is its entry in the matrix profile

@@ -1,4 +1,3 @@
-pub mod Ranks
 pub mod Ranking
 pub mod RankLaws
 pub mod Laws

@@ -13,7 +13,7 @@ use Rattle.mp_defs.specs.Least.{at_distance, near_at}
 use Rattle.mp_defs.specs.Profile.{windows_of}
 use Rattle.mp_scans.specs.Offering.{only, IsLimiting, IsOffering}
 use Rattle.mp_tiles.specs.Among.{either_way}
-use Rattle.mp_topk.specs.Ranks.{in_order, put}
+use Rattle.mp_results.specs.Ranks.{in_order, put}
 use Rattle.mp_topk.specs.Ranking.{Ranked, put_all, put_at}
 use Rattle.mp_topk.specs.Taking.{chosen}
 use Rattle.mp_topk.specs.TakingLaws.{GivesNothing}

@@ -8,7 +8,7 @@ use Rattle.mp_defs.specs.Window.{is_allowed}
 use Rattle.mp_defs.specs.Least.{near}
 use Rattle.mp_defs.specs.LeastLaws.{grows_by_one_candidate}
 use Rattle.mp_defs.specs.Profile.{windows_of}
-use Rattle.mp_topk.specs.Ranks.{in_order, put, put_if_there}
+use Rattle.mp_results.specs.Ranks.{in_order, put, put_if_there}
 use Rattle.mp_topk.specs.Laws.{CandidatesAreInOrder, FirstIsEntry, IsCandidate, StandsIn}
 use Rattle.mp_topk.specs.Taking.{chosen}
 use Rattle.mp_topk.specs.TakingLaws.{order_rises, same_window}

@@ -10,7 +10,7 @@ use Rattle.std.proofs.lemmas.List.Elements.{All-head, All-tail, All-replicate}
 use Rattle.std.proofs.lemmas.Simd.{length-zip2}
 use Rattle.mp_nums.specs.declared.nearest.Near.{Near}
 use Rattle.mp_nums.specs.Near.{comes_before}
-use Rattle.mp_topk.specs.Ranks.{put}
+use Rattle.mp_results.specs.Ranks.{put}
 use Rattle.mp_partial.specs.Values.{Value}
 use Rattle.mp_partial.specs.MergeLaws.{IsMerging, all_zip, zip_unit_first}
 use Rattle.mp_topk.specs.Ranking.{AreRanks, HasRanks, is_rising, precedes, merged_ranks, merged_slots, no_ranks}

@@ -6,7 +6,7 @@ use Rattle.std.specs.Simd.Lanes.{zip2}
 use Rattle.mp_nums.specs.declared.nearest.Near.{Near}
 use Rattle.mp_nums.specs.Listed.{Listed}
 use Rattle.mp_nums.specs.Near.{comes_before}
-use Rattle.mp_topk.specs.Ranks.{put}
+use Rattle.mp_results.specs.Ranks.{put}
 use Rattle.mp_partial.specs.Values.{Value}
 
 -- what is seen of ranks: for each place its windows in their order, and how many more places take no memory

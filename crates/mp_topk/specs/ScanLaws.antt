@@ -8,7 +8,7 @@ use Rattle.mp_defs.specs.Series.{Series}
 use Rattle.mp_defs.specs.Distance.{distance}
 use Rattle.mp_defs.specs.Least.{at_distance, near_at}
 use Rattle.mp_defs.specs.Profile.{windows_of}
-use Rattle.mp_topk.specs.Ranks.{in_order, put, put_if_there}
+use Rattle.mp_results.specs.Ranks.{in_order, put, put_if_there}
 use Rattle.mp_topk.specs.Ranking.{put_all}
 use Rattle.mp_topk.specs.RankLaws.{take_all, take_again}
 use Rattle.mp_topk.specs.Taking.{chosen}

@@ -6,7 +6,7 @@ use Rattle.mp_defs.specs.Series.{Series}
 use Rattle.mp_defs.specs.Distance.{distance}
 use Rattle.mp_defs.specs.Least.{candidate}
 use Rattle.mp_defs.specs.Profile.{windows_of}
-use Rattle.mp_topk.specs.Ranks.{in_order}
+use Rattle.mp_results.specs.Ranks.{in_order}
 use Rattle.mp_topk.specs.Ranking.{merged_lists}
 
 -- the windows that may be chosen for window i, by their distance

@@ -5,7 +5,7 @@ use Rattle.std.proofs.Common.{arith, refl, sym, ap, ◌∙◌}
 use Rattle.std.proofs.lemmas.Bool.Decides.{nat_tests}
 use Rattle.mp_nums.specs.declared.nearest.Near.{Near}
 use Rattle.mp_nums.specs.Near.{comes_before}
-use Rattle.mp_topk.specs.Ranks.{in_order, put, put_if_there}
+use Rattle.mp_results.specs.Ranks.{in_order, put, put_if_there}
 use Rattle.mp_topk.specs.Ranking.{is_rising, put_all}
 use Rattle.mp_topk.specs.RankLaws.{all_put, lists_commute, put_commutes, put_repeats, put_rises, take_all}
 use Rattle.mp_topk.specs.RankLaws.{take_put, take_rises}

@@ -28,7 +28,7 @@ use Rattle.mp_cuts.specs.Laws.{HoldEachOnce}
 use Rattle.mp_cuts.specs.CutLaws.{cuts_hold_each_pair_once}
 use Rattle.mp_tiles.specs.Among.{either_way}
 use Rattle.mp_tiles.specs.OfferingLaws.{or_pairs}
-use Rattle.mp_topk.specs.Ranks.{in_order}
+use Rattle.mp_results.specs.Ranks.{in_order}
 use Rattle.mp_topk.specs.Ranking.{AreRanks, HasRanks, merged_ranks, no_ranks, put_all, slots_of, those_in}
 use Rattle.mp_topk.specs.RankLaws.{are_ranks, take_rises, those_in_slots}
 use Rattle.mp_topk.specs.Taking.{chosen, lists_among, ranks_among}

@@ -9,7 +9,7 @@ use Rattle.mp_cuts.specs.Pairs.{has_pair, no_tile}
 use Rattle.mp_cuts.specs.Cutting.{own_tiles}
 use Rattle.mp_tiles.specs.Among.{either_way}
 use Rattle.mp_tiles.specs.Pieces.{OwnTiling, own_size}
-use Rattle.mp_topk.specs.Ranks.{ranks_of}
+use Rattle.mp_results.specs.Ranks.{ranks_of}
 use Rattle.mp_topk.specs.Ranking.{merged_ranks, no_ranks, slots_of}
 use Rattle.mp_topk.specs.Taking.{lists_among}
 

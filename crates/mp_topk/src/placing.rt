@@ -1,7 +1,7 @@
 //! The ranks of one window: its nearest windows in their order, and then slots without a window.
 
 ghost use Rattle.std.specs.Prelude.{◌≡◌, Some, None, take};
-ghost use Rattle.mp_topk.specs.Ranks.{put, put_if_there};
+ghost use Rattle.mp_results.specs.Ranks.{put, put_if_there};
 ghost use Rattle.mp_topk.specs.Ranking.{AreRanked, later_of, put_all, those_in};
 
 use mp_nums::{Near, Slot, nearer};

@@ -3,7 +3,7 @@
 ghost use Rattle.std.specs.Prelude.{◌≡◌, ◌≤◌, length, map, IfOk};
 ghost use Rattle.mp_series.specs.declared.limits.TheConstants.{MAX_SAMPLES, MAX_WINDOW, MIN_WINDOW};
 ghost use Rattle.mp_defs.specs.Series.{series_of};
-ghost use Rattle.mp_topk.specs.Ranks.{ranks_of};
+ghost use Rattle.mp_results.specs.Ranks.{ranks_of};
 ghost use Rattle.mp_topk.specs.Ranking.{lists_in, slots_of};
 ghost use Rattle.mp_topk.specs.Tiling.{ranks_together};
 

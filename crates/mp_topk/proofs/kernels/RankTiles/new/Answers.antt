@@ -5,7 +5,7 @@ use Rattle.mp_defs.specs.SeriesLaws.{series_are_of_samples}
 use Rattle.mp_partial.specs.Values.{merged_below}
 use Rattle.mp_sums.specs.declared.distances.Grid.{Grid}
 use Rattle.mp_cuts.specs.Cutting.{own_tiles}
-use Rattle.mp_topk.specs.Ranks.{ranks_of}
+use Rattle.mp_results.specs.Ranks.{ranks_of}
 use Rattle.mp_topk.specs.Ranking.{merged_ranks, no_ranks, slots_of}
 use Rattle.mp_topk.specs.Tiling.{ranks_together, tile_value, tiles_value}
 use Rattle.mp_topk.specs.TileLaws.{make_the_ranks}
