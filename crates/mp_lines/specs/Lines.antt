@@ -12,8 +12,8 @@ use Rattle.mp_replies.specs.Shapes.{Shape, by_shape}
 use Rattle.mp_lines.specs.declared.commands.Command.{Command}
 use Rattle.mp_lines.specs.declared.commands.Command.TheVariants.{Blank, Session, Open, Keep, Load, Append, Window}
 use Rattle.mp_lines.specs.declared.commands.Command.TheVariants.{Profile, Entry, End}
-use Rattle.mp_lines.specs.declared.commands.Command.TheVariants.{Join, Multi, Match, Motifs, Discords, Chain, Chains}
-use Rattle.mp_lines.specs.declared.commands.Command.TheVariants.{Segments, Mpdist, Consensus}
+use Rattle.mp_lines.specs.declared.commands.Command.TheVariants.{Join, Multi, Nearest, Match, Motifs, Discords}
+use Rattle.mp_lines.specs.declared.commands.Command.TheVariants.{Chain, Chains, Segments, Mpdist, Consensus}
 use Rattle.mp_lines.specs.declared.commands.LineFault.{LineFault}
 use Rattle.mp_lines.specs.declared.commands.LineFault.TheVariants as fault
 
@@ -36,6 +36,7 @@ asked_by (Profile at) = Asks (asked.Profile at)
 asked_by (Entry at start) = Asks (asked.Entry at start)
 asked_by (Join a b) = Asks (asked.Join a b)
 asked_by (Multi slot k) = Asks (asked.Multi slot k)
+asked_by (Nearest at k) = Asks (asked.Nearest at k)
 asked_by (Match at query start radius max) = Asks (asked.Match at query start radius max)
 asked_by (Motifs at count cutoff radius neighbours matches) =
     Asks (asked.Motifs at (motif_query count cutoff radius neighbours matches))

@@ -11,7 +11,7 @@ use crate::numbers::Columns;
 use crate::ref_lists::Refs;
 use crate::shapes::{
     append, consensus, keep, load, matches, motifs, no_field, one_ref, ref_and_count,
-    ref_and_start, segments, session, slot_and_number, two_refs,
+    ref_and_rank_count, ref_and_start, segments, session, slot_and_number, two_refs,
 };
 use mp_bytes::{Fields, same_text, without_cr};
 use mp_replies::Ref;
@@ -73,6 +73,11 @@ pub enum Command<'a> {
     /// Report the profile of so many channels of a slot together.
     Multi {
         slot: u64,
+        k: u64,
+    },
+    /// Report so many nearest windows of each window.
+    Nearest {
+        at: Ref,
         k: u64,
     },
     /// Report the windows of a channel that match a window of another.
@@ -194,6 +199,9 @@ fn parse_command<'a>(
     } else if same_text(word, b"multi") {
         let (slot, k) = slot_and_number(fields)?;
         Ok(Command::Multi { slot, k })
+    } else if same_text(word, b"nearest") {
+        let (at, k) = ref_and_rank_count(fields)?;
+        Ok(Command::Nearest { at, k })
     } else if same_text(word, b"match") {
         matches(fields)
     } else if same_text(word, b"motifs") {

@@ -15,6 +15,7 @@ ghost use Rattle.mp_replies.specs.Numbers.{
   neighbours,
   number,
   positive,
+  rank_count,
   ref,
   squared,
 };
@@ -32,6 +33,9 @@ const MAX_COUNT: u64 = 262_144;
 
 /// The most motifs, and the most matches of one.
 const MAX_MOTIFS: u64 = 1_024;
+
+/// The most nearest windows of a window.
+const MAX_RANKS: u64 = 4;
 
 /// The most window lengths of a regime's zone.
 const MAX_FACTOR: u64 = 100;
@@ -96,6 +100,13 @@ pub(crate) fn read_few(field: &[u8]) -> Option<u64>
     ensures { result ≡ few field.now }
 {
     unless_zero(read_at_most(field, MAX_MOTIFS))
+}
+
+/// How many nearest windows of a window.
+pub(crate) fn read_rank_count(field: &[u8]) -> Option<u64>
+    ensures { result ≡ rank_count field.now }
+{
+    unless_zero(read_at_most(field, MAX_RANKS))
 }
 
 fn unless_zero(read: Option<u64>) -> Option<u64>

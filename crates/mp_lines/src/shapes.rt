@@ -9,6 +9,7 @@ ghost use Rattle.mp_replies.specs.Line.{asks};
 ghost use Rattle.mp_replies.specs.LoadCommand.{header_of, load_by, load_shape};
 ghost use Rattle.mp_replies.specs.MatchCommand.{match_by, match_shape};
 ghost use Rattle.mp_replies.specs.MotifsCommand.{motifs_by, motifs_shape};
+ghost use Rattle.mp_replies.specs.NearestCommand.{nearest_shape};
 ghost use Rattle.mp_replies.specs.SegmentsCommand.{segments_by, segments_shape};
 ghost use Rattle.mp_replies.specs.SessionCommand.{is_version as is_version_of, session_of};
 ghost use Rattle.mp_replies.specs.Shapes as shape;
@@ -16,8 +17,8 @@ ghost use Rattle.mp_lines.specs.Lines.{IsMadeBy, IsReadBy, read_as};
 
 use crate::commands::{Command, LineFault};
 use crate::numbers::{
-    Columns, read_count, read_factor, read_few, read_kept, read_neighbours, read_ref, read_squared,
-    read_u64,
+    Columns, read_count, read_factor, read_few, read_kept, read_neighbours, read_rank_count,
+    read_ref, read_squared, read_u64,
 };
 use crate::ref_lists::{Refs, is_right_count};
 use crate::texts::{five_texts, one_text, six_texts, three_texts, two_texts};
@@ -72,6 +73,16 @@ pub(crate) fn ref_and_count(fields: Fields<'_>) -> Result<(Ref, u64), LineFault>
 {
     let (at, count) = two_texts(fields).ok_or(LineFault::Fields)?;
     read_ref(at).zip(read_count(count)).ok_or(LineFault::Number)
+}
+
+/// `R K`: a ref, and how many nearest windows are asked for.
+pub(crate) fn ref_and_rank_count(fields: Fields<'_>) -> Result<(Ref, u64), LineFault>
+    ensures { IsReadBy nearest_shape (fields_in fields.entry.text.now) result }
+{
+    let (at, k) = two_texts(fields).ok_or(LineFault::Fields)?;
+    read_ref(at)
+        .zip(read_rank_count(k))
+        .ok_or(LineFault::Number)
 }
 
 /// `S K`: a slot, and a number.

@@ -7,7 +7,6 @@ use Rattle.mp_replies.specs.Answer.{Accepted, Ended, Refused}
 use Rattle.mp_replies.specs.Command.{Report}
 use Rattle.mp_replies.specs.Change.{Change}
 use Rattle.mp_replies.specs.Command.{Command, Load, End}
-use Rattle.mp_replies.specs.Commands.{made}
 use Rattle.mp_replies.specs.Conditions.{Condition, first_cause}
 use Rattle.mp_replies.specs.EndLaws.{ends_of_each_version}
 use Rattle.mp_replies.specs.LoadCommand.{load_conditions, file_conditions, file_in}

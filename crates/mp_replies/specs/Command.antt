@@ -30,6 +30,8 @@ pub data Command : Type 0 where
   Join : (a b : Ref) → Command
   -- report the distances of a slot's channels, so many of them together
   Multi : (slot k : ℕ) → Command
+  -- report so many nearest windows of each window
+  Nearest : (at : Ref) (k : ℕ) → Command
   -- report the windows of a channel that match a window of another
   Match : (at query : Ref) (start radius max : ℕ) → Command
   -- report repeated patterns
@@ -68,6 +70,8 @@ pub data Report : Type 0 where
   MpdistReport : (dist : Option Sq) → Report
   -- the entry of each window by several channels together
   MultiReport : (slots : List (Option Near)) → Report
+  -- for each window its nearest ones, in their order
+  NearestReport : (lists : List (List Near)) → Report
   MatchReport : (list : List Near) → Report
   MotifsReport : (list : List Repeated) → Report
   DiscordsReport : (list : List Discord) → Report

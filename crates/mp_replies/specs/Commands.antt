@@ -4,10 +4,11 @@ use Rattle.mp_replies.specs.declared.causes.Cause.{Cause}
 use Rattle.mp_replies.specs.declared.causes.Cause.TheVariants.{Unknown}
 use Rattle.mp_replies.specs.Change.{Change, Keep}
 use Rattle.mp_replies.specs.Command.{Command, Session, OpenAnew, KeepLast, Load, Append, Window, Profile, Entry, Join}
-use Rattle.mp_replies.specs.Command.{Multi, Match, Motifs, Discords, Chain, Chains, Segments, Mpdist, Consensus, End}
+use Rattle.mp_replies.specs.Command.{Multi, Nearest, Match, Motifs, Discords, Chain, Chains, Segments, Mpdist}
+use Rattle.mp_replies.specs.Command.{Consensus, End}
 use Rattle.mp_replies.specs.Command.{Report, SessionReport, OpenReport, KeepReport, LoadReport, AppendReport}
 use Rattle.mp_replies.specs.Command.{WindowReport, ProfileReport, LiveProfileReport, EntryReport, JoinReport}
-use Rattle.mp_replies.specs.Command.{MpdistReport, MultiReport, MatchReport}
+use Rattle.mp_replies.specs.Command.{MpdistReport, MultiReport, NearestReport, MatchReport}
 use Rattle.mp_replies.specs.Command.{MotifsReport, DiscordsReport, ChainReport, ChainsReport, SegmentsReport}
 use Rattle.mp_replies.specs.Command.{ConsensusReport, EndReport}
 use Rattle.mp_replies.specs.Conditions.{Condition}
@@ -25,6 +26,7 @@ use Rattle.mp_replies.specs.ProfileCommand.{profile_conditions, profile_report, 
 use Rattle.mp_replies.specs.EntryCommand.{entry_conditions, entry_report, entry_text}
 use Rattle.mp_replies.specs.JoinCommand.{join_conditions, join_report, join_text}
 use Rattle.mp_replies.specs.MultiCommand.{multi_conditions, multi_report, multi_text}
+use Rattle.mp_replies.specs.NearestCommand.{nearest_shape, nearest_conditions, nearest_report, nearest_text}
 use Rattle.mp_replies.specs.MatchCommand.{match_shape, match_by, match_conditions, match_report, match_text}
 use Rattle.mp_replies.specs.MotifsCommand.{motifs_shape, motifs_by, motifs_conditions, motifs_report, motifs_text}
 use Rattle.mp_replies.specs.DiscordsCommand.{discords_conditions, discords_report, discords_text}
@@ -79,6 +81,7 @@ forms version =
     ∷ row (codes "entry") ref_and_start (λ (at, start). Entry at start)
     ∷ row (codes "join") two_refs (λ (a, b). Join a b)
     ∷ row (codes "multi") slot_and_number (λ (slot, k). Multi slot k)
+    ∷ row (codes "nearest") nearest_shape (λ (at, k). Nearest at k)
     ∷ row (codes "match") match_shape match_by
     ∷ row (codes "motifs") motifs_shape motifs_by
     ∷ row (codes "discords") ref_and_count (λ (at, most). Discords at most)
@@ -149,6 +152,8 @@ meaning (Entry at start) =
     reporting (λ state. entry_conditions state.window state.stores at start) (λ state. entry_report state at start)
 meaning (Join a b) = reporting (λ state. join_conditions state.stores a b) (λ state. join_report state a b)
 meaning (Multi slot k) = reporting (λ state. multi_conditions state.stores slot k) (λ state. multi_report state slot k)
+meaning (Nearest at k) =
+    reporting (λ state. nearest_conditions state.stores at) (λ state. nearest_report state at k)
 meaning (Match at query start radius max) =
     reporting (λ state. match_conditions state.window state.stores at query start)
     (λ state. match_report state at query start radius max)
@@ -181,6 +186,7 @@ report_text line (EntryReport start all left right) = entry_text line start all 
 report_text line (JoinReport slots) = join_text line slots
 report_text line (MpdistReport dist) = mpdist_text line dist
 report_text line (MultiReport slots) = multi_text line slots
+report_text line (NearestReport lists) = nearest_text line lists
 report_text line (MatchReport list) = match_text line list
 report_text line (MotifsReport list) = motifs_text line list
 report_text line (DiscordsReport list) = discords_text line list

@@ -8,7 +8,8 @@ use Rattle.mp_bytes.specs.Lines.{lines, ended_lines}
 use Rattle.mp_replies.specs.AppendCommand.{item_of}
 use Rattle.mp_replies.specs.declared.refs.Ref.{Ref}
 use Rattle.mp_replies.specs.Command.{Session, OpenAnew, KeepLast, Load, Append, Profile, End}
-use Rattle.mp_replies.specs.Command.{Join, Multi, Match, Motifs, Discords, Chain, Chains, Segments, Mpdist, Consensus}
+use Rattle.mp_replies.specs.Command.{Join, Multi, Nearest, Match, Motifs, Discords, Chain, Chains, Segments, Mpdist}
+use Rattle.mp_replies.specs.Command.{Consensus}
 use Rattle.mp_replies.specs.Conditions.{first_cause}
 use Rattle.mp_replies.specs.Line.{Asked, Nothing, Asks, Faulty, asked_of}
 use Rattle.mp_replies.specs.LoadCommand.{file_conditions, file_in, table_in}
@@ -123,6 +124,9 @@ pub record AskedLines : Type 0 where
   pub mpdist : asked (codes "mpdist 0 0") ≡ Asks (Mpdist (channel 0 0) (channel 0 0))
   pub multi : asked (codes "multi 1 2") ≡ Asks (Multi 1 2)
   pub multi_ref : asked (codes "multi 0.0 1") ≡ Faulty cause.Number
+  pub nearest : asked (codes "nearest 0.1 4") ≡ Asks (Nearest (channel 0 1) 4)
+  pub no_ranks : asked (codes "nearest 0 0") ≡ Faulty cause.Number
+  pub many_ranks : asked (codes "nearest 0 5") ≡ Faulty cause.Number
   pub match : asked (codes "match 0 1 2 6 10") ≡ Asks (Match (channel 0 0) (channel 1 0) 2 6 10)
   pub no_matches : asked (codes "match 0 1 2 6 0") ≡ Faulty cause.Number
   pub great_radius : asked (codes "match 0 1 2 340282366920938463463374607431768211455 1")
@@ -319,6 +323,14 @@ MultiOutput =
     (codes "open 1 2\nappend 1 1,1 2,? 3,3 1,1 2,2 3,3 1,1\nmulti 1 1\nmulti 1 2\nmulti 1 3\n")
     ≡ codes "ok 1 0\nok 2 7\nmulti 3 5\n0 0 3\n1 0 4\n2 6 0\n3 0 0\n4 0 1\n"
     ++ codes "multi 4 5\n0 - -\n1 - -\n2 12 4\n3 - -\n4 12 2\nrefused 5 channel\n"
+
+-- the two nearest windows of each: all different, and all equally near
+abbrev pub NearestOutput : Type 0
+NearestOutput =
+    (files : Files) → output words files
+    (codes "append 0 1 2 3 1 2 3\nnearest 0 2\nnearest 0 5\nopen 0 1\nappend 0 5 5 5 5 5 5\nnearest 0 2\n")
+    ≡ codes "ok 1 6\nnearest 2 4\n0 2 0 3 6 2\n1 1 6 3\n2 1 6 0\n3 2 0 0 6 1\nrefused 3 number\n"
+    ++ codes "ok 4 0\nok 5 6\nnearest 6 4\n0 2 0 2 0 3\n1 1 0 3\n2 1 0 0\n3 2 0 0 0 1\n"
 
 -- what three channels have in common, and nothing where one of them is empty
 abbrev pub ConsensusOutput : Type 0

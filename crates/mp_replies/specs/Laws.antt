@@ -13,10 +13,10 @@ use Rattle.mp_replies.specs.Words.{Job}
 use Rattle.mp_replies.specs.State.{Files, State, channels_at, first_version, second_version}
 use Rattle.mp_replies.specs.Answer.{Silent, Refused, Ended}
 use Rattle.mp_replies.specs.Command.{Report}
-use Rattle.mp_replies.specs.Command.{Command, Session, KeepLast, Load, Append, Match, Motifs, Discords, Segments}
-use Rattle.mp_replies.specs.Command.{Consensus}
-use Rattle.mp_replies.specs.Limits.{max_channels, max_column, max_count, max_factor, max_motifs, max_refs, max_square}
-use Rattle.mp_replies.specs.Limits.{min_refs}
+use Rattle.mp_replies.specs.Command.{Command, Session, KeepLast, Load, Append, Nearest, Match, Motifs, Discords}
+use Rattle.mp_replies.specs.Command.{Segments, Consensus}
+use Rattle.mp_replies.specs.Limits.{max_channels, max_column, max_count, max_factor, max_motifs, max_ranks, max_refs}
+use Rattle.mp_replies.specs.Limits.{max_square, min_refs}
 use Rattle.mp_replies.specs.Conditions.{Condition}
 use Rattle.mp_replies.specs.AppendCommand.{item_of, read_items}
 use Rattle.mp_replies.specs.Line.{Asks, asked_of, ends, is_end}
@@ -184,6 +184,7 @@ abbrev pub IsWithin : Command → Type 0
 IsWithin (Session version) = (first_version ≤ version) × (version ≤ second_version)
 IsWithin (KeepLast slot keep) = (min_window ≤ keep) × (keep ≤ max_samples)
 IsWithin (Load slot file cols header) = AreColumns cols
+IsWithin (Nearest at k) = IsCount max_ranks k
 IsWithin (Match at query start radius max) = (radius ≤ max_square) × IsCount max_count max
 IsWithin (Motifs at query) = IsMotifQuery query
 IsWithin (Discords at count) = IsCount max_count count

@@ -20,6 +20,7 @@ pub mod ProfileCommand
 pub mod EntryCommand
 pub mod JoinCommand
 pub mod MultiCommand
+pub mod NearestCommand
 pub mod MatchCommand
 pub mod MotifsCommand
 pub mod DiscordsCommand

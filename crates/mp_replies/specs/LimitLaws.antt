@@ -18,8 +18,8 @@ use Rattle.mp_replies.specs.declared.causes.Cause.TheVariants as cause
 use Rattle.mp_replies.specs.declared.refs.Ref.{Ref}
 use Rattle.mp_replies.specs.Command.{Command, Session, End}
 use Rattle.mp_replies.specs.ConsensusCommand.{consensus_fits, consensus_shape}
-use Rattle.mp_replies.specs.Limits.{max_channels, max_column, max_count, max_digits, max_factor, max_motifs, max_refs}
-use Rattle.mp_replies.specs.Limits.{max_square, min_refs}
+use Rattle.mp_replies.specs.Limits.{max_channels, max_column, max_count, max_digits, max_factor, max_motifs, max_ranks}
+use Rattle.mp_replies.specs.Limits.{max_refs, max_square, min_refs}
 use Rattle.mp_replies.specs.LoadCommand.{header_of, load_shape}
 use Rattle.mp_replies.specs.Line.{Nothing, Asks, Faulty, asked_in, asked_of, asks, command_in}
 use Rattle.mp_replies.specs.Commands.{Form, forms, made, row, since}
@@ -27,9 +27,10 @@ use Rattle.mp_replies.specs.KeepCommand.{keep_by, keep_shape}
 use Rattle.mp_replies.specs.MatchCommand.{match_shape}
 use Rattle.mp_replies.specs.MotifsCommand.{motif_query, motifs_shape}
 use Rattle.mp_replies.specs.Numbers.{all_some, column, columns, count, factor, few, kept, neighbours, number}
-use Rattle.mp_replies.specs.Numbers.{onto_some}
+use Rattle.mp_replies.specs.Numbers.{onto_some, rank_count}
 use Rattle.mp_replies.specs.Numbers.{positive, ref, refs}
 use Rattle.mp_replies.specs.Numbers.{squared}
+use Rattle.mp_replies.specs.NearestCommand.{nearest_shape}
 use Rattle.mp_replies.specs.SegmentsCommand.{segments_shape}
 use Rattle.mp_replies.specs.SessionCommand.{is_version, session_of, session_with}
 use Rattle.mp_replies.specs.State.{first_version, second_version}
@@ -75,6 +76,11 @@ fews : Gives few (IsCount max_motifs)
 fews text n h =
     let found = positive_some (number_of max_digits max_motifs text) n h in
     (found.0, at_most max_digits max_motifs text n found.1)
+
+rank_counts : Gives rank_count (IsCount max_ranks)
+rank_counts text n h =
+    let found = positive_some (number_of max_digits max_ranks text) n h in
+    (found.0, at_most max_digits max_ranks text n found.1)
 
 kept_by : (n m : ℕ) (b : Bool) → nat_le min_window n ≡ b → (if b then Some n else None) ≡ Some m
     → (min_window ≤ m) × (n ≡ m)
@@ -131,6 +137,10 @@ keep_gives : Gives keep_shape.read (λ found. (min_window ≤ found.1) × (found
 keep_gives =
     behind number (last kept) (λ n. (min_window ≤ n) × (n ≤ max_samples))
     (last_gives kept (λ n. (min_window ≤ n) × (n ≤ max_samples)) keeps)
+
+nearest_gives : Gives nearest_shape.read (λ found. IsCount max_ranks found.1)
+nearest_gives =
+    behind ref (last rank_count) (IsCount max_ranks) (last_gives rank_count (IsCount max_ranks) rank_counts)
 
 match_gives : Gives match_shape.read (λ found. (found.1.1.1.0 ≤ max_square) × IsCount max_count found.1.1.1.1)
 match_gives =
@@ -346,6 +356,7 @@ forms_within version =
     and free (codes "entry") _ _ (λ _. tt)
     and free (codes "join") _ _ (λ _. tt)
     and free (codes "multi") _ _ (λ _. tt)
+    and row_within (codes "nearest") nearest_shape _ (λ fields found fits is. nearest_gives fields found is)
     and row_within (codes "match") match_shape _ (λ fields found fits is. match_gives fields found is)
     and row_within (codes "motifs") motifs_shape _ (λ fields found fits is. motifs_gives fields found is)
     and row_within (codes "discords") ref_and_count _ (λ fields found fits is. discords_gives fields found is)

@@ -57,6 +57,10 @@ max_count = 262144
 abbrev pub max_motifs : ℕ
 max_motifs = 1024
 
+-- the most nearest windows of a window
+abbrev pub max_ranks : ℕ
+max_ranks = 4
+
 -- the most window lengths of a regime's zone
 abbrev pub max_factor : ℕ
 max_factor = 100

@@ -6,7 +6,7 @@ use Rattle.mp_bytes.specs.Digits.{number_of}
 use Rattle.mp_bytes.specs.Values.{values_in}
 use Rattle.mp_defs.specs.Limits.{max_samples, min_window}
 use Rattle.mp_replies.specs.Limits.{max_digits, max_number, max_column, max_channels, max_square, max_count, max_motifs}
-use Rattle.mp_replies.specs.Limits.{max_factor}
+use Rattle.mp_replies.specs.Limits.{max_factor, max_ranks}
 use Rattle.mp_replies.specs.declared.refs.Ref.{Ref}
 
 abbrev pub number : List ℕ → Option ℕ
@@ -27,6 +27,10 @@ count field = positive (number_of max_digits max_count field)
 -- how many motifs, or matches of one
 abbrev pub few : List ℕ → Option ℕ
 few field = positive (number_of max_digits max_motifs field)
+
+-- how many nearest windows
+abbrev pub rank_count : List ℕ → Option ℕ
+rank_count field = positive (number_of max_digits max_ranks field)
 
 abbrev pub neighbours : List ℕ → Option ℕ
 neighbours field = number_of max_digits max_count field

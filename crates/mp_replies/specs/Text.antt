@@ -34,10 +34,14 @@ count_text (Some samples) = codes " " ++ decimal samples
 abbrev pub ok_text : ℕ → Option ℕ → List ℕ
 ok_text line samples = codes "ok " ++ decimal line ++ count_text samples ++ codes "\n"
 
--- the distance and the start of a window, each a dash where there is none
+-- the distance and the start of a window
+abbrev pub pair_text : Near → List ℕ
+pair_text near = decimal near.dist.0 ++ codes " " ++ decimal near.index
+
+-- the same, each a dash where there is none
 abbrev pub slot_text : Option Near → List ℕ
 slot_text None = codes "- -"
-slot_text (Some near) = decimal near.dist.0 ++ codes " " ++ decimal near.index
+slot_text (Some near) = pair_text near
 
 -- a window that was found, on a line of its own: its distance and its start
 abbrev pub near_text : Near → List ℕ

@@ -26,6 +26,7 @@ ghost use Rattle.mp_replies.specs.Examples.{
   ChainOutput,
   SegmentsOutput,
   MultiOutput,
+  NearestOutput,
   ConsensusOutput,
   MadeOutput,
 };
@@ -154,6 +155,11 @@ pub fn segments_output()
 /// Two channels together, where one of them has a missing sample.
 pub fn multi_output()
     ensures { MultiOutput }
+{}
+
+/// The two nearest windows of each, where all pairs differ and where all are equally near.
+pub fn nearest_output()
+    ensures { NearestOutput }
 {}
 
 /// What three channels have in common.

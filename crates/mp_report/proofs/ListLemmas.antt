@@ -4,7 +4,7 @@ use Rattle.std.proofs.Common.{arith, append-nil, append_assoc}
 use Rattle.std.specs.Prelude.{flat_map}
 use Rattle.std.specs.List.{enumerate_from}
 use Rattle.std.proofs.lemmas.Grind.{flat_map-append}
-use Rattle.std.proofs.lemmas.List.{take_more, map-append, length-take, get_or_default}
+use Rattle.std.proofs.lemmas.List.{take_more, map-append, length-map, length-take, get_or_default, get_or-map}
 
 one_more : {X : Type 0} (xs : List X) (k : ℕ) (x : X) → k < length xs → x ≡ get_or xs k x
     → take (k + 1) xs ≡ take k xs ++ x ∷ []
@@ -59,3 +59,14 @@ numbered_lines_grow f xs k d initial before after within was is =
     ∙ (append_assoc initial done line
     ∙ ap (λ (t : List ℕ). initial ++ t)
     (sym (numbered_lines_more f xs k (get_or xs k d) within (same_default xs k d within)))))
+
+-- the same, where the lines are those of what is seen of the items
+pub seen_lines_grow : {X Y : Type 0} (f : ℕ × Y → List ℕ) (g : X → Y) (xs : List X) (k : ℕ) (d : X) (y : Y)
+    (initial before after : List ℕ) → k < length xs → y ≡ g (get_or xs k d)
+    → before ≡ initial ++ flat_map f (enumerate_from 0 (take k (map g xs)))
+    → after ≡ before ++ f (k, y)
+    → after ≡ initial ++ flat_map f (enumerate_from 0 (take (k + 1) (map g xs)))
+seen_lines_grow {X} {Y} f g xs k d y initial before after within seen was is =
+    let count : k < length (map g xs) = omega (arith, within, length-map xs g) in
+    numbered_lines_grow f (map g xs) k (g d) initial before after count was
+    (is ∙ ap (λ (z : Y). before ++ f (k, z)) (seen ∙ sym (get_or-map g xs k d (g d) within)))

@@ -1,7 +1,7 @@
 //! Numbers and slots in texts.
 
 ghost use Rattle.std.specs.Prelude.{◌≡◌, ◌++◌, codes, decimal, OnOk};
-ghost use Rattle.mp_replies.specs.Text.{index_text, near_text, row_text, slot_text};
+ghost use Rattle.mp_replies.specs.Text.{index_text, near_text, pair_text, row_text, slot_text};
 
 use itoa::Buffer;
 use mp_nums::{Memory, Near, Slot};
@@ -53,16 +53,22 @@ pub(crate) fn push_row(
 }
 
 /// A distance and a start.
+pub(crate) fn push_pair(text: &mut Vec<u8>, near: Near) -> Result<(), Memory>
+    ensures { OnOk result (text.new.items ≡ text.old.items ++ pair_text near) }
+{
+    push_distance(text, near.dist.0)?;
+    text.extend_from_slice(b" ")?;
+    push_number(text, near.index)?;
+    Ok(())
+}
+
+/// The same, each a dash where there is none.
 pub(crate) fn push_slot(text: &mut Vec<u8>, slot: Slot) -> Result<(), Memory>
     ensures { OnOk result (text.new.items ≡ text.old.items ++ slot_text slot) }
 {
     match slot {
         None => text.extend_from_slice(b"- -")?,
-        Some(near) => {
-            push_distance(text, near.dist.0)?;
-            text.extend_from_slice(b" ")?;
-            push_number(text, near.index)?;
-        }
+        Some(near) => push_pair(text, near)?,
     }
     Ok(())
 }
@@ -71,7 +77,7 @@ pub(crate) fn push_slot(text: &mut Vec<u8>, slot: Slot) -> Result<(), Memory>
 pub(crate) fn push_near(text: &mut Vec<u8>, near: Near) -> Result<(), Memory>
     ensures { OnOk result (text.new.items ≡ text.old.items ++ near_text near) }
 {
-    push_slot(text, Some(near))?;
+    push_pair(text, near)?;
     text.extend_from_slice(b"\n")?;
     Ok(())
 }

@@ -3,6 +3,7 @@ use Rattle.std.specs.Prelude.{◌≡◌, ℕ, ◌+◌, ◌<◌, ◌≤◌, List,
 use Rattle.std.specs.Prelude.{Option, Some, None, option_map, unwrap_or}
 use Rattle.std.specs.List.{range_with_len}
 use Rattle.mp_nums.specs.Listed.{Listed}
+use Rattle.mp_nums.specs.declared.nearest.Near.{Near}
 use Rattle.mp_defs.specs.Series.{Series, series_of}
 use Rattle.mp_defs.specs.Profile.{Columns, ab_join}
 use Rattle.mp_results.specs.Consensus.{central}
@@ -34,12 +35,13 @@ use Rattle.mp_replies.specs.MotifsCommand.{motif_query}
 use Rattle.mp_replies.specs.Numbers.{refs}
 use Rattle.mp_lines.specs.declared.ref_lists.Refs as named
 use Rattle.mp_requests.specs.declared.requests.Comparison.TheVariants.{Join, Mpdist}
+use Rattle.mp_requests.specs.declared.requests.Neighbours as neighbours
 use Rattle.mp_requests.specs.declared.requests.Pattern as patterns
 use Rattle.mp_requests.specs.declared.requests.Repeats as repeats
 use Rattle.mp_requests.specs.declared.requests.ReportRequest.{ReportRequest}
 use Rattle.mp_requests.specs.declared.requests.ReportRequest.TheVariants.{Session, Window, Profile, Entry, Compare}
-use Rattle.mp_requests.specs.declared.requests.ReportRequest.TheVariants.{Multi, Match, Motifs, Discords, Chain, Chains}
-use Rattle.mp_requests.specs.declared.requests.ReportRequest.TheVariants.{Segments, Consensus, End}
+use Rattle.mp_requests.specs.declared.requests.ReportRequest.TheVariants.{Multi, Nearest, Match, Motifs, Discords}
+use Rattle.mp_requests.specs.declared.requests.ReportRequest.TheVariants.{Chain, Chains, Segments, Consensus, End}
 
 -- ---- requests
 
@@ -58,6 +60,9 @@ AsksForReport (Asks (commands.KeepLast slot keep)) = ⊥
 AsksForReport (Asks (commands.Load slot file cols header)) = ⊥
 AsksForReport (Asks (commands.Append slot items)) = ⊥
 AsksForReport (Asks other) = Unit {0}
+
+abbrev pub asks_nearest : neighbours.Neighbours → Asked
+asks_nearest sought = Asks (commands.Nearest sought.at sought.k)
 
 abbrev pub asks_match : patterns.Pattern → Asked
 asks_match pattern = Asks (commands.Match pattern.at pattern.query pattern.start pattern.radius pattern.max)
@@ -81,6 +86,7 @@ reported_in (Profile at) = Asks (commands.Profile at)
 reported_in (Entry at start) = Asks (commands.Entry at start)
 reported_in (Compare pair) = Asks (compared_by pair.by pair.a pair.b)
 reported_in (Multi slot k) = Asks (commands.Multi slot k)
+reported_in (Nearest sought) = asks_nearest sought
 reported_in (Match pattern) = asks_match pattern
 reported_in (Motifs sought) = asks_motifs sought
 reported_in (Discords sought) = Asks (commands.Discords sought.at sought.count)
@@ -102,6 +108,7 @@ abbrev pub lends : Stored → Asked → List Ref
 lends held (Asks (commands.Window at start)) = at ∷ []
 lends held (Asks (commands.Join a b)) = a ∷ b ∷ []
 lends held (Asks (commands.Mpdist a b)) = a ∷ b ∷ []
+lends held (Asks (commands.Nearest at k)) = at ∷ []
 lends held (Asks (commands.Match at query start radius max)) = at ∷ query ∷ []
 lends held (Asks (commands.Motifs at query)) = at ∷ []
 lends held (Asks (commands.Multi slot k)) = refs_of held slot
@@ -117,6 +124,7 @@ is_unread (Asks (commands.Append slot items)) = false
 is_unread (Asks (commands.Window at start)) = false
 is_unread (Asks (commands.Join a b)) = false
 is_unread (Asks (commands.Multi slot k)) = false
+is_unread (Asks (commands.Nearest at k)) = false
 is_unread (Asks (commands.Match at query start radius max)) = false
 is_unread (Asks (commands.Motifs at query)) = false
 is_unread (Asks (commands.Mpdist a b)) = false
@@ -139,6 +147,8 @@ report_in state (report.Entry at start) = entry_report state at start
 report_in state (report.Join slots) = commands.JoinReport slots.items
 report_in state (report.Mpdist dist) = commands.MpdistReport dist
 report_in state (report.Multi slots) = commands.MultiReport slots.items
+report_in state (report.Nearest lists) =
+    commands.NearestReport (map (λ (list : Listed Near). list.items) lists.items)
 report_in state (report.Match list) = commands.MatchReport list.items
 report_in state (report.Motifs list) = commands.MotifsReport (map repeated_of list.items)
 report_in state (report.Discords list) = commands.DiscordsReport list.items

@@ -12,6 +12,7 @@ use mp_report::chains::{chain_text, chains_text};
 use mp_report::channels::{consensus_text, mpdist_text};
 use mp_report::matches::{discords_text, match_text, motifs_text};
 use mp_report::profiles::window_text;
+use mp_report::ranks::nearest_text;
 use mp_report::segments::segments_text;
 use mp_report::slots::{SlotsName, slots_text};
 use mp_stores::Stores;
@@ -38,6 +39,8 @@ pub enum Report {
     Mpdist(Option<Sq>),
     /// For each window its nearest one by several channels together.
     Multi(Slots),
+    /// For each window its nearest ones, in their order.
+    Nearest(Vec<NearList>),
     Match(NearList),
     Motifs(Vec<Motif>),
     Discords(Vec<Discord>),
@@ -92,6 +95,7 @@ impl Report {
             Report::Join(slots) => slots_text(alloc, line, SlotsName::Join, slots.as_slice()),
             Report::Mpdist(dist) => mpdist_text(alloc, line, *dist),
             Report::Multi(slots) => slots_text(alloc, line, SlotsName::Multi, slots.as_slice()),
+            Report::Nearest(lists) => nearest_text(alloc, line, lists.as_slice()),
             Report::Match(list) => match_text(alloc, line, list.as_slice()),
             Report::Motifs(list) => motifs_text(alloc, line, list.as_slice()),
             Report::Discords(list) => discords_text(alloc, line, list.as_slice()),

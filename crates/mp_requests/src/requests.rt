@@ -1,7 +1,7 @@
 //! What a line asks to be told, and the answers.
 
 ghost use Rattle.std.specs.Prelude.{◌≡◌, ◌≤◌};
-ghost use Rattle.mp_replies.specs.Limits.{max_factor};
+ghost use Rattle.mp_replies.specs.Limits.{max_factor, max_ranks};
 
 mod chain_command;
 mod compare_command;
@@ -10,6 +10,7 @@ mod discords_command;
 mod match_command;
 mod motifs_command;
 mod multi_command;
+mod nearest_command;
 mod profile_command;
 mod segments_command;
 mod session_command;
@@ -22,6 +23,7 @@ use self::discords_command::report_discords;
 use self::match_command::report_match;
 use self::motifs_command::report_motifs;
 use self::multi_command::report_multi;
+use self::nearest_command::report_nearest;
 use self::profile_command::{report_entry, report_profile};
 use self::segments_command::report_segments;
 use self::session_command::report_session;
@@ -45,6 +47,7 @@ pub enum ReportRequest<'a> {
     Entry { at: Ref, start: u64 },
     Compare(Pair),
     Multi { slot: u64, k: u64 },
+    Nearest(Neighbours),
     Match(Pattern),
     Motifs(Repeats),
     Discords(Unusual),
@@ -67,6 +70,15 @@ pub struct Pair {
 pub enum Comparison {
     Join,
     Mpdist,
+}
+
+/// So many nearest windows of each window of a channel.
+#[derive(Clone, Copy, Debug)]
+pub struct Neighbours {
+    pub at: Ref,
+    pub k: u64,
+    ghost some: { 1 ≤ k },
+    ghost few: { k ≤ max_ranks },
 }
 
 /// The window whose matches are sought in a channel, how many windows match it at the most, and how far they may be.
@@ -136,6 +148,7 @@ impl<'a> ReportRequest<'a> {
                 ReportRequest::Compare(Pair { a, b, by })
             }
             Command::Multi { slot, k } => ReportRequest::Multi { slot, k },
+            Command::Nearest { at, k } => ReportRequest::Nearest(Neighbours { at, k }),
             Command::Match {
                 at,
                 query,
@@ -202,6 +215,7 @@ impl<'a> ReportRequest<'a> {
             ReportRequest::Entry { at, start } => Ok(report_entry(stores, context, at, start)),
             ReportRequest::Compare(pair) => report_comparison(rt, stores, context, pair, gate),
             ReportRequest::Multi { slot, k } => report_multi(rt, stores, context, slot, k, gate),
+            ReportRequest::Nearest(sought) => report_nearest(rt, stores, context, sought, gate),
             ReportRequest::Match(pattern) => report_match(rt, stores, context, pattern),
             ReportRequest::Motifs(repeats) => report_motifs(rt, stores, context, repeats),
             ReportRequest::Discords(unusual) => report_discords(stores, context, unusual),
