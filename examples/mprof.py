@@ -20,11 +20,13 @@ class Ended(Exception):
 
 
 class Mprof:
-    """A session. `words` are those behind the program's name, such as `"--window", "12"`."""
+    """A session. `words` are those behind the program's name, such as `"--window", "12"`. `version` is that of its lines."""
 
-    def __init__(self, program, *words, folder=None):
+    def __init__(self, program, *words, folder=None, version=None):
         self.process = subprocess.Popen(
             [program, *words], cwd=folder, stdin=subprocess.PIPE, stdout=subprocess.PIPE)
+        if version is not None:
+            self.ask("session %d" % version)
 
     def __enter__(self):
         return self
@@ -58,6 +60,15 @@ class Mprof:
         elif first[0] not in ("ok", "window", "entry", "mpdist"):
             report.extend(self._lines(int(first[2])))
         return report
+
+    def keep(self, slot, count):
+        """Empties a slot, and has it keep the last so many samples. It is of version 2."""
+        self.ask("keep %d %d" % (slot, count))
+
+    def append(self, slot, samples):
+        """Appends samples, `None` for a missing one, and gives how many there were ever."""
+        items = " ".join("?" if sample is None else str(sample) for sample in samples)
+        return int(self.ask("append %d %s" % (slot, items))[0][2])
 
     def close(self):
         """Ends the input, and gives the exit status."""

@@ -1,14 +1,18 @@
 //! Appends the numbers of its input to a series one by one, and prints a number that tells the profile that was kept.
-//! With the word `timed` it also prints the time that the appends took.
+//! With the word `timed` it also prints the time that the appends took. With the number of samples that are kept and one of
+//! rounds it appends them in each round to a store of the last samples, and prints a number that tells the profile of its
+//! live windows, and the time that the last round took.
 #![tactic(auto)]
 
 ghost use Rattle.std.specs.Prelude.{◌≤◌};
 ghost use Rattle.mp_series.specs.declared.limits.TheConstants.{MAX_WINDOW, MIN_WINDOW};
 
+mod kept;
 mod sums;
 mod words;
 
 use anyhow::{Context, Result};
+use kept::run_kept;
 use mp_nums::{Sample, Whole};
 use mp_outside::OpenGate;
 use mp_series::Samples;
@@ -27,6 +31,9 @@ fn main(rt: HostRuntime) -> Result<()> {
 fn run<R: AllocGlobal + Clock + Env + Input + Print + Threads + Sync>(rt: &R) -> Result<()> {
     let words = read_words(rt)?;
     let samples = read_samples(rt)?;
+    if let Some(last) = words.last {
+        return run_kept(rt, words.window, last, samples.as_slice());
+    }
     let empty = Samples::new(rt.alloc());
     let mut stream = Stream::from(rt, rt.alloc(), empty, words.window, 256, 1, &OpenGate)?;
     let time = timed_appends(rt, &mut stream, samples.as_slice())?;

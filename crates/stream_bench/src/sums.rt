@@ -13,9 +13,13 @@ pub fn sum_of_columns(all: &[Slot], left: &[Slot], right: &[Slot]) -> u128 {
 fn sum_of_column(slots: &[Slot]) -> u128 {
     let mut sum: u128 = 0;
     for slot in slots {
-        sum = sum.wrapping_mul(31).wrapping_add(sum_of_slot(slot));
+        sum = sum_with_slot(sum, slot);
     }
     sum
+}
+
+pub fn sum_with_slot(sum: u128, slot: &Slot) -> u128 {
+    sum.wrapping_mul(31).wrapping_add(sum_of_slot(slot))
 }
 
 fn sum_of_slot(slot: &Slot) -> u128 {

@@ -1,7 +1,8 @@
-//! Samples that look like chance.
+//! Samples that look like chance, and what is expected of slots.
 
-use mp_nums::{Memory, Sample, Whole};
+use mp_nums::{Memory, Sample, Slot, Whole};
 use std::alloc::{AllocError, Global};
+use std::process::Abort;
 
 /// The sample of a number of 48 bits. One of more is missing.
 pub(crate) fn sample(number: i64) -> Sample {
@@ -36,4 +37,36 @@ pub(crate) fn drawn(
         })?;
     }
     Ok(samples)
+}
+
+/// Numbers of which some are equal.
+pub(crate) const TIED: [Option<i64>; 8] = [
+    None,
+    Some(-1),
+    Some(-1),
+    Some(2),
+    Some(2),
+    Some(0),
+    Some(0),
+    Some(0),
+];
+
+/// Numbers of the whole range of 48 bits.
+pub(crate) const WIDEST: [Option<i64>; 8] = [
+    None,
+    Some(-140_737_488_355_328),
+    Some(140_737_488_355_327),
+    Some(98_765_432_109_876),
+    Some(-1),
+    Some(0),
+    Some(0),
+    Some(2),
+];
+
+/// Expects slots with these distances and starts.
+pub(crate) fn expect_slots(rt: &impl Abort, slots: &[Slot], expected: &[Option<(u128, u64)>]) {
+    assert_eq!(rt; slots.len(), expected.len());
+    for (slot, pair) in slots.iter().zip(expected) {
+        assert_eq!(rt; slot.map(|near| (near.dist.0, near.index)), *pair);
+    }
 }

@@ -1,8 +1,8 @@
 ghost use Rattle.std.specs.Prelude.{◌≤◌};
 ghost use Rattle.mp_series.specs.declared.limits.TheConstants.{MIN_WINDOW, MAX_WINDOW};
 
-use crate::series::{drawn, sample, samples_of};
-use mp_nums::{Sample, Slot};
+use crate::series::{TIED, WIDEST, drawn, expect_slots, sample, samples_of};
+use mp_nums::Sample;
 use mp_outside::{MeetGate, OpenGate};
 use mp_plain::profile;
 use mp_series::Samples;
@@ -11,14 +11,6 @@ use std::alloc::Global;
 use std::process::Abort;
 use std::test::Fail;
 use std::thread::Threads;
-
-/// Expects slots with these distances and starts.
-fn expect_slots(rt: &impl Abort, slots: &[Slot], expected: &[Option<(u128, u64)>]) {
-    assert_eq!(rt; slots.len(), expected.len());
-    for (slot, pair) in slots.iter().zip(expected) {
-        assert_eq!(rt; slot.map(|near| (near.dist.0, near.index)), *pair);
-    }
-}
 
 /// A stream of the samples.
 fn stream_of<R: Threads + Sync>(
@@ -121,35 +113,12 @@ fn expect_growth<R: Abort + AllocGlobal + Threads + Sync>(
     append_each(rt, rt.alloc(), &mut stream, samples)
 }
 
-const TIED: [Option<i64>; 8] = [
-    None,
-    Some(-1),
-    Some(-1),
-    Some(2),
-    Some(2),
-    Some(0),
-    Some(0),
-    Some(0),
-];
-
 /// Numbers of the whole range of 32 bits.
 const WIDE: [Option<i64>; 8] = [
     None,
     Some(-2_147_483_648),
     Some(2_147_483_647),
     Some(1_234_567_890),
-    Some(-1),
-    Some(0),
-    Some(0),
-    Some(2),
-];
-
-/// Numbers of the whole range of 48 bits.
-const WIDEST: [Option<i64>; 8] = [
-    None,
-    Some(-140_737_488_355_328),
-    Some(140_737_488_355_327),
-    Some(98_765_432_109_876),
     Some(-1),
     Some(0),
     Some(0),
