@@ -2,3 +2,4 @@ pub mod Listing
 pub mod Places
 pub mod Taken
 pub mod Through
+pub mod NearLemmas

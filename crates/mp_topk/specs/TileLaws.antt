@@ -28,7 +28,7 @@ use Rattle.mp_cuts.specs.Laws.{HoldEachOnce}
 use Rattle.mp_cuts.specs.CutLaws.{cuts_hold_each_pair_once}
 use Rattle.mp_tiles.specs.Among.{either_way}
 use Rattle.mp_tiles.specs.OfferingLaws.{or_pairs}
-use Rattle.mp_results.specs.Ranks.{in_order}
+use Rattle.mp_results.specs.Ranks.{in_order, ranks_of}
 use Rattle.mp_topk.specs.Ranking.{AreRanks, HasRanks, merged_ranks, no_ranks, put_all, slots_of, those_in}
 use Rattle.mp_topk.specs.RankLaws.{are_ranks, take_rises, those_in_slots}
 use Rattle.mp_topk.specs.Taking.{chosen, lists_among, ranks_among}
@@ -126,7 +126,7 @@ value_has_ranks k may m samples = record {
 -- ---- the pairs of some tiles
 
 -- some tile has the pair
-abbrev some_has : List Tile → ℕ → ℕ → Bool
+abbrev pub some_has : List Tile → ℕ → ℕ → Bool
 some_has tiles i j = nat_lt 0 (count_by (λ t. has_pair 0 t i j) tiles)
 
 one_more : (t : Bool) (n : ℕ) → nat_lt 0 ((if t then 1 else 0) + n) ≡ (t || nat_lt 0 n)
@@ -137,7 +137,7 @@ count_cons : (p : Tile → Bool) (x : Tile) (xs : List Tile)
     → count_by p (x ∷ xs) ≡ (if p x then 1 else 0) + count_by p xs
 count_cons p x xs = omega (arith, sum_by-append (λ y. if p y then 1 else 0) (x ∷ []) xs)
 
-some_more : (t : Tile) (ts : List Tile) (i j : ℕ) → (has_pair 0 t i j || some_has ts i j) ≡ some_has
+pub some_more : (t : Tile) (ts : List Tile) (i j : ℕ) → (has_pair 0 t i j || some_has ts i j) ≡ some_has
     (t ∷ ts) i j
 some_more t ts i j =
     sym (ap (nat_lt 0) (count_cons (λ u. has_pair 0 u i j) t ts)
@@ -170,7 +170,7 @@ tiles_by_number : (tiles : List Tile)
 tiles_by_number tiles =
     sym (fill_by_all (λ n. get_or tiles n no_tile) tiles (length tiles) no_tile refl (λ n lt. refl))
 
-among_tiles : (k m : ℕ) (a : Series) (tiles : List Tile)
+pub among_tiles : (k m : ℕ) (a : Series) (tiles : List Tile)
     → tiles_value k m a tiles ≡ among_value k (either_way (some_has tiles)) m a
 among_tiles k m a tiles =
     tiles_together (λ n. get_or tiles n no_tile) k m a (range_with_len 0 (length tiles))
@@ -187,7 +187,7 @@ one_side : (t u : Bool) (i j : ℕ) → t ≡ u → (i ≡ j → t ≡ false)
     → ((nat_lt i j && t) || (nat_lt j i && u)) ≡ t
 one_side t u i j e h = grind (arith, nat_tests)
 
-any_tiles : (may : ℕ → ℕ → Bool) → IsIrreflexive may → IsSymmetric may
+pub any_tiles : (may : ℕ → ℕ → Bool) → IsIrreflexive may → IsSymmetric may
     → (k m : ℕ) (a : Series) (tiles : List Tile)
     → HoldEachOnce may (windows_of m a) tiles → tiles_value k m a tiles ≡ among_value k may m a
 any_tiles may irreflexive symmetric k m a tiles once =
@@ -199,6 +199,15 @@ any_tiles may irreflexive symmetric k m a tiles once =
     ap (λ p. p || some_has tiles j i) (has i j lt') ∙ ap (λ p. (nat_lt i j && may i j) || p) (has j i lt)
     ∙ one_side (may i j) (may j i) i j (symmetric i j)
     (λ e. subst (λ (n : ℕ). may i n ≡ false) e (irreflexive i))))
+
+-- some pairs and others that together may be compared make the ranks
+pub among_and_others : (k : ℕ) (pairs others : ℕ → ℕ → Bool) (m : ℕ) (a : Series)
+    → ((i j : ℕ) → i < windows_of m a → j < windows_of m a → (either_way pairs i j || others i j) ≡ is_allowed m i j)
+    → merged_ranks k (among_value k (either_way pairs) m a) (among_value k others m a)
+    ≡ map slots_of (ranks_of k m a)
+among_and_others k pairs others m a may =
+    value_either k (either_way pairs) others m a
+    ∙ ap (map slots_of) (lists_same k (λ i j. either_way pairs i j || others i j) (is_allowed m) m a may)
 
 outside_zone : (e i j : ℕ) → (nat_lt i j && nat_lt (i + e) j) ≡ (nat_lt i j && nat_lt e (abs_diff i j))
 outside_zone e i j = grind (arith, nat_tests)

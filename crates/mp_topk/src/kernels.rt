@@ -6,6 +6,7 @@ ghost use Rattle.mp_defs.specs.Series.{series_of};
 ghost use Rattle.mp_results.specs.Ranks.{ranks_of};
 ghost use Rattle.mp_topk.specs.Ranking.{merged_ranks, slots_of};
 
+use crate::near::{Bands, NearRanks};
 use crate::ranks::Ranks;
 use crate::scans::take_tile;
 use mp_cuts::{Cut, MAX_TILE, MAX_TILES, cut_own};
@@ -21,8 +22,8 @@ use std::marker::Model;
 #[derive(Drop)]
 pub(crate) struct RankTiles<'a, const K: usize> {
     /// The windows, each a row and a column.
-    plan: Plan<'a>,
-    cut: Cut,
+    pub(crate) plan: Plan<'a>,
+    pub(crate) cut: Cut,
 }
 
 impl<'a, const K: usize> Model for RankTiles<'a, K> {
@@ -45,6 +46,8 @@ impl<'a, const K: usize> RankTiles<'a, K> {
         requires samples { length samples.now ≤ MAX_SAMPLES }
         requires least { 1 ≤ tile }
         requires greatest { tile ≤ MAX_TILE }
+        ensures samples { result.samples ≡ samples.now }
+        ensures m { result.m ≡ m }
         ensures few { length result.tiles ≤ MAX_TILES }
         ensures together { ranks_together K result ≡ map slots_of (ranks_of K m (series_of samples.now)) }
     {
@@ -57,6 +60,21 @@ impl<'a, const K: usize> RankTiles<'a, K> {
         RankTiles {
             plan,
             cut: cut_own(count, excl(m), tile),
+        }
+    }
+
+    /// The tiles of the windows that start close together, outside the exclusion zone, in so many bands of rows. It
+    /// takes no memory.
+    pub(crate) fn near(&self, bands: u32) -> NearRanks<'a, K>
+        requires some { 1 ≤ bands }
+        ensures samples { result.samples ≡ self.now.samples }
+        ensures m { result.m ≡ self.now.m }
+        ensures few { length result.tiles ≤ MAX_TILES }
+    {
+        let windows = self.size();
+        NearRanks {
+            plan: self.plan,
+            bands: Bands::of(windows, excl(self.plan.rounding.m), bands),
         }
     }
 }

@@ -4,15 +4,17 @@ ghost use Rattle.std.specs.Prelude.{◌≡◌, ◌≤◌, length, map, IfOk};
 ghost use Rattle.mp_series.specs.declared.limits.TheConstants.{MAX_SAMPLES, MAX_WINDOW, MIN_WINDOW};
 ghost use Rattle.mp_defs.specs.Series.{series_of};
 ghost use Rattle.mp_results.specs.Ranks.{ranks_of};
-ghost use Rattle.mp_topk.specs.Ranking.{lists_in, slots_of};
+ghost use Rattle.mp_tiles.specs.Pieces.{own_size};
+ghost use Rattle.mp_topk.specs.Ranking.{lists_in, merged_ranks, slots_of};
 ghost use Rattle.mp_topk.specs.Tiling.{ranks_together};
 
 use crate::kernels::RankTiles;
+use crate::others::OtherRanks;
 use crate::ranks::{MAX_RANKS, Ranks};
 use mp_cuts::{MAX_TILE, MAX_TILES};
 use mp_nums::{Memory, NearList, Sample};
 use mp_outside::Gate;
-use mp_partial::{Kernel, MAX_WORKERS};
+use mp_partial::{Kernel, MAX_WORKERS, Part};
 use mp_series::{MAX_SAMPLES, MAX_WINDOW, MIN_WINDOW};
 use mp_workers::run_all;
 use std::alloc::Global;
@@ -31,21 +33,75 @@ fn worth(windows: u64, workers: u32) -> u32
     (pairs / PAIRS_FOR_A_WORKER).clamp(1, u64::from(workers)) as u32
 }
 
+/// What the tiles have, merged with what was found before, run by so many workers in groups that begin with that.
+fn run_others<R: Threads + Sync, G: Gate, const K: usize>(
+    rt: &R,
+    alloc: Global,
+    tiles: &RankTiles<K>,
+    before: &Ranks<K>,
+    workers: u32,
+    gate: &G,
+) -> Result<Ranks<K>, Memory>
+    requires few { length tiles.now.tiles ≤ MAX_TILES }
+    requires size { length before.now.lists ≡ own_size tiles.now }
+    requires some { 1 ≤ workers }
+    requires workers { workers ≤ MAX_WORKERS }
+    ensures value { IfOk result (λ found. merged_ranks K (map slots_of before.now.lists) (map slots_of found.lists)
+        ≡ merged_ranks K (map slots_of before.now.lists) (ranks_together K tiles.now)) }
+    ensures size { IfOk result (λ found. length found.lists ≡ length before.now.lists) }
+{
+    let others = OtherRanks::of(tiles, before, workers);
+    run_all(rt, alloc, &others, others.pieces(), workers, gate)
+}
+
+/// What the tiles have together, run by several workers. They compare near windows first, since what these find lets
+/// most of the others be passed over, and begin the tiles of the others, of at most `tile` diagonals, with what all of
+/// them found. There is a band of near windows for each worker.
+fn run_near_first<R: Threads + Sync, G: Gate, const K: usize>(
+    rt: &R,
+    alloc: Global,
+    tiles: &RankTiles<K>,
+    tile: u32,
+    workers: u32,
+    gate: &G,
+) -> Result<Ranks<K>, Memory>
+    requires least { 1 ≤ tile }
+    requires greatest { tile ≤ MAX_TILE }
+    requires some { 1 ≤ workers }
+    requires workers { workers ≤ MAX_WORKERS }
+    ensures { IfOk result (λ ranks. map slots_of ranks.lists
+        ≡ map slots_of (ranks_of K tiles.now.m (series_of tiles.now.samples))) }
+{
+    let near = tiles.near(workers);
+    let mut found = run_all(rt, alloc, &near, near.pieces(), workers, gate)?;
+    let more = run_others(rt, alloc, &near.others(tile), &found, workers, gate)?;
+    found.merge(&more);
+    Ok(found)
+}
+
 /// What the tiles have together, run by so many workers. Short series are left to fewer.
 fn run_tiles<R: Threads + Sync, G: Gate, const K: usize>(
     rt: &R,
     alloc: Global,
     tiles: &RankTiles<K>,
+    tile: u32,
     workers: u32,
     gate: &G,
 ) -> Result<Ranks<K>, Memory>
     requires few { length tiles.now.tiles ≤ MAX_TILES }
+    requires least { 1 ≤ tile }
+    requires greatest { tile ≤ MAX_TILE }
     requires some { 1 ≤ workers }
     requires workers { workers ≤ MAX_WORKERS }
+    requires together { ranks_together K tiles.now
+        ≡ map slots_of (ranks_of K tiles.now.m (series_of tiles.now.samples)) }
     ensures { IfOk result (λ ranks. map slots_of ranks.lists ≡ ranks_together K tiles.now) }
 {
     let workers = worth(tiles.size(), workers);
-    run_all(rt, alloc, tiles, tiles.pieces(), workers, gate)
+    if workers == 1 {
+        return run_all(rt, alloc, tiles, tiles.pieces(), workers, gate);
+    }
+    run_near_first(rt, alloc, tiles, tile, workers, gate)
 }
 
 /// The lists of the tiles' ranks.
@@ -53,15 +109,20 @@ fn lists_of_tiles<R: Threads + Sync, G: Gate, const K: usize>(
     rt: &R,
     alloc: Global,
     tiles: &RankTiles<K>,
+    tile: u32,
     workers: u32,
     gate: &G,
 ) -> Result<Vec<NearList>, Memory>
     requires few { length tiles.now.tiles ≤ MAX_TILES }
+    requires least { 1 ≤ tile }
+    requires greatest { tile ≤ MAX_TILE }
     requires some { 1 ≤ workers }
     requires workers { workers ≤ MAX_WORKERS }
+    requires together { ranks_together K tiles.now
+        ≡ map slots_of (ranks_of K tiles.now.m (series_of tiles.now.samples)) }
     ensures { IfOk result (λ lists. map slots_of (lists_in lists.items) ≡ ranks_together K tiles.now) }
 {
-    run_tiles(rt, alloc, tiles, workers, gate)?.lists(alloc)
+    run_tiles(rt, alloc, tiles, tile, workers, gate)?.lists(alloc)
 }
 
 /// For each window of length `m` the `k` nearest ones outside its exclusion zone with their distances, all of them
@@ -95,8 +156,8 @@ pub fn nearest<R: Threads + Sync, G: Gate>(
     macro_rules! by_ranks {
         ($($ranks:literal)*) => {
             match k {
-                $($ranks => lists_of_tiles(rt, alloc, &RankTiles::<$ranks>::new(samples, m, tile), workers, gate),)*
-                _ => lists_of_tiles(rt, alloc, &RankTiles::<4>::new(samples, m, tile), workers, gate),
+                $($ranks => lists_of_tiles(rt, alloc, &RankTiles::<$ranks>::new(samples, m, tile), tile, workers, gate),)*
+                _ => lists_of_tiles(rt, alloc, &RankTiles::<4>::new(samples, m, tile), tile, workers, gate),
             }
         };
     }
