@@ -6,7 +6,7 @@ use Rattle.std.specs.List.{range_with_len}
 use Rattle.std.proofs.Math.Nat.{mul-le-mul_right}
 use Rattle.std.proofs.lemmas.Grind.{div_ceil_times}
 use Rattle.mp_partial.specs.Values.{Value, merged_below, merged_over}
-use Rattle.mp_partial.specs.Together.{HaveValues, MergesByPieces}
+use Rattle.mp_partial.specs.Together.{MergesByPieces}
 use Rattle.mp_partial.specs.TogetherLaws.{merges_by_pieces}
 use Rattle.mp_cuts.specs.Pairs.{has_pair, no_tile}
 use Rattle.mp_cuts.specs.CutLaws.{either}

@@ -33,7 +33,8 @@ fn worth(windows: u64, workers: u32) -> u32
     (pairs / PAIRS_FOR_A_WORKER).clamp(1, u64::from(workers)) as u32
 }
 
-/// What the tiles have, merged with what was found before, run by so many workers in groups that begin with that.
+/// What the tiles have together, found by so many workers in groups that begin with what was found before. Where there
+/// is no tile it is nothing, and else it has what was found before too.
 fn run_others<R: Threads + Sync, G: Gate, const K: usize>(
     rt: &R,
     alloc: Global,
@@ -54,9 +55,9 @@ fn run_others<R: Threads + Sync, G: Gate, const K: usize>(
     run_all(rt, alloc, &others, others.pieces(), workers, gate)
 }
 
-/// What the tiles have together, run by several workers. They compare near windows first, since what these find lets
-/// most of the others be passed over, and begin the tiles of the others, of at most `tile` diagonals, with what all of
-/// them found. There is a band of near windows for each worker.
+/// The ranks of the tiles' samples, found by several workers. They compare near windows first, since what these give
+/// lets most of the others be passed over, and begin the tiles of the others, of at most `tile` diagonals, with what all
+/// of them found. There is a band of near windows for each worker.
 fn run_near_first<R: Threads + Sync, G: Gate, const K: usize>(
     rt: &R,
     alloc: Global,
@@ -156,7 +157,9 @@ pub fn nearest<R: Threads + Sync, G: Gate>(
     macro_rules! by_ranks {
         ($($ranks:literal)*) => {
             match k {
-                $($ranks => lists_of_tiles(rt, alloc, &RankTiles::<$ranks>::new(samples, m, tile), tile, workers, gate),)*
+                $($ranks => lists_of_tiles(
+                    rt, alloc, &RankTiles::<$ranks>::new(samples, m, tile), tile, workers, gate,
+                ),)*
                 _ => lists_of_tiles(rt, alloc, &RankTiles::<4>::new(samples, m, tile), tile, workers, gate),
             }
         };

@@ -19,6 +19,6 @@ returns-clause-together g c =
     subst (λ (own : OwnTiling). merged_ranks g.row.K (ranks_together g.row.K own) (ranks_together g.row.K far)
     ≡ map slots_of (ranks_of g.row.K own.m (series_of own.samples)))
     c.self.view_is
-    (near_and_others g.row.K plan.grid.rows.now plan.grid.m (excl plan.grid.m) w c.args.tile bands c.cut_own.result refl refl
-    (omega arith) c.self.invariant.are_bands
+    (near_and_others g.row.K plan.grid.rows.now plan.grid.m (excl plan.grid.m) w c.args.tile bands c.cut_own.result
+    refl refl (omega arith) c.self.invariant.are_bands
     (c.cut_own.ensures.tiles ∙ ap (λ count. own_tiles count bands.last c.args.tile) size))

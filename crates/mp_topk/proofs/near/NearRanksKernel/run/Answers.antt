@@ -36,7 +36,7 @@ returns-clause-value g c =
     let bands = c.self.inside.bands in
     let lt : c.args.piece < div_ceil bands.rows bands.height =
     omega (arith, c.requires.piece, ap (λ own. length own.tiles) c.self.view_is, bands_count bands) in
-    piece_taken g.row.K (record { samples = grid.rows.now; m = grid.m; tiles = bands_of bands }) c.args.self.now c.args.piece
-    c.tile.result c.args.into.now.lists c.take_tile.new.into.lists c.self.view_is
+    piece_taken g.row.K (record { samples = grid.rows.now; m = grid.m; tiles = bands_of bands }) c.args.self.now
+    c.args.piece c.tile.result c.args.into.now.lists c.take_tile.new.into.lists c.self.view_is
     (band_is bands c.args.piece no_tile lt ∙ sym c.tile.ensures)
     c.take_tile.ensures.value

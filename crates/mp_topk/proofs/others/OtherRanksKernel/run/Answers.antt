@@ -1,4 +1,4 @@
-use Rattle.std.proofs.Common.{length, map, min, ap, subst, ◌∙◌, ◌+◌, ◌*◌}
+use Rattle.std.proofs.Common.{map, min, ap, subst, ◌∙◌, ◌+◌, ◌*◌}
 use Rattle.mp_topk.specs.GroupLaws.{group_taken}
 use Rattle.mp_topk.specs.Ranking.{HasRanks, slots_of}
 use Rattle.mp_topk.proofs.others.OtherRanksKernel.run.Goals as goal
