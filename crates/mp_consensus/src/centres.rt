@@ -15,26 +15,20 @@ use mp_nums::{Centre, Items, Memory, Near, NearList, Slot, Sq};
 use mp_outside::Gate;
 use mp_partial::MAX_WORKERS;
 use mp_series::{Bundle, MAX_SAMPLES, MAX_WINDOW, MIN_WINDOW};
+use mp_workers::workers_for;
 use std::alloc::Global;
 use std::thread::Threads;
 
 /// The most series that are compared.
 pub const MAX_SERIES: u64 = 64;
 
-/// For how many pairs of samples a worker is started. Fewer pairs take less time than the start of a thread.
-const PAIRS_FOR_A_WORKER: u64 = 262_144;
-
-/// How many of the workers the pairs of all samples of the list are worth, at least one.
-fn worth(list: &Bundle, workers: u32) -> u32
-    requires { 1 ≤ workers }
-    ensures some { 1 ≤ result }
-    ensures within { result ≤ workers }
-{
+/// How many pairs of samples of the list there are.
+fn pairs(list: &Bundle) -> u64 {
     let mut samples: u64 = 0;
     for place in 0..list.count() {
         samples = samples.saturating_add(list.series(place).len() as u64);
     }
-    (samples.saturating_mul(samples) / PAIRS_FOR_A_WORKER).clamp(1, u64::from(workers)) as u32
+    samples.saturating_mul(samples)
 }
 
 /// At place `other` the window nearest to the one that starts at `start` at `place`, and this itself at its own place.
@@ -121,7 +115,7 @@ pub fn consensus<R: Threads + Sync, G: Gate>(
     requires workers { workers ≤ MAX_WORKERS }
     ensures { IfOk result (λ found. option_map central found ≡ centre_of m (map series_of list.now)) }
 {
-    let workers = worth(list, workers);
+    let workers = workers_for(pairs(list), workers);
     let Some(best) = search(rt, alloc, list, m, workers, gate)? else {
         return Ok(None);
     };

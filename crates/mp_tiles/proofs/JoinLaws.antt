@@ -12,7 +12,7 @@ use Rattle.mp_cuts.specs.Cutting.{both_tiles}
 use Rattle.mp_cuts.specs.Laws.{HoldEveryPairOnce}
 use Rattle.mp_cuts.specs.CutLaws.{cuts_hold_each_pair_once}
 use Rattle.mp_tiles.specs.Laws.{join_tiles_value, TilesMakeTheJoin}
-use Rattle.mp_tiles.proofs.PairLemmas.{some_has, some_more, once_or_not, tiles_by_number}
+use Rattle.mp_tiles.specs.PairLaws.{some_has, some_more, once_or_not, tiles_by_number}
 
 abbrev one_column : Column → Value
 one_column column = column ∷ []

@@ -1,6 +1,5 @@
 pub mod CompactLemmas
 pub mod ColumnLemmas
-pub mod PairLemmas
 pub mod BlockLemmas
 pub mod ProfileLaws
 pub mod JoinLaws

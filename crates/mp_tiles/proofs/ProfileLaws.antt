@@ -19,8 +19,9 @@ use Rattle.mp_cuts.specs.Laws.{HoldEachOnce}
 use Rattle.mp_cuts.specs.CutLaws.{cuts_hold_each_pair_once}
 use Rattle.mp_tiles.specs.Among.{either_way, profile_among, columns_value}
 use Rattle.mp_tiles.specs.Laws.{tiles_value, TilesMakeTheProfile}
-use Rattle.mp_tiles.proofs.PairLemmas.{some_has, some_more, once_or_not, tiles_by_number}
-use Rattle.mp_tiles.specs.OfferingLaws.{or_pairs, and_either}
+use Rattle.mp_tiles.specs.OfferingLaws.{and_either}
+use Rattle.mp_tiles.specs.PairLaws.{apart_both, apart_never, are_apart, either_may, either_more, own_tiles_hold_each_once}
+use Rattle.mp_tiles.specs.PairLaws.{some_has, tiles_by_number}
 
 -- ---- profiles by tests
 
@@ -61,13 +62,6 @@ value_none p m a none = same_value _ _ _ _ _ _
 
 -- ---- the pairs of some tiles
 
-either_more : (t : Tile) (ts : List Tile) (i j : ℕ)
-    → (either_way (has_pair 0 t) i j || either_way (some_has 0 ts) i j) ≡ either_way (some_has 0 (t ∷ ts)) i j
-either_more t ts i j =
-    or_pairs (has_pair 0 t i j) (some_has 0 ts i j) (has_pair 0 t j i) (some_has 0 ts j i)
-    ∙ ap (λ p. p || (has_pair 0 t j i || some_has 0 ts j i)) (some_more 0 t ts i j)
-    ∙ ap (λ p. some_has 0 (t ∷ ts) i j || p) (some_more 0 t ts j i)
-
 -- the values of some tiles together are the profile of their pairs
 tiles_together : (tile : ℕ → Tile) (m : ℕ) (a : Series) (ks : List ℕ)
     → merged_over merged_columns (empty_columns 3 (windows_of m a))
@@ -82,12 +76,6 @@ tiles_together tile m a (k ∷ ks) =
     ∙ value_same (λ i j. either_way here i j || either_way there i j) (either_way (some_has 0 (map tile (k ∷ ks)))) m a
     (λ i j _ _. either_more (tile k) (map tile ks) i j)
 
--- ---- the pairs that may be compared
-
--- windows that may be compared are a pair from one side or the other
-one_side : (t u : Bool) (i j : ℕ) → t ≡ u → (i ≡ j → t ≡ false) → ((nat_lt i j && t) || (nat_lt j i && u)) ≡ t
-one_side t u i j e h = grind (arith, nat_tests)
-
 -- so are the values of tiles by their numbers
 pub among_tiles : (m : ℕ) (a : Series) (tiles : List Tile)
     → tiles_value m a tiles ≡ columns_value (profile_among (some_has 0 tiles) m a)
@@ -98,13 +86,9 @@ among_tiles m a tiles =
 any_tiles : (may : ℕ → ℕ → Bool) → IsIrreflexive may → IsSymmetric may → (m : ℕ) (a : Series) (tiles : List Tile)
     → HoldEachOnce may (windows_of m a) tiles → tiles_value m a tiles ≡ columns_value (profile may m a)
 any_tiles may irreflexive symmetric m a tiles once =
-    let has = λ (i j : ℕ) (lt : j < windows_of m a). once_or_not (nat_lt i j && may i j)
-    (count_by (λ t. has_pair 0 t i j) tiles) (once i j lt) in
     among_tiles m a tiles
     ∙ value_same (either_way (some_has 0 tiles)) may m a
-    (λ i j lt lt'.
-    ap (λ p. p || some_has 0 tiles j i) (has i j lt') ∙ ap (λ p. (nat_lt i j && may i j) || p) (has j i lt)
-    ∙ one_side (may i j) (may j i) i j (symmetric i j) (λ e. subst (λ (k : ℕ). may i k ≡ false) e (irreflexive i)))
+    (either_may may irreflexive symmetric (windows_of m a) tiles once)
 
 -- some pairs and others that together may be compared make the matrix profile
 pub among_and_others : (pairs others : ℕ → ℕ → Bool) (m : ℕ) (a : Series)
@@ -117,26 +101,12 @@ among_and_others pairs others m a may =
 
 -- ---- the cut outside the exclusion zone
 
-outside_zone : (e i j : ℕ) → (nat_lt i j && nat_lt (i + e) j) ≡ (nat_lt i j && nat_lt e (abs_diff i j))
-outside_zone e i j = grind (arith, nat_tests)
-
-own_tiles_hold_each_once : (zone w width : ℕ) → 0 < width
-    → HoldEachOnce (λ i j. nat_lt zone (abs_diff i j)) w (own_tiles w zone width)
-own_tiles_hold_each_once zone w width pos i j lt =
-    cuts_hold_each_pair_once.own w zone width pos i j lt ∙ ap (λ t. if t then 1 else 0) (outside_zone zone i j)
-
-apart_never : (zone : ℕ) → IsIrreflexive (λ i j. nat_lt zone (abs_diff i j))
-apart_never zone i = grind (arith, nat_tests)
-
-apart_both : (zone : ℕ) → IsSymmetric (λ i j. nat_lt zone (abs_diff i j))
-apart_both zone i j = grind (arith, nat_tests)
-
 -- the cut of the windows that start further apart than a zone is their profile
 pub tiles_apart : (m width zone : ℕ) (a : Series) → 0 < width
     → tiles_value m a (own_tiles (windows_of m a) zone width)
-    ≡ columns_value (profile (λ i j. nat_lt zone (abs_diff i j)) m a)
+    ≡ columns_value (profile (are_apart zone) m a)
 tiles_apart m width zone a pos =
-    any_tiles (λ i j. nat_lt zone (abs_diff i j)) (apart_never zone) (apart_both zone) m a
+    any_tiles (are_apart zone) (apart_never zone) (apart_both zone) m a
     (own_tiles (windows_of m a) zone width) (own_tiles_hold_each_once zone (windows_of m a) width pos)
 
 pub make_the_profile : TilesMakeTheProfile

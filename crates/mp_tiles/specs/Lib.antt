@@ -5,10 +5,12 @@ pub mod Sides
 pub mod Scanning
 pub mod TakenLaws
 pub mod OfferingLaws
+pub mod PairLaws
 pub mod LimitLaws
 pub mod Laws
 pub mod SideLaws
 pub mod Pieces
 pub mod Near
+pub mod NearLaws
 pub mod PatchScanning
 pub mod PatchLaws

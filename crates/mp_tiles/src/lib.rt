@@ -21,6 +21,6 @@ pub use mp_cuts::{
     Cut, MAX_ROWS, MAX_TILE, MAX_TILES, Tile, cut_both, cut_own, cuts_hold_each_pair_once,
     worked_cuts,
 };
-pub use near::NearTiles;
+pub use near::{Bands, NearTiles};
 pub use scans::{scan_both, scan_own, scan_patch};
 pub use sides::Sides;

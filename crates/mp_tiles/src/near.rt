@@ -26,7 +26,7 @@ const LEAST_NEAR: u64 = 256;
 
 /// The rows of some diagonals, band by band. The last band may have fewer.
 #[derive(Clone, Copy)]
-pub(crate) struct Bands {
+pub struct Bands {
     first: u64,
     last: u64,
     rows: u64,
@@ -35,7 +35,7 @@ pub(crate) struct Bands {
 
 impl Bands {
     /// The first diagonals of so many windows outside a zone, in so many bands, or more where these were too high.
-    pub(crate) fn of(windows: u64, excl: u64, bands: u32) -> Bands
+    pub fn of(windows: u64, excl: u64, bands: u32) -> Bands
         requires few { windows ≤ MAX_SAMPLES }
         requires zone { excl ≤ MAX_WINDOW }
         requires some { 1 ≤ bands }
@@ -52,8 +52,15 @@ impl Bands {
         }
     }
 
+    /// The last of the diagonals.
+    pub fn last(&self) -> u64
+        ensures { result ≡ self.now.last }
+    {
+        self.last
+    }
+
     /// The number of bands.
-    fn count(&self) -> u64
+    pub fn count(&self) -> u64
         requires { 0 < self.now.height }
         ensures { result ≡ div_ceil self.now.rows self.now.height }
     {
@@ -61,7 +68,7 @@ impl Bands {
     }
 
     /// The tile of a band.
-    fn tile(&self, band: u64) -> Tile
+    pub fn tile(&self, band: u64) -> Tile
         requires few { self.now.rows ≤ MAX_SAMPLES }
         requires low { self.now.height ≤ MAX_ROWS }
         requires high { 0 < self.now.height }

@@ -10,6 +10,3 @@ pub mod OfferLaws
 pub mod LastLaws
 pub mod Tiling
 pub mod TileLaws
-pub mod Near
-pub mod Groups
-pub mod GroupLaws

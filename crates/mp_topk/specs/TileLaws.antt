@@ -1,14 +1,11 @@
 -- Why tiles make the ranks of windows.
-use Rattle.std.proofs.Common.{◌≡◌, ℕ, zero, suc, ◌+◌, ◌<◌, List, [], ◌∷◌, length, get_or, Bool, true, false, refl}
-use Rattle.std.proofs.Common.{sym, ap, ◌∙◌, arith, subst, replicate, take}
-use Rattle.std.specs.Prelude.{◌&&◌, ◌||◌, nat_lt, if◌then◌else◌, map, count_by, All, None}
+use Rattle.std.proofs.Common.{◌≡◌, ℕ, zero, suc, ◌<◌, List, [], ◌∷◌, length, get_or, Bool, false, refl}
+use Rattle.std.proofs.Common.{sym, ap, ◌∙◌, arith, replicate, take}
+use Rattle.std.specs.Prelude.{◌||◌, if◌then◌else◌, map, All, None}
 use Rattle.std.specs.List.{range_with_len}
-use Rattle.std.specs.Int.{abs_diff}
-use Rattle.std.proofs.lemmas.Bool.Decides.{nat_tests}
 use Rattle.std.proofs.lemmas.List.{length-map, length-take}
 use Rattle.std.proofs.lemmas.List.Elements.{All-cons, All-nil}
-use Rattle.std.proofs.lemmas.List.Sums.{sum_by-append}
-use Rattle.std.proofs.lemmas.List.FromFn.{fill_by_all, length-map-range_with_len, get_or-map-range_with_len}
+use Rattle.std.proofs.lemmas.List.FromFn.{length-map-range_with_len, get_or-map-range_with_len}
 use Rattle.std.proofs.lemmas.List.{ext_get_or}
 use Rattle.mp_nums.specs.declared.nearest.Near.{Near}
 use Rattle.mp_nums.specs.declared.samples.Sample.{Sample}
@@ -18,16 +15,13 @@ use Rattle.mp_defs.specs.Window.{excl, is_allowed, windows}
 use Rattle.mp_defs.specs.Distance.{distance}
 use Rattle.mp_defs.specs.Least.{at_distance}
 use Rattle.mp_defs.specs.Profile.{windows_of}
-use Rattle.mp_defs.specs.Laws.{IsIrreflexive, IsSymmetric}
-use Rattle.mp_defs.specs.NearestLaws.{zone_is_mutual}
 use Rattle.mp_partial.specs.Values.{merged_over}
 use Rattle.mp_cuts.specs.declared.cuts.Tile.{Tile}
 use Rattle.mp_cuts.specs.Pairs.{has_pair, no_tile}
 use Rattle.mp_cuts.specs.Cutting.{own_tiles}
-use Rattle.mp_cuts.specs.Laws.{HoldEachOnce}
-use Rattle.mp_cuts.specs.CutLaws.{cuts_hold_each_pair_once}
 use Rattle.mp_tiles.specs.Among.{either_way}
-use Rattle.mp_tiles.specs.OfferingLaws.{or_pairs}
+use Rattle.mp_tiles.specs.PairLaws.{apart_both, apart_never, are_apart, either_may, either_more, some_has}
+use Rattle.mp_tiles.specs.PairLaws.{own_tiles_hold_each_once, tiles_by_number}
 use Rattle.mp_results.specs.Ranks.{in_order, ranks_of}
 use Rattle.mp_topk.specs.Ranking.{AreRanks, HasRanks, merged_ranks, no_ranks, put_all, slots_of, those_in}
 use Rattle.mp_topk.specs.RankLaws.{are_ranks, take_rises, those_in_slots}
@@ -125,100 +119,48 @@ value_has_ranks k may m samples = record {
 
 -- ---- the pairs of some tiles
 
--- some tile has the pair
-abbrev pub some_has : List Tile → ℕ → ℕ → Bool
-some_has tiles i j = nat_lt 0 (count_by (λ t. has_pair 0 t i j) tiles)
-
-one_more : (t : Bool) (n : ℕ) → nat_lt 0 ((if t then 1 else 0) + n) ≡ (t || nat_lt 0 n)
-one_more true n = grind (arith, nat_tests)
-one_more false n = grind (arith, nat_tests)
-
-count_cons : (p : Tile → Bool) (x : Tile) (xs : List Tile)
-    → count_by p (x ∷ xs) ≡ (if p x then 1 else 0) + count_by p xs
-count_cons p x xs = omega (arith, sum_by-append (λ y. if p y then 1 else 0) (x ∷ []) xs)
-
-pub some_more : (t : Tile) (ts : List Tile) (i j : ℕ) → (has_pair 0 t i j || some_has ts i j) ≡ some_has
-    (t ∷ ts) i j
-some_more t ts i j =
-    sym (ap (nat_lt 0) (count_cons (λ u. has_pair 0 u i j) t ts)
-    ∙ one_more (has_pair 0 t i j) (count_by (λ u. has_pair 0 u i j) ts))
-
-either_more : (t : Tile) (ts : List Tile) (i j : ℕ)
-    → (either_way (has_pair 0 t) i j || either_way (some_has ts) i j) ≡ either_way (some_has (t ∷ ts)) i j
-either_more t ts i j =
-    or_pairs (has_pair 0 t i j) (some_has ts i j) (has_pair 0 t j i) (some_has ts j i)
-    ∙ ap (λ p. p || (has_pair 0 t j i || some_has ts j i)) (some_more t ts i j)
-    ∙ ap (λ p. some_has (t ∷ ts) i j || p) (some_more t ts j i)
-
 -- the values of some tiles together are that of their pairs
 tiles_together : (tile : ℕ → Tile) (k m : ℕ) (a : Series) (ns : List ℕ)
     → merged_over (merged_ranks k) (no_ranks (windows_of m a))
     (λ n. among_value k (either_way (has_pair 0 (tile n))) m a) ns
-    ≡ among_value k (either_way (some_has (map tile ns))) m a
-tiles_together tile k m a [] = sym (value_none k (either_way (some_has [])) m a (λ i j. refl))
+    ≡ among_value k (either_way (some_has 0 (map tile ns))) m a
+tiles_together tile k m a [] = sym (value_none k (either_way (some_has 0 [])) m a (λ i j. refl))
 tiles_together tile k m a (n ∷ ns) =
     let here = either_way (has_pair 0 (tile n)) in
-    let there = either_way (some_has (map tile ns)) in
+    let there = either_way (some_has 0 (map tile ns)) in
     ap (merged_ranks k (among_value k here m a)) (tiles_together tile k m a ns)
     ∙ value_either k here there m a
     ∙ ap (map slots_of) (lists_same k (λ i j. here i j || there i j)
-    (either_way (some_has (map tile (n ∷ ns)))) m a
+    (either_way (some_has 0 (map tile (n ∷ ns)))) m a
     (λ i j _ _. either_more (tile n) (map tile ns) i j))
 
-tiles_by_number : (tiles : List Tile)
-    → map (λ n. get_or tiles n no_tile) (range_with_len 0 (length tiles)) ≡ tiles
-tiles_by_number tiles =
-    sym (fill_by_all (λ n. get_or tiles n no_tile) tiles (length tiles) no_tile refl (λ n lt. refl))
-
 pub among_tiles : (k m : ℕ) (a : Series) (tiles : List Tile)
-    → tiles_value k m a tiles ≡ among_value k (either_way (some_has tiles)) m a
+    → tiles_value k m a tiles ≡ among_value k (either_way (some_has 0 tiles)) m a
 among_tiles k m a tiles =
     tiles_together (λ n. get_or tiles n no_tile) k m a (range_with_len 0 (length tiles))
-    ∙ ap (λ ts. among_value k (either_way (some_has ts)) m a) (tiles_by_number tiles)
-
--- ---- the pairs that may be compared
-
-once_or_not : (t : Bool) (n : ℕ) → n ≡ (if t then 1 else 0) → nat_lt 0 n ≡ t
-once_or_not true n e = rw e refl
-once_or_not false n e = rw e refl
-
--- windows that may be compared are a pair from one side or the other
-one_side : (t u : Bool) (i j : ℕ) → t ≡ u → (i ≡ j → t ≡ false)
-    → ((nat_lt i j && t) || (nat_lt j i && u)) ≡ t
-one_side t u i j e h = grind (arith, nat_tests)
-
-pub any_tiles : (may : ℕ → ℕ → Bool) → IsIrreflexive may → IsSymmetric may
-    → (k m : ℕ) (a : Series) (tiles : List Tile)
-    → HoldEachOnce may (windows_of m a) tiles → tiles_value k m a tiles ≡ among_value k may m a
-any_tiles may irreflexive symmetric k m a tiles once =
-    let has = λ (i j : ℕ) (lt : j < windows_of m a). once_or_not (nat_lt i j && may i j)
-    (count_by (λ t. has_pair 0 t i j) tiles) (once i j lt) in
-    among_tiles k m a tiles
-    ∙ ap (map slots_of) (lists_same k (either_way (some_has tiles)) may m a
-    (λ i j lt lt'.
-    ap (λ p. p || some_has tiles j i) (has i j lt') ∙ ap (λ p. (nat_lt i j && may i j) || p) (has j i lt)
-    ∙ one_side (may i j) (may j i) i j (symmetric i j)
-    (λ e. subst (λ (n : ℕ). may i n ≡ false) e (irreflexive i))))
+    ∙ ap (λ ts. among_value k (either_way (some_has 0 ts)) m a) (tiles_by_number tiles)
 
 -- some pairs and others that together may be compared make the ranks
 pub among_and_others : (k : ℕ) (pairs others : ℕ → ℕ → Bool) (m : ℕ) (a : Series)
-    → ((i j : ℕ) → i < windows_of m a → j < windows_of m a → (either_way pairs i j || others i j) ≡ is_allowed m i j)
+    → ((i j : ℕ) → i < windows_of m a → j < windows_of m a
+    → (either_way pairs i j || others i j) ≡ is_allowed m i j)
     → merged_ranks k (among_value k (either_way pairs) m a) (among_value k others m a)
     ≡ map slots_of (ranks_of k m a)
 among_and_others k pairs others m a may =
     value_either k (either_way pairs) others m a
     ∙ ap (map slots_of) (lists_same k (λ i j. either_way pairs i j || others i j) (is_allowed m) m a may)
 
-outside_zone : (e i j : ℕ) → (nat_lt i j && nat_lt (i + e) j) ≡ (nat_lt i j && nat_lt e (abs_diff i j))
-outside_zone e i j = grind (arith, nat_tests)
+-- ---- the cut outside the exclusion zone
 
-own_tiles_hold_each_once : (m w width : ℕ) → 0 < width
-    → HoldEachOnce (is_allowed m) w (own_tiles w (excl m) width)
-own_tiles_hold_each_once m w width pos i j lt =
-    cuts_hold_each_pair_once.own w (excl m) width pos i j lt
-    ∙ ap (λ t. if t then 1 else 0) (outside_zone (excl m) i j)
+-- the cut of the windows that start further apart than a zone has their ranks
+pub tiles_apart : (k m width zone : ℕ) (a : Series) → 0 < width
+    → tiles_value k m a (own_tiles (windows_of m a) zone width) ≡ among_value k (are_apart zone) m a
+tiles_apart k m width zone a pos =
+    let tiles = own_tiles (windows_of m a) zone width in
+    among_tiles k m a tiles
+    ∙ ap (map slots_of) (lists_same k (either_way (some_has 0 tiles)) (are_apart zone) m a
+    (either_may (are_apart zone) (apart_never zone) (apart_both zone) (windows_of m a) tiles
+    (own_tiles_hold_each_once zone (windows_of m a) width pos)))
 
 pub make_the_ranks : TilesMakeTheRanks
-make_the_ranks k m width a pos =
-    any_tiles (is_allowed m) (zone_is_mutual.irreflexive m) (zone_is_mutual.symmetric m) k m a
-    (own_tiles (windows_of m a) (excl m) width) (own_tiles_hold_each_once m (windows_of m a) width pos)
+make_the_ranks k m width a pos = tiles_apart k m width (excl m) a pos

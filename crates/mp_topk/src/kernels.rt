@@ -6,7 +6,7 @@ ghost use Rattle.mp_defs.specs.Series.{series_of};
 ghost use Rattle.mp_results.specs.Ranks.{ranks_of};
 ghost use Rattle.mp_topk.specs.Ranking.{merged_ranks, slots_of};
 
-use crate::near::{Bands, NearRanks};
+use crate::near::NearRanks;
 use crate::ranks::Ranks;
 use crate::scans::take_tile;
 use mp_cuts::{Cut, MAX_TILE, MAX_TILES, cut_own};
@@ -15,6 +15,7 @@ use mp_partial::Kernel;
 use mp_scans::Plan;
 use mp_series::{MAX_SAMPLES, MAX_WINDOW, MIN_WINDOW, excl, windows};
 use mp_sums::Grid;
+use mp_tiles::Bands;
 use std::marker::Model;
 
 /// The tiles of a series as the pieces of a kernel. The values of all tiles together are the first `K` ranks of its

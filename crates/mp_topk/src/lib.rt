@@ -7,7 +7,6 @@ mod laws;
 mod lists;
 mod near;
 mod offers;
-mod others;
 mod placing;
 mod profiles;
 mod ranks;

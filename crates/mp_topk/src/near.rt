@@ -1,83 +1,20 @@
 //! The tiles of the windows that start close together, as the pieces of a kernel that keeps ranks.
 
-ghost use Rattle.std.specs.Prelude.{◌≡◌, ◌+◌, ◌<◌, ◌≤◌, length, map};
-ghost use Rattle.std.specs.Int.{div_ceil};
-ghost use Rattle.mp_series.specs.declared.limits.TheConstants.{MAX_SAMPLES, MAX_WINDOW};
+ghost use Rattle.std.specs.Prelude.{◌≡◌, ◌≤◌, length, map};
 ghost use Rattle.mp_defs.specs.Series.{series_of};
 ghost use Rattle.mp_results.specs.Ranks.{ranks_of};
-ghost use Rattle.mp_topk.specs.Near.{IsBands, band_at, bands_of};
 ghost use Rattle.mp_topk.specs.Ranking.{merged_ranks, slots_of};
 ghost use Rattle.mp_topk.specs.Tiling.{ranks_together};
 
 use crate::kernels::RankTiles;
 use crate::ranks::Ranks;
 use crate::scans::take_tile;
-use mp_cuts::{MAX_ROWS, MAX_TILE, MAX_TILES, Tile, cut_own};
+use mp_cuts::{MAX_TILE, MAX_TILES, cut_own};
 use mp_partial::Kernel;
 use mp_scans::Plan;
 use mp_series::windows;
+use mp_tiles::Bands;
 use std::marker::Model;
-
-/// How many diagonals there are for each one that has near windows. In measured series these have most of what lowers
-/// limits for the others.
-const DIAGONALS_FOR_A_NEAR_ONE: u64 = 16;
-
-/// The least number of diagonals that have near windows.
-const LEAST_NEAR: u64 = 256;
-
-/// The rows of some diagonals, band by band. The last band may have fewer.
-#[derive(Clone, Copy)]
-pub(crate) struct Bands {
-    first: u64,
-    last: u64,
-    rows: u64,
-    height: u64,
-}
-
-impl Bands {
-    /// The first diagonals of so many windows outside a zone, in so many bands, or more where these were too high.
-    pub(crate) fn of(windows: u64, excl: u64, bands: u32) -> Bands
-        requires few { windows ≤ MAX_SAMPLES }
-        requires zone { excl ≤ MAX_WINDOW }
-        requires some { 1 ≤ bands }
-        ensures { IsBands (excl + 1) windows result }
-    {
-        let first = excl + 1;
-        let rows = windows.saturating_sub(first);
-        let near = (rows / DIAGONALS_FOR_A_NEAR_ONE).max(LEAST_NEAR);
-        Bands {
-            first,
-            last: first + rows.clamp(1, near) - 1,
-            rows,
-            height: rows.div_ceil(u64::from(bands)).clamp(1, MAX_ROWS),
-        }
-    }
-
-    /// The number of bands.
-    fn count(&self) -> u64
-        requires { 0 < self.now.height }
-        ensures { result ≡ div_ceil self.now.rows self.now.height }
-    {
-        self.rows.div_ceil(self.height)
-    }
-
-    /// The tile of a band.
-    fn tile(&self, band: u64) -> Tile
-        requires few { self.now.rows ≤ MAX_SAMPLES }
-        requires low { self.now.height ≤ MAX_ROWS }
-        requires high { 0 < self.now.height }
-        requires band { band < div_ceil self.now.rows self.now.height }
-        ensures { result ≡ band_at self.now band }
-    {
-        let top = band * self.height;
-        Tile {
-            first: self.first,
-            last: self.last,
-            first_row: top,
-            last_row: (top + self.height).min(self.rows) - 1,
-        }
-    }
-}
 
 /// The tiles of the windows that start close together as the pieces of a kernel.
 #[derive(Drop)]
@@ -88,8 +25,8 @@ pub(crate) struct NearRanks<'a, const K: usize> {
 }
 
 impl<'a, const K: usize> Model for NearRanks<'a, K> {
-    ghost use Rattle.mp_tiles.specs.Pieces.{OwnTiling, IsOwnTiling};
-    ghost use Rattle.mp_topk.specs.Near.{IsNear, bands_of};
+    ghost use Rattle.mp_tiles.specs.Pieces.{OwnTiling};
+    ghost use Rattle.mp_tiles.specs.Near.{IsNear, bands_of};
 
     ghost Value = { OwnTiling };
 
@@ -115,7 +52,7 @@ impl<'a, const K: usize> NearRanks<'a, K> {
     {
         RankTiles {
             plan: self.plan,
-            cut: cut_own(self.size(), self.bands.last, tile),
+            cut: cut_own(self.size(), self.bands.last(), tile),
         }
     }
 }

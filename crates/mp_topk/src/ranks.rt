@@ -118,6 +118,10 @@ impl<const K: usize> Part for Ranks<K> {
     fn merge(&mut self, other: &Self) {
         merge_places(&mut self.places, &other.places);
     }
+
+    fn take_over(&mut self, other: &Self) {
+        copy_places(&mut self.places, &other.places);
+    }
 }
 
 /// So many places without a window.
@@ -210,4 +214,13 @@ fn merge_places<const K: usize>(places: &mut Items<[Slot; K]>, others: &Items<[S
     ensures spare { places.new.spare ≡ places.old.spare }
 {
     merge_each(places.as_mut_slice(), others.as_slice());
+}
+
+/// Puts the windows of the others in place of these.
+fn copy_places<const K: usize>(places: &mut Items<[Slot; K]>, others: &Items<[Slot; K]>)
+    requires count { length others.now.items ≡ length places.old.items }
+    ensures items { places.new.items ≡ others.now.items }
+    ensures spare { places.new.spare ≡ places.old.spare }
+{
+    places.as_mut_slice().copy_from_slice(others.as_slice());
 }

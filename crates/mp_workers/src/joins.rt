@@ -18,8 +18,9 @@ use std::thread::Threads;
 /// For how many pairs of windows a worker is started. Fewer pairs take less time than the start of a thread.
 const PAIRS_FOR_A_WORKER: u64 = 262_144;
 
-/// How many of the workers so many pairs of windows are worth, at least one.
-fn worth(pairs: u64, workers: u32) -> u32
+/// How many of the workers so many pairs of windows are worth, at least one. Where there are few pairs, another thread
+/// takes more time than it saves.
+pub fn workers_for(pairs: u64, workers: u32) -> u32
     requires { 1 ≤ workers }
     ensures some { 1 ≤ result }
     ensures within { result ≤ workers }
@@ -86,7 +87,7 @@ pub fn self_join<R: Threads + Sync, G: Gate>(
 {
     let tiles = OwnTiles::new(samples, m, tile);
     let room = Profile::with_capacity(alloc, tiles.size())?;
-    let workers = worth(pairs(samples, samples) / 2, workers);
+    let workers = workers_for(pairs(samples, samples) / 2, workers);
     let sides = both_sides(rt, alloc, &tiles, tile, workers, gate)?;
     Ok(profile_of(rt, &sides, workers, room))
 }
@@ -115,6 +116,6 @@ pub fn ab_join<R: Threads + Sync, G: Gate>(
     ensures { IfOk result (λ slots. slots.items ≡ ab_join m (series_of a.now) (series_of b.now)) }
 {
     let join = JoinTiles::new(a, b, m, tile);
-    let workers = worth(pairs(a, b), workers);
+    let workers = workers_for(pairs(a, b), workers);
     run_all(rt, alloc, &join, join.pieces(), workers, gate)
 }

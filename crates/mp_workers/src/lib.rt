@@ -11,7 +11,7 @@ mod teams;
 mod workers;
 
 pub use desks::Desk;
-pub use joins::{ab_join, self_join};
+pub use joins::{ab_join, self_join, workers_for};
 pub use laws::desk_gives_each_piece;
 pub use passes::Pass;
-pub use teams::run_all;
+pub use teams::{run_all, run_one_after_another};

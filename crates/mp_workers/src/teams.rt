@@ -169,7 +169,7 @@ pub fn run_all<R: Threads + Sync, K: Kernel, G: Gate>(
 
 /// What the pieces of two kernels have together, run as by `run_all`: first those of the one, and then those of the
 /// other, for which each worker begins with what the first ones have together.
-pub(crate) fn run_one_after_another<
+pub fn run_one_after_another<
     R: Threads + Sync,
     P: Part,
     A: Kernel<Out = P>,

@@ -1,6 +1,6 @@
 use Rattle.std.proofs.Common.{ap, arith}
 use Rattle.mp_tiles.specs.Pieces.{own_size}
-use Rattle.mp_tiles.proofs.NearLemmas.{bands_count, bands_few}
+use Rattle.mp_tiles.specs.NearLaws.{bands_count, bands_few}
 use Rattle.mp_tiles.proofs.kernels.OwnTiles.near.Goals as goal
 
 pub returns-clause-few : goal.returns-clause-few

@@ -4,7 +4,7 @@ use Rattle.mp_defs.specs.Window.{windows, excl}
 use Rattle.mp_cuts.specs.Pairs.{IsTileBetween, no_tile}
 use Rattle.mp_tiles.specs.Near.{bands_of}
 use Rattle.mp_tiles.proofs.SideLemmas.{piece_taken}
-use Rattle.mp_tiles.proofs.NearLemmas.{bands_count, band_is, band_between}
+use Rattle.mp_tiles.specs.NearLaws.{bands_count, band_is, band_between}
 use Rattle.mp_tiles.proofs.near.NearTilesKernel.run.Goals as goal
 
 pub tile-requires-clause-band : goal.tile-requires-clause-band

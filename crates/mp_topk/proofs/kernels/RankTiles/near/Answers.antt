@@ -1,6 +1,6 @@
 use Rattle.std.proofs.Common.{ap, arith}
 use Rattle.mp_tiles.specs.Pieces.{own_size}
-use Rattle.mp_topk.proofs.NearLemmas.{bands_count, bands_few}
+use Rattle.mp_tiles.specs.NearLaws.{bands_count, bands_few}
 use Rattle.mp_topk.proofs.kernels.RankTiles.near.Goals as goal
 
 pub returns-clause-few : goal.returns-clause-few

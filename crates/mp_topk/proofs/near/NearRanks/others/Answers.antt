@@ -21,4 +21,5 @@ returns-clause-together g c =
     c.self.view_is
     (near_and_others g.row.K plan.grid.rows.now plan.grid.m (excl plan.grid.m) w c.args.tile bands c.cut_own.result
     refl refl (omega arith) c.self.invariant.are_bands
-    (c.cut_own.ensures.tiles ∙ ap (λ count. own_tiles count bands.last c.args.tile) size))
+    (c.cut_own.ensures.tiles ∙ ap (λ count. own_tiles count c.last.result c.args.tile) size
+    ∙ ap (λ last. own_tiles w last c.args.tile) c.last.ensures))

@@ -1,5 +1,5 @@
 use Rattle.std.proofs.Common.{length, sym, ap, ◌∙◌}
-use Rattle.mp_topk.proofs.NearLemmas.{bands_count}
+use Rattle.mp_tiles.specs.NearLaws.{bands_count}
 use Rattle.mp_topk.proofs.near.NearRanksKernel.pieces.Goals as goal
 
 pub returns : goal.returns

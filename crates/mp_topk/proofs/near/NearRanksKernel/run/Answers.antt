@@ -3,9 +3,9 @@ use Rattle.std.specs.Int.{div_ceil}
 use Rattle.mp_defs.specs.Window.{windows, excl}
 use Rattle.mp_cuts.specs.Pairs.{IsTileBetween, no_tile}
 use Rattle.mp_tiles.specs.Pieces.{own_size}
-use Rattle.mp_topk.specs.Near.{bands_of}
+use Rattle.mp_tiles.specs.Near.{bands_of}
+use Rattle.mp_tiles.specs.NearLaws.{bands_count, band_is, band_between}
 use Rattle.mp_topk.proofs.Taken.{piece_taken}
-use Rattle.mp_topk.proofs.NearLemmas.{bands_count, band_is, band_between}
 use Rattle.mp_topk.proofs.near.NearRanksKernel.run.Goals as goal
 
 pub tile-requires-clause-band : goal.tile-requires-clause-band
