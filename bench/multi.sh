@@ -2,7 +2,8 @@
 # Milliseconds of the profile of several channels together at window 128, beside those of the profiles of each alone, by
 # one worker, each the least of three runs: three channels of 20,000 samples of electrocardiograms, of which one, two or
 # three are taken together for each pair, and eight. At last, what four workers reach of what four runs of one worker
-# reach at the same time. It takes some minutes, and needs the program: `rt run` in crates/multi_bench once.
+# reach at the same time, and the processor time of four workers beside that of one, all on one processor. It takes some
+# minutes, and needs the program: `rt run` in crates/multi_bench once.
 set -eu
 here="$(dirname "$0")"
 program="$here/../crates/multi_bench/out/multi_bench"
@@ -49,3 +50,24 @@ wait
 awk -v four="$four" '{ sum += $1 } END {
     printf "four workers: %.2f of four runs of one worker at the same time\n", sum / NR / 4 / four
 }' "$work/side"
+
+# the processor time of three runs, on the first processor
+seconds() {
+    (
+        for _ in 1 2 3; do
+            taskset -c 0 "$program" multi 128 "$1" "$2" "$3" < "$work/$2" > "$work/found"
+        done
+        times > "$work/times"
+    )
+    awk 'NR == 2 { split($1, own, "[ms]"); split($2, kernel, "[ms]")
+        print 60 * (own[1] + kernel[1]) + own[2] + kernel[2] }' "$work/times"
+}
+
+shared_work() {
+    awk -v one="$(seconds "$1" "$2" 1)" -v four="$(seconds "$1" "$2" 4)" -v k="$1" -v channels="$2" 'BEGIN {
+        printf "%d of %d channels: four workers together have %.2f times the work of one\n", k, channels, four / one
+    }'
+}
+
+shared_work 2 3
+shared_work 4 8

@@ -7,6 +7,7 @@ pub mod ChannelLemmas
 pub mod ColumnLemmas
 pub mod ScanLemmas
 pub mod TileLaws
+pub mod NearLemmas
 pub mod PairScans
 pub mod BlockPairs
 pub mod LimitLemmas
@@ -14,7 +15,10 @@ pub mod RunLemmas
 pub mod ExactLemmas
 pub mod GroupLemmas
 pub mod PieceLemmas
+pub mod FourLemmas
+pub mod LeastPairs
 pub mod LaneCounts
+pub mod Selections
 pub mod LowestLanes
 pub mod GreatestLanes
 pub mod LaneLaws

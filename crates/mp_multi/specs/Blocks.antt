@@ -33,12 +33,14 @@ channels_of plan = map series_of plan.channels.list.now
 -- ---- what is offered
 
 -- slots that these pairs of windows were offered to
-pub record IsScan (m k : ℕ) (channels : List (List Sample)) (pairs : ℕ → ℕ → Bool) (old new : Listed (Option Near))
+pub record IsScan (m k : ℕ) (channels : List (List Sample)) (pairs : ℕ → ℕ → Bool)
+    (old new : Listed (Option Near))
     : Type 0 where
   pub items : TakesAmong pairs m k channels old.items new.items
   pub spare : new.spare ≡ old.spare
 
-abbrev pub AreScannedBy : MultiPlan → (ℕ → ℕ → Bool) → Listed (Option Near) → Listed (Option Near) → Type 0
+abbrev pub AreScannedBy : MultiPlan → (ℕ → ℕ → Bool) → Listed (Option Near) → Listed (Option Near)
+    → Type 0
 AreScannedBy plan pairs old new = IsScan plan.channels.m plan.channels.k plan.channels.list.now pairs old new
 
 abbrev pub AreScannedIn : Block → (ℕ → ℕ → Bool) → Listed (Option Near) → Listed (Option Near) → Type 0

@@ -28,7 +28,8 @@ pub record AreLanesIn (m shift : ℕ) (a : Series) (i j : ℕ) (residues : List 
   pub each : (t : ℕ) → t < LANES → item residues t ≡ rounded_residue m shift a i a (j + t)
 
 -- the same of each channel
-pub record AreChannelResidues (m shift : ℕ) (channels : List Series) (i j : ℕ) (residues : List (List ℤ)) : Type 0 where
+pub record AreChannelResidues (m shift : ℕ) (channels : List Series) (i j : ℕ)
+    (residues : List (List ℤ)) : Type 0 where
   pub count : length residues ≡ length channels
   pub each : (c : ℕ) → c < length residues
       → AreLanesIn m shift (channel_at channels c) i j (slice_index_or residues c [])
@@ -41,7 +42,8 @@ pub record AreFloors (m : ℕ) (channels : List Series) (i j : ℕ) (floors : Li
       → (item floors c ≡ negsuc 2147483646) ⊎ (distance_in m channels i (j + t) c ≡ None)
 
 -- of the windows from first on whichever has a lane above the limit gives window i's slot nothing
-pub record IsSlotLimit (m k shift : ℕ) (channels : List Series) (slot : Option Near) (i first : ℕ) (limit : ℤ) : Type 0
+pub record IsSlotLimit (m k shift : ℕ) (channels : List Series) (slot : Option Near) (i first : ℕ)
+    (limit : ℤ) : Type 0
   where
     pub fits : FitsSigned w32 limit
     pub above : (j v : ℕ) (lane : ℤ) → first ≤ j → IsLane m k shift channels i j lane

@@ -7,6 +7,8 @@ pub mod Tiles
 pub mod Tiling
 pub mod TilingLaws
 pub mod Laws
+pub mod Fours
+pub mod Pairing
 pub mod LaneSums
 pub mod Lanes
 pub mod Moving

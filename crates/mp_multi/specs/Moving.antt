@@ -22,6 +22,7 @@ pub record IsMoved (m : ℕ) (x : ℕ → ℤ) (row column : ℕ) (moves : Moves
   pub columns : AreChanges m x column moves.column_differences moves.column_sums
 
 -- the same of each channel
-pub record AreMoved (m shift : ℕ) (channels : List (List Sample)) (row column : ℕ) (moves : List Moves) : Type 0 where
+pub record AreMoved (m shift : ℕ) (channels : List (List Sample)) (row column : ℕ)
+    (moves : List Moves) : Type 0 where
   pub each : (n : ℕ) (past : Moves) → n < length moves
       → IsMoved m (channel_numbers shift channels n) row column (slice_index_or moves n past)

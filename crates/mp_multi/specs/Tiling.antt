@@ -6,6 +6,8 @@ use Rattle.mp_defs.specs.Window.{windows, excl}
 use Rattle.mp_partial.specs.Values.{Value, merged_columns, empty_columns, merged_below}
 use Rattle.mp_cuts.specs.declared.cuts.Tile.{Tile}
 use Rattle.mp_cuts.specs.Pairs.{IsTileBetween}
+use Rattle.mp_tiles.specs.declared.near.Bands.{Bands}
+use Rattle.mp_tiles.specs.Near.{IsBands}
 use Rattle.mp_multi.specs.Conditions.{AreChannels}
 use Rattle.mp_multi.specs.Tiles.{tile_value}
 
@@ -26,6 +28,12 @@ pub record IsMultiTiling (number : ℕ) (multi : MultiTiling) : Type 0 where
   pub count : length multi.channels ≡ number
   pub each : All (IsTileBetween (excl multi.m + 1) (window_count multi.m multi.channels)
       (window_count multi.m multi.channels)) multi.tiles
+
+-- what the bands of the windows that start close together keep to, of so many channels
+pub record IsNearTiling (number : ℕ) (list : List (List Sample)) (m k : ℕ) (bands : Bands) : Type 0 where
+  pub channels : AreChannels list m k
+  pub count : length list ≡ number
+  pub are_bands : IsBands (excl m + 1) (window_count m list) bands
 
 -- the number of windows
 abbrev pub multi_size : MultiTiling → ℕ

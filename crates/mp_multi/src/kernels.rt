@@ -7,19 +7,21 @@ ghost use Rattle.mp_results.specs.Multi.{multi_of};
 ghost use Rattle.mp_multi.specs.Conditions.{AreChannels};
 
 use crate::fast::scan_fast;
+use crate::near::NearMulti;
 use mp_cuts::{Cut, MAX_TILE, MAX_TILES, cut_own};
 use mp_nums::Slots;
 use mp_partial::Kernel;
 use mp_series::{Bundle, excl, windows};
+use mp_tiles::Bands;
 use std::marker::Model;
 
 /// The tiles of `D` channels as the pieces of a kernel, whose values together are the multidimensional profile.
 #[derive(Drop)]
 pub(crate) struct MultiTiles<'a, const D: usize> {
-    channels: &'a Bundle,
-    m: u32,
-    k: u64,
-    cut: Cut,
+    pub(crate) channels: &'a Bundle,
+    pub(crate) m: u32,
+    pub(crate) k: u64,
+    pub(crate) cut: Cut,
 }
 
 impl<'a, const D: usize> Model for MultiTiles<'a, D> {
@@ -45,6 +47,8 @@ impl<'a, const D: usize> MultiTiles<'a, D> {
         requires least { 1 ≤ tile }
         requires greatest { tile ≤ MAX_TILE }
         ensures channels { result.channels ≡ channels.now }
+        ensures m { result.m ≡ m }
+        ensures k { result.k ≡ k }
         ensures few { length result.tiles ≤ MAX_TILES }
         ensures together { multi_together result ≡ multi_of m k (map series_of channels.now) ∷ [] }
     {
@@ -54,6 +58,24 @@ impl<'a, const D: usize> MultiTiles<'a, D> {
             m,
             k,
             cut: cut_own(count, excl(m), tile),
+        }
+    }
+
+    /// The tiles of the windows that start close together, outside the exclusion zone, in so many bands of rows. It
+    /// takes no memory.
+    pub(crate) fn near(&self, bands: u32) -> NearMulti<'a, D>
+        requires some { 1 ≤ bands }
+        ensures channels { result.channels ≡ self.now.channels }
+        ensures m { result.m ≡ self.now.m }
+        ensures k { result.k ≡ self.now.k }
+        ensures few { length result.tiles ≤ MAX_TILES }
+    {
+        let windows = self.size();
+        NearMulti {
+            channels: self.channels,
+            m: self.m,
+            k: self.k,
+            bands: Bands::of(windows, excl(self.m), bands),
         }
     }
 }

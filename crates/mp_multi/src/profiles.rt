@@ -13,38 +13,37 @@ use mp_nums::{Memory, Slots};
 use mp_outside::Gate;
 use mp_partial::{Kernel, MAX_WORKERS};
 use mp_series::{Bundle, MAX_SAMPLES, MAX_WINDOW, MIN_WINDOW};
-use mp_workers::run_all;
+use mp_workers::{run_all, run_one_after_another, workers_for};
 use std::alloc::Global;
 use std::thread::Threads;
 
-/// For how many pairs of windows a worker is started. Fewer pairs take less time than the start of a thread.
-const PAIRS_FOR_A_WORKER: u64 = 16_384;
-
-/// How many of the workers the pairs of so many windows are worth, at least one.
-fn worth(windows: u64, workers: u32) -> u32
-    requires { 1 ≤ workers }
-    ensures some { 1 ≤ result }
-    ensures within { result ≤ workers }
-{
-    let pairs = windows.saturating_mul(windows) / 2;
-    (pairs / PAIRS_FOR_A_WORKER).clamp(1, u64::from(workers)) as u32
-}
-
-/// What the tiles have together, run by so many workers. Short channels are left to fewer.
+/// What the tiles have together, run by so many workers. Short channels are left to fewer. Several workers compare near
+/// windows first, since what these give lets most of the others be passed over, and each begins the tiles of the
+/// others, of at most `tile` diagonals, with what all of them found. There is a band of near windows for each worker.
 fn run_tiles<R: Threads + Sync, G: Gate, const D: usize>(
     rt: &R,
     alloc: Global,
     tiles: &MultiTiles<D>,
+    tile: u32,
     workers: u32,
     gate: &G,
 ) -> Result<Slots, Memory>
     requires few { length tiles.now.tiles ≤ MAX_TILES }
+    requires least { 1 ≤ tile }
+    requires greatest { tile ≤ MAX_TILE }
     requires some { 1 ≤ workers }
     requires workers { workers ≤ MAX_WORKERS }
+    requires together { multi_together tiles.now
+        ≡ multi_of tiles.now.m tiles.now.k (map series_of tiles.now.channels) ∷ [] }
     ensures { IfOk result (λ slots. slots.items ∷ [] ≡ multi_together tiles.now) }
 {
-    let workers = worth(tiles.size(), workers);
-    run_all(rt, alloc, tiles, tiles.pieces(), workers, gate)
+    let windows = tiles.size();
+    let workers = workers_for(windows.saturating_mul(windows) / 2, workers);
+    if workers == 1 {
+        return run_all(rt, alloc, tiles, tiles.pieces(), workers, gate);
+    }
+    let near = tiles.near(workers);
+    run_one_after_another(rt, alloc, &near, &near.others(tile), workers, gate)
 }
 
 /// The multidimensional profile of channels at window length `m`: for each window the nearest one outside its exclusion
@@ -84,8 +83,10 @@ pub fn multi<R: Threads + Sync, G: Gate>(
     macro_rules! by_count {
         ($($count:literal)*) => {
             match channels.count() {
-                $($count => run_tiles(rt, alloc, &MultiTiles::<$count>::new(channels, m, k, tile), workers, gate),)*
-                _ => run_tiles(rt, alloc, &MultiTiles::<8>::new(channels, m, k, tile), workers, gate),
+                $($count => run_tiles(
+                    rt, alloc, &MultiTiles::<$count>::new(channels, m, k, tile), tile, workers, gate,
+                ),)*
+                _ => run_tiles(rt, alloc, &MultiTiles::<8>::new(channels, m, k, tile), tile, workers, gate),
             }
         };
     }

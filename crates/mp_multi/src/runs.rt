@@ -5,11 +5,9 @@ ghost use Rattle.mp_defs.specs.Series.{series_of};
 ghost use Rattle.mp_sums.specs.Residues.{item};
 ghost use Rattle.mp_scans.specs.Lanes.{AreLanes};
 ghost use Rattle.mp_scans.specs.declared.vectors.TheConstants.{LANES};
-ghost use Rattle.mp_multi.specs.LaneSums.{AreRaised};
 ghost use Rattle.mp_multi.specs.Lanes.{IsLane, AreChannelResidues};
 ghost use Rattle.mp_multi.specs.Blocks.{IsChannelAt, AreResiduesAt, AreAbove, AreLimitsAt, AreFit};
 ghost use Rattle.mp_multi.specs.Blocks.{in_strip, AreScannedIn};
-ghost use Rattle.mp_multi.specs.declared.limits.TheConstants.{PLACES};
 ghost use Rattle.mp_multi.specs.declared.sizes.TheConstants.{WIDE};
 
 use crate::blocks::{Block, Known, Strip};
@@ -56,19 +54,12 @@ pub(crate) fn advance(block: &Block, p: usize, c: usize, residues: &mut [[i32; L
     }
 }
 
-/// The lanes of a window and of thirty-two others, from their residues in each channel. The numbers are places for
-/// those that are the least so far.
+/// The lanes of a window and of thirty-two others, from their residues in each channel.
 #[inline(always)]
-pub(crate) fn lanes_of(
-    plan: &MultiPlan,
-    residues: &[[i32; LANES]],
-    numbers: &mut [[i32; LANES]],
-) -> i32x32
+pub(crate) fn lanes_of<const D: usize>(plan: &MultiPlan, residues: &[[i32; LANES]]) -> i32x32
+    requires count { length residues.now ≡ D }
     requires channels { length residues.now ≡ length plan.now.channels.list.now }
     requires residues { All AreLanes residues.now }
-    requires places { length numbers.old ≡ PLACES }
-    requires numbers { All AreRaised numbers.old }
-    ensures numbers { All AreRaised numbers.new }
     ensures lanes { AreLanes result }
     ensures each { (i j t : ℕ) → t < LANES
         → AreChannelResidues plan.now.channels.m plan.now.shift (map series_of plan.now.channels.list.now) i j
@@ -88,7 +79,7 @@ pub(crate) fn lanes_of(
     if k + 1 == residues.len() {
         return lower_lanes(residues, floors);
     }
-    least_lanes(residues, floors, k, numbers)
+    least_lanes::<D>(residues, k)
 }
 
 /// Goes on from one row to the first in which a lane is within the limit of the row or that of its column, and no
@@ -114,10 +105,9 @@ fn run<const D: usize>(
     let strip = *strip;
     let mut next = [[0; LANES]; D];
     next.copy_from_slice(residues);
-    let mut numbers = [[ZERO; LANES]; PLACES];
     for q in from..strip.end {
         let c = q + strip.offset;
-        let lanes = lanes_of(&strip.block.plan, &next, &mut numbers);
+        let lanes = lanes_of::<D>(&strip.block.plan, &next);
         if is_within(&lanes, &known.rows[q], &known.columns[c..c + LANES]) {
             residues.copy_from_slice(&next);
             return q;

@@ -4,13 +4,11 @@ ghost use Rattle.std.specs.Prelude.{◌≡◌, ℕ, ◌+◌, ◌<◌, ◌≤◌,
 ghost use Rattle.mp_multi.specs.Blocks.{AreResiduesAt, AreKeptIn, AreLimitsAt, AreScannedIn, in_strip};
 
 use crate::blocks::{Known, Strip};
-use crate::limits::PLACES;
 use crate::pairs::take_row;
 use crate::running::Running;
 use crate::runs::{advance, lanes_of, pass_over};
 use mp_nums::Slots;
 use mp_scans::LANES;
-use mp_sums::ZERO;
 
 /// Takes a row, and moves the residues on to the next.
 fn take_lanes<const D: usize>(
@@ -33,8 +31,7 @@ fn take_lanes<const D: usize>(
     ensures kept { AreKeptIn strip.now.block known.new.kept running.new }
     ensures scanned { AreScannedIn strip.now.block (in_strip strip.now p (p + 1)) into.old into.new }
 {
-    let mut numbers = [[ZERO; LANES]; PLACES];
-    let lanes = lanes_of(&strip.block.plan, residues, &mut numbers);
+    let lanes = lanes_of::<D>(&strip.block.plan, residues);
     take_row::<D>(strip, p, &lanes, known, running, into);
     advance(&strip.block, p, p + strip.offset, residues);
 }

@@ -6,7 +6,7 @@ use crate::plain::entry;
 use mp_cuts::{MAX_TILE, cut_own};
 use mp_multi::{MAX_CHANNELS, multi, scan_multi};
 use mp_nums::{Memory, Slots};
-use mp_outside::OpenGate;
+use mp_outside::{MeetGate, OpenGate};
 use mp_partial::Part;
 use mp_series::{Bundle, MAX_SAMPLES, excl, windows};
 use std::alloc::Global;
@@ -137,6 +137,42 @@ fn expect_tied<R: Abort + AllocGlobal + Threads + Sync, const D: usize>(
 #[test]
 fn channels_have_the_profile_of_the_plain_loop(rt: HostRuntime) -> Result<(), Fail> {
     for_each_count!(expect_tied, &rt, 24, 1);
+    Ok(())
+}
+
+/// Expects of `D` channels that are long enough for several workers what the tiles give one after another.
+fn expect_workers<R: Abort + AllocGlobal + Threads + Sync, const D: usize>(
+    rt: &R,
+    k: u64,
+) -> Result<(), Fail>
+    requires some { 1 ≤ D }
+    requires few { D ≤ MAX_CHANNELS }
+    requires positive { 1 ≤ k }
+    requires present { k ≤ D }
+{
+    let channels = tied(rt.alloc(), D as u64, 1_500, 1_000, 4)?;
+    let scanned = scanned::<D>(rt.alloc(), &channels, k, 64)?;
+    for workers in [1, 2, 3, 32] {
+        let found = multi(rt, rt.alloc(), &channels, 3, k, 64, workers, &OpenGate)?;
+        assert_eq!(rt; found.as_slice(), scanned.as_slice());
+    }
+    Ok(())
+}
+
+#[test]
+fn several_workers(rt: HostRuntime) -> Result<(), Fail> {
+    expect_workers::<_, 1>(&rt, 1)?;
+    expect_workers::<_, 3>(&rt, 2)?;
+    expect_workers::<_, 8>(&rt, 8)
+}
+
+#[test]
+fn two_workers_of_channels_meet(rt: HostRuntime) -> Result<(), Fail> {
+    let channels = tied(rt.alloc(), 2, 1_500, 1_000, 5)?;
+    let gate = MeetGate::new();
+    let found = multi(&rt, rt.alloc(), &channels, 3, 1, 64, 2, &gate)?;
+    assert!(rt; gate.met());
+    assert_eq!(rt; found.as_slice().len(), 1_498);
     Ok(())
 }
 

@@ -1,6 +1,6 @@
-use Rattle.std.proofs.Common.{◌+◌, ◌-◌, refl, sym, arith, subst}
+use Rattle.std.proofs.Common.{◌+◌, ◌-◌, sym, arith, subst}
 use Rattle.mp_multi.specs.Blocks.{channels_of, AreResiduesAt}
-use Rattle.mp_multi.proofs.LaneCounts.{handed_on, handed_item, zeros_raised}
+use Rattle.mp_multi.proofs.LaneCounts.{handed_on, handed_item}
 use Rattle.mp_multi.proofs.RunLemmas.{above_none, above_more, lane_as, residues_as}
 use Rattle.mp_multi.proofs.runs.run.Goals as goal
 
@@ -10,8 +10,6 @@ loop-q-init g c =
     let at = c.args.from + c.args.strip.now.offset in
     record {
       residues = subst (AreResiduesAt b c.args.from at) (sym c.copy_from_slice.ensures.after) c.requires.residues;
-      numbers = zeros_raised _ refl;
-      places = refl;
       above = above_none c.args.strip.now c.args.known.now c.args.from;
     }
 
@@ -28,8 +26,6 @@ loop-q-preserved g c =
     let i = b.row + q in
     let j = b.column + (q + o) in
     record {
-      numbers = lanes.numbers;
-      places = omega (arith, c.loop-q.invariant.places);
       residues = residues_as b (q + 1) (q + o + 1) (q + 1 + o) _ (omega arith) c.advance.ensures;
       above = above_more strip c.args.known.now c.args.from q (q + o + 32 - (q + o)) _ (omega arith)
           c.loop-q.invariant.above

@@ -1,11 +1,8 @@
-use Rattle.std.proofs.Common.{◌+◌, refl, List, ℤ, map, to_z, of_z, w32, sym, arith, rules}
+use Rattle.std.proofs.Common.{◌+◌, List, ℤ, map, to_z, of_z, w32, sym, arith, rules}
 use Rattle.mp_multi.specs.Blocks.{channels_of, IsRowOf}
-use Rattle.mp_multi.proofs.LaneCounts.{handed_on, handed_item, zeros_raised}
+use Rattle.mp_multi.proofs.LaneCounts.{handed_on, handed_item}
 use Rattle.mp_multi.proofs.RunLemmas.{all_lanes, lane_as, residues_as}
 use Rattle.mp_multi.proofs.strips.take_lanes.Goals as goal
-
-pub lanes_of-lanes-requires-clause-numbers : goal.lanes_of-lanes-requires-clause-numbers
-lanes_of-lanes-requires-clause-numbers g c = zeros_raised _ refl
 
 pub lanes_of-lanes-requires-clause-residues : goal.lanes_of-lanes-requires-clause-residues
 lanes_of-lanes-requires-clause-residues g c = all_lanes _ _ _ _ _ _ c.requires.residues
