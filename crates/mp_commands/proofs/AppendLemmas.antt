@@ -12,6 +12,7 @@ use Rattle.std.proofs.lemmas.List.FromFn.{fill_by_all, length-map-range_with_len
 use Rattle.std.proofs.lemmas.List.Splits.{length-slice_split}
 use Rattle.std.proofs.lemmas.List.Sums.{count_by-le-length}
 use Rattle.std.proofs.lemmas.Simd.{map-map}
+use Rattle.mp_nums.specs.declared.widths.Width.{Width}
 use Rattle.mp_bytes.specs.Values.{is_comma, values_in}
 use Rattle.mp_defs.specs.Limits.{max_samples}
 use Rattle.mp_defs.specs.Series.{Series, reading_of, series_of}
@@ -43,8 +44,8 @@ use Rattle.mp_commands.proofs.StepLemmas.{prepared_accepted}
 -- ---- the values of one item
 
 -- so many values were gone over, each spells a sample, and the others are left
-pub record AreSpelled (scale : ℕ) (all left : List (List ℕ)) (count : ℕ) : Type 0 where
-  pub same : is_ok (samples_of scale all) ≡ is_ok (samples_of scale left)
+pub record AreSpelled (width : Width) (scale : ℕ) (all left : List (List ℕ)) (count : ℕ) : Type 0 where
+  pub same : is_ok (samples_of width scale all) ≡ is_ok (samples_of width scale left)
   pub counted : count + length left ≡ length all
 
 -- an item has one value more than commas
@@ -54,19 +55,19 @@ values_within item = omega (arith, length-slice_split is_comma item, count_by-le
 -- ---- the items of a line
 
 -- so many items were gone over, each is good, and the others are left
-pub record AreGood (scale channels : ℕ) (all left : List (List ℕ)) (count : ℕ) : Type 0 where
-  pub same : bad_in (read_items scale channels all) ≡ bad_in (items_of scale channels (count + 1) left)
+pub record AreGood (width : Width) (scale channels : ℕ) (all left : List (List ℕ)) (count : ℕ) : Type 0 where
+  pub same : bad_in (read_items width scale channels all) ≡ bad_in (items_of width scale channels (count + 1) left)
   pub counted : count + length left ≡ length all
 
 -- ---- the samples of the items
 
 -- Some of the items were read, each of which is good, and the others are left. The series are the columns of the rows.
-pub record AreRead (scale channels : ℕ) (all left : List (List ℕ)) (series : List Series) : Type 0 where
+pub record AreRead (width : Width) (scale channels : ℕ) (all left : List (List ℕ)) (series : List Series) : Type 0 where
   pub number : ℕ
   pub done : List Row
   pub rest : List Row
-  pub left_are : items_of scale channels number left ≡ Ok rest
-  pub all_are : rows_in (read_items scale channels all) ≡ done ++ rest
+  pub left_are : items_of width scale channels number left ≡ Ok rest
+  pub all_are : rows_in (read_items width scale channels all) ≡ done ++ rest
   pub series_are : series ≡ columns_of channels done
 
 pub rows_of_good : (r : Result (List Row) ℕ) → bad_in r ≡ None → r ≡ Ok (rows_in r)
@@ -94,10 +95,10 @@ item_good_by a b true (Ok got) row h = h
 item_good_by a b fits r row h = absurd (cc h)
 
 -- the number of a good item doesn't matter
-renumbered : (scale channels a b : ℕ) (item : List ℕ) (row : Row) → item_of scale channels a item ≡ Ok row
-    → item_of scale channels b item ≡ Ok row
-renumbered scale channels a b item row h =
-    item_good_by a b (length (values_in item) == channels) (samples_of scale (values_in item)) row h
+renumbered : (width : Width) (scale channels a b : ℕ) (item : List ℕ) (row : Row) → item_of width scale channels a item ≡ Ok row
+    → item_of width scale channels b item ≡ Ok row
+renumbered width scale channels a b item row h =
+    item_good_by a b (length (values_in item) == channels) (samples_of width scale (values_in item)) row h
 
 columns_more : (rows : List Row) (row : Row) (ks : List ℕ)
     → extended (map (column_at rows) ks) (map (column_at (row ∷ [])) ks) ≡ map (column_at (rows ++ row ∷ [])) ks
@@ -108,22 +109,22 @@ columns_more rows row (k ∷ ks) =
     ∙ ap (λ (columns : List Series). column_at (rows ++ row ∷ []) k ∷ columns) (columns_more rows row ks)
 
 -- the next item was read
-module _ {scale channels : ℕ} {all : List (List ℕ)} {item : List ℕ} {left others : List (List ℕ)} {series : List Series}
-    (read : AreRead scale channels all left series) (is : left ≡ item ∷ others) where
-  next_item : AreJoined (item_of scale channels read.number item) (items_of scale channels (read.number + 1) others)
+module _ {width : Width} {scale channels : ℕ} {all : List (List ℕ)} {item : List ℕ} {left others : List (List ℕ)} {series : List Series}
+    (read : AreRead width scale channels all left series) (is : left ≡ item ∷ others) where
+  next_item : AreJoined (item_of width scale channels read.number item) (items_of width scale channels (read.number + 1) others)
       read.rest
-  next_item = joined_by _ _ read.rest (sym (ap (items_of scale channels read.number) is) ∙ read.left_are)
+  next_item = joined_by _ _ read.rest (sym (ap (items_of width scale channels read.number) is) ∙ read.left_are)
 
-  next_row : item_of scale channels 0 item ≡ Ok next_item.first
-  next_row = renumbered scale channels read.number 0 item next_item.first next_item.first_is
+  next_row : item_of width scale channels 0 item ≡ Ok next_item.first
+  next_row = renumbered width scale channels read.number 0 item next_item.first next_item.first_is
 
-  pub next_good : is_ok (item_of scale channels 0 item) ≡ true
+  pub next_good : is_ok (item_of width scale channels 0 item) ≡ true
   next_good = ap is_ok next_row
 
   pub read_more : {grown : List Series}
-      → ((row : Row) → item_of scale channels 0 item ≡ Ok row
+      → ((row : Row) → item_of width scale channels 0 item ≡ Ok row
       → grown ≡ extended series (columns_of channels (row ∷ [])))
-      → AreRead scale channels all others grown
+      → AreRead width scale channels all others grown
   read_more more = record {
     number = read.number + 1;
     done = read.done ++ next_item.first ∷ [];
@@ -138,9 +139,9 @@ module _ {scale channels : ℕ} {all : List (List ℕ)} {item : List ℕ} {left 
         ∙ columns_more read.done next_item.first (range_with_len 0 channels));
   }
 
-nothing_left : (scale channels number : ℕ) (rest : List Row) → items_of scale channels number [] ≡ Ok rest → rest ≡ []
-nothing_left scale channels number [] h = refl
-nothing_left scale channels number (row ∷ rest) h = absurd (cc h)
+nothing_left : (width : Width) (scale channels number : ℕ) (rest : List Row) → items_of width scale channels number [] ≡ Ok rest → rest ≡ []
+nothing_left width scale channels number [] h = refl
+nothing_left width scale channels number (row ∷ rest) h = absurd (cc h)
 
 -- ---- the samples of one item
 
@@ -167,11 +168,11 @@ spread_none (suc k) [] = refl
 spread_none (suc k) (samples ∷ series) = ap (λ (others : List Series). samples ∷ others) (spread_none k series)
 
 -- The samples of an item are put behind the lists before the k-th, and the values for the other lists are left.
-pub record AreSpread (scale : ℕ) (all left : List (List ℕ)) (k : ℕ) (before series : List Series) : Type 0 where
+pub record AreSpread (width : Width) (scale : ℕ) (all left : List (List ℕ)) (k : ℕ) (before series : List Series) : Type 0 where
   pub row : Row
   pub rest : Row
-  pub all_are : samples_of scale all ≡ Ok row
-  pub left_are : samples_of scale left ≡ Ok rest
+  pub all_are : samples_of width scale all ≡ Ok row
+  pub left_are : samples_of width scale left ≡ Ok rest
   pub grown : spread k series rest ≡ spread 0 before row
 
 -- what is spelled is read
@@ -181,17 +182,17 @@ ok_by_spelling (Ok sample) spelled x is faulty = refl
 ok_by_spelling (Err fault) spelled x is faulty = absurd (cc (sym faulty ∙ is))
 
 -- the next value spells a sample
-module _ {scale : ℕ} {all : List (List ℕ)} {value : List ℕ} {left others : List (List ℕ)} {k : ℕ}
-    {before series : List Series} (s : AreSpread scale all left k before series) (is : left ≡ value ∷ others) where
-  next_spelled : AreJoined (value_of scale value) (samples_of scale others) s.rest
-  next_spelled = joined_by _ _ s.rest (sym (ap (samples_of scale) is) ∙ s.left_are)
+module _ {width : Width} {scale : ℕ} {all : List (List ℕ)} {value : List ℕ} {left others : List (List ℕ)} {k : ℕ}
+    {before series : List Series} (s : AreSpread width scale all left k before series) (is : left ≡ value ∷ others) where
+  next_spelled : AreJoined (value_of width scale value) (samples_of width scale others) s.rest
+  next_spelled = joined_by _ _ s.rest (sym (ap (samples_of width scale) is) ∙ s.left_are)
 
-  pub next_read : (r : Result Sample SampleFault) → IfErr r (λ fault. value_of scale value ≡ Err fault) → IsOk r
-  next_read r faulty = ok_by_spelling r (value_of scale value) next_spelled.first next_spelled.first_is faulty
+  pub next_read : (r : Result Sample SampleFault) → IfErr r (λ fault. value_of width scale value ≡ Err fault) → IsOk r
+  next_read r faulty = ok_by_spelling r (value_of width scale value) next_spelled.first next_spelled.first_is faulty
 
   pub spread_more : {at next : ℕ} {grown : List Series} (sample : Option ℤ) → at ≡ k → next ≡ k + 1
-      → value_of scale value ≡ Ok sample → grown ≡ set series at (get_or series at [] ++ sample ∷ [])
-      → AreSpread scale all others next before grown
+      → value_of width scale value ≡ Ok sample → grown ≡ set series at (get_or series at [] ++ sample ∷ [])
+      → AreSpread width scale all others next before grown
   spread_more {next = next} {grown = grown} sample here more read pushed =
       let joined = next_spelled in
       let first : Ok joined.first ≡ Ok sample = sym joined.first_is ∙ read in
@@ -231,26 +232,26 @@ row_spelled : (number : ℕ) (fits : Bool) (r : Result Row SampleFault) (row : R
 row_spelled number true (Ok other) row h = cc
 row_spelled number fits r row h = absurd (cc h)
 
-item_spelled : (scale channels number : ℕ) (item : List ℕ) (row : Row) → item_of scale channels number item ≡ Ok row
-    → samples_of scale (values_in item) ≡ Ok row
-item_spelled scale channels number item row h =
-    row_spelled number (length (values_in item) == channels) (samples_of scale (values_in item)) row h
+item_spelled : (width : Width) (scale channels number : ℕ) (item : List ℕ) (row : Row) → item_of width scale channels number item ≡ Ok row
+    → samples_of width scale (values_in item) ≡ Ok row
+item_spelled width scale channels number item row h =
+    row_spelled number (length (values_in item) == channels) (samples_of width scale (values_in item)) row h
 
 good_row : (r : Result Row ℕ) → is_ok r ≡ true → (row : Row) × (r ≡ Ok row)
 good_row (Ok row) h = (row, refl)
 good_row (Err bad) h = absurd (cc h)
 
-pub spread_begun : (scale channels k : ℕ) (item : List ℕ) (left : List (List ℕ)) (before : List Series)
-    → is_ok (item_of scale channels 0 item) ≡ true → left ≡ values_in item → k ≡ 0
-    → AreSpread scale (values_in item) left k before before
-spread_begun scale channels k item left before good is first =
-    let row = good_row (item_of scale channels 0 item) good in
-    let spelled = item_spelled scale channels 0 item row.0 row.1 in
+pub spread_begun : (width : Width) (scale channels k : ℕ) (item : List ℕ) (left : List (List ℕ)) (before : List Series)
+    → is_ok (item_of width scale channels 0 item) ≡ true → left ≡ values_in item → k ≡ 0
+    → AreSpread width scale (values_in item) left k before before
+spread_begun width scale channels k item left before good is first =
+    let row = good_row (item_of width scale channels 0 item) good in
+    let spelled = item_spelled width scale channels 0 item row.0 row.1 in
     record {
       row = row.0;
       rest = row.0;
       all_are = spelled;
-      left_are = ap (samples_of scale) is ∙ spelled;
+      left_are = ap (samples_of width scale) is ∙ spelled;
       grown = ap (λ (n : ℕ). spread n before row.0) first;
     }
 
@@ -260,24 +261,24 @@ fits_by a b number true r row is h = grind (arith, nat_tests)
 fits_by a b number false r row is h = absurd (cc h)
 
 -- a good item has a value for each channel
-item_fits : (scale channels : ℕ) (item : List ℕ) (row : Row) → item_of scale channels 0 item ≡ Ok row
+item_fits : (width : Width) (scale channels : ℕ) (item : List ℕ) (row : Row) → item_of width scale channels 0 item ≡ Ok row
     → length (values_in item) ≡ channels
-item_fits scale channels item row h =
+item_fits width scale channels item row h =
     fits_by (length (values_in item)) channels 0 (length (values_in item) == channels)
-    (samples_of scale (values_in item)) row refl h
+    (samples_of width scale (values_in item)) row refl h
 
-pub good_fits : (scale channels : ℕ) (item : List ℕ) → is_ok (item_of scale channels 0 item) ≡ true
+pub good_fits : (width : Width) (scale channels : ℕ) (item : List ℕ) → is_ok (item_of width scale channels 0 item) ≡ true
     → length (values_in item) ≡ channels
-good_fits scale channels item good =
-    let row = good_row (item_of scale channels 0 item) good in item_fits scale channels item row.0 row.1
+good_fits width scale channels item good =
+    let row = good_row (item_of width scale channels 0 item) good in item_fits width scale channels item row.0 row.1
 
-row_long : (scale : ℕ) (values : List (List ℕ)) (row : Row) → samples_of scale values ≡ Ok row
+row_long : (width : Width) (scale : ℕ) (values : List (List ℕ)) (row : Row) → samples_of width scale values ≡ Ok row
     → length row ≡ length values
-row_long scale [] [] h = refl
-row_long scale [] (sample ∷ row) h = absurd (cc h)
-row_long scale (value ∷ values) row h =
-    let joined = joined_by (value_of scale value) (samples_of scale values) row h in
-    let others = row_long scale values joined.rest joined.rest_are in
+row_long width scale [] [] h = refl
+row_long width scale [] (sample ∷ row) h = absurd (cc h)
+row_long width scale (value ∷ values) row h =
+    let joined = joined_by (value_of width scale value) (samples_of width scale values) row h in
+    let others = row_long width scale values joined.rest joined.rest_are in
     omega (arith, ap length joined.whole, others)
 
 -- a row is cut into columns of one sample
@@ -288,17 +289,17 @@ row_columns channels row long =
     fill_by_all (column_at (row ∷ [])) (map single row) channels [] (length-map row single ∙ long)
     (λ k within. get_or-map single row k None [] (omega (arith, long, within)))
 
-pub spread_all : (scale channels k : ℕ) (item : List ℕ) (left : List (List ℕ)) (before series : List Series) (row : Row)
-    → AreSpread scale (values_in item) left k before series → left ≡ [] → item_of scale channels 0 item ≡ Ok row
+pub spread_all : (width : Width) (scale channels k : ℕ) (item : List ℕ) (left : List (List ℕ)) (before series : List Series) (row : Row)
+    → AreSpread width scale (values_in item) left k before series → left ≡ [] → item_of width scale channels 0 item ≡ Ok row
     → series ≡ extended before (columns_of channels (row ∷ []))
 unfolding spread
-spread_all scale channels k item left before series row s is good =
-    let spelled = item_spelled scale channels 0 item row good in
-    let ends : Ok [] ≡ Ok s.rest = sym (ap (samples_of scale) is) ∙ s.left_are in
+spread_all width scale channels k item left before series row s is good =
+    let spelled = item_spelled width scale channels 0 item row good in
+    let ends : Ok [] ≡ Ok s.rest = sym (ap (samples_of width scale) is) ∙ s.left_are in
     let whole : Ok s.row ≡ Ok row = sym s.all_are ∙ spelled in
     let none : s.rest ≡ [] = cc in
     let same : s.row ≡ row = cc in
-    let long = row_long scale (values_in item) row spelled ∙ item_fits scale channels item row good in
+    let long = row_long width scale (values_in item) row spelled ∙ item_fits width scale channels item row good in
     sym (spread_none k series)
     ∙ (ap (spread k series) (sym none)
     ∙ (s.grown ∙ (ap (spread 0 before) same ∙ ap (extended before) (row_columns channels row long))))
@@ -329,35 +330,35 @@ even_columns rows (k ∷ ks) =
     All-cons (λ (column : Series). length column ≡ length rows) (column_at rows k) (map (column_at rows) ks)
     (length-map rows (λ (row : Row). slice_index_or row k None)) (even_columns rows ks)
 
-rows_long : (scale channels number : ℕ) (items : List (List ℕ)) (rows : List Row)
-    → items_of scale channels number items ≡ Ok rows → length rows ≡ length items
-rows_long scale channels number [] rows h = ap length (nothing_left scale channels number rows h)
-rows_long scale channels number (item ∷ items) rows h =
-    let joined = joined_by (item_of scale channels number item) (items_of scale channels (number + 1) items) rows h in
-    let others = rows_long scale channels (number + 1) items joined.rest joined.rest_are in
+rows_long : (width : Width) (scale channels number : ℕ) (items : List (List ℕ)) (rows : List Row)
+    → items_of width scale channels number items ≡ Ok rows → length rows ≡ length items
+rows_long width scale channels number [] rows h = ap length (nothing_left width scale channels number rows h)
+rows_long width scale channels number (item ∷ items) rows h =
+    let joined = joined_by (item_of width scale channels number item) (items_of width scale channels (number + 1) items) rows h in
+    let others = rows_long width scale channels (number + 1) items joined.rest joined.rest_are in
     omega (arith, ap length joined.whole, others)
 
 -- a row for each item
-good_rows : (scale channels : ℕ) (items : List (List ℕ)) → bad_in (read_items scale channels items) ≡ None
-    → length (rows_in (read_items scale channels items)) ≡ length items
-good_rows scale channels items good =
-    rows_long scale channels 1 items (rows_in (read_items scale channels items))
-    (rows_of_good (read_items scale channels items) good)
+good_rows : (width : Width) (scale channels : ℕ) (items : List (List ℕ)) → bad_in (read_items width scale channels items) ≡ None
+    → length (rows_in (read_items width scale channels items)) ≡ length items
+good_rows width scale channels items good =
+    rows_long width scale channels 1 items (rows_in (read_items width scale channels items))
+    (rows_of_good (read_items width scale channels items) good)
 
 pub added_long : (channels : ℕ) (rows : List Row) (added : List (List Sample))
     → map series_of added ≡ columns_of channels rows → length added ≡ channels
 added_long channels rows added is =
     sym (length-map added series_of) ∙ (ap length is ∙ length-map-range_with_len (column_at rows) 0 channels)
 
-pub added_even : (scale channels : ℕ) (items : List (List ℕ)) (added : List (List Sample))
-    → bad_in (read_items scale channels items) ≡ None
-    → map series_of added ≡ columns_of channels (rows_in (read_items scale channels items))
+pub added_even : (width : Width) (scale channels : ℕ) (items : List (List ℕ)) (added : List (List Sample))
+    → bad_in (read_items width scale channels items) ≡ None
+    → map series_of added ≡ columns_of channels (rows_in (read_items width scale channels items))
     → All (λ samples. length samples ≡ length items) added
-added_even scale channels items added good is =
-    let rows = rows_in (read_items scale channels items) in
+added_even width scale channels items added good is =
+    let rows = rows_in (read_items width scale channels items) in
     same_lengths added (columns_of channels rows) (length items) is
     (subst (λ (n : ℕ). All (λ column. length column ≡ n) (columns_of channels rows))
-    (good_rows scale channels items good) (even_columns rows (range_with_len 0 channels)))
+    (good_rows width scale channels items good) (even_columns rows (range_with_len 0 channels)))
 
 -- ---- what is prepared
 
@@ -381,11 +382,11 @@ samples_grown (Kept keep series) rows (suc count) long some =
 
 pub appended : (state : State) (slot : ℕ) (items : List (List ℕ)) (files : Files) (added : List (List Sample))
     (samples : ℕ) (prepared : Prepared) → 0 < length (channels_at state.stores slot)
-    → first_cause (append_conditions state.scale state.stores slot items) ≡ None
-    → bad_in (read_items state.scale (length (channels_at state.stores slot)) items) ≡ None
+    → first_cause (append_conditions state.mode.width state.scale state.stores slot items) ≡ None
+    → bad_in (read_items state.mode.width state.scale (length (channels_at state.stores slot)) items) ≡ None
     → map series_of added
     ≡ columns_of (length (channels_at state.stores slot))
-    (rows_in (read_items state.scale (length (channels_at state.stores slot)) items))
+    (rows_in (read_items state.mode.width state.scale (length (channels_at state.stores slot)) items))
     → samples ≡ samples_in (channels_at state.stores slot) + length items
     → prepared.answer ≡ Accepted (report.Append samples)
     → changed_by prepared.change ≡ change.AddSamples slot (map series_of added)
@@ -393,12 +394,12 @@ pub appended : (state : State) (slot : ℕ) (items : List (List ℕ)) (files : F
 appended state slot items files added samples prepared some fine good is long answer put =
     let stores = state.stores in
     let channels = channels_at stores slot in
-    let rows = rows_in (read_items state.scale (length channels) items) in
+    let rows = rows_in (read_items state.mode.width state.scale (length channels) items) in
     let columns = columns_of (length channels) rows in
     let behind : samples_in (channels_at (change.changed stores (change.AddSamples slot columns)) slot) ≡ samples =
     ap samples_in (channels_put stores slot (added_to (store_at stores slot) columns) (open_within stores slot _ fine))
     ∙ (samples_grown (store_at stores slot) rows (length channels) refl some
-    ∙ (ap (λ (n : ℕ). samples_in channels + n) (good_rows state.scale (length channels) items good) ∙ sym long)) in
+    ∙ (ap (λ (n : ℕ). samples_in channels + n) (good_rows state.mode.width state.scale (length channels) items good) ∙ sym long)) in
     prepared_accepted state files (asked.Append slot items) (report.Append samples) prepared fine refl answer
     (ap AppendReport (sym behind))
     (put ∙ ap (change.AddSamples slot) is)

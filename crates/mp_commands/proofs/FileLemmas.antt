@@ -8,6 +8,7 @@ use Rattle.std.specs.Ordering.{nat_cmp}
 use Rattle.std.proofs.lemmas.Bool.Decides.{nat_tests}
 use Rattle.std.proofs.lemmas.Cmp.{eq_by_cmp_equiv, nat_list_cmp_total}
 use Rattle.std.proofs.lemmas.List.{length-replicate}
+use Rattle.mp_nums.specs.declared.widths.Width.{Width}
 use Rattle.mp_replies.specs.declared.causes.Cause.{Cause}
 use Rattle.mp_replies.specs.declared.causes.Cause.TheVariants.{File, FileSize}
 use Rattle.mp_replies.specs.Conditions.{first_cause}
@@ -45,10 +46,10 @@ one_found name bytes =
 
 -- ---- a file that isn't there
 
-pub absent_is : (scale : ℕ) (cols : List ℕ) (header : Bool) (name : List ℕ)
-    → first_cause (file_conditions scale cols header (file_in no_file name)) ≡ Some File
-absent_is scale cols header name =
-    ap (λ found. first_cause (file_conditions scale cols header found)) (none_found name)
+pub absent_is : (width : Width) (scale : ℕ) (cols : List ℕ) (header : Bool) (name : List ℕ)
+    → first_cause (file_conditions width scale cols header (file_in no_file name)) ≡ Some File
+absent_is width scale cols header name =
+    ap (λ found. first_cause (file_conditions width scale cols header found)) (none_found name)
 
 -- ---- one that is too large
 
@@ -61,16 +62,16 @@ more_bytes n =
 pub large_file : List ℕ → Files
 large_file name = one_file name (more_bytes max_file).0
 
-pub too_large_by : (scale : ℕ) (cols : List ℕ) (header : Bool) (bytes : List ℕ) → nat_lt max_file (length bytes) ≡ true
-    → first_cause (file_conditions scale cols header (Some bytes)) ≡ Some FileSize
-too_large_by scale cols header bytes more = rw more refl
+pub too_large_by : (width : Width) (scale : ℕ) (cols : List ℕ) (header : Bool) (bytes : List ℕ) → nat_lt max_file (length bytes) ≡ true
+    → first_cause (file_conditions width scale cols header (Some bytes)) ≡ Some FileSize
+too_large_by width scale cols header bytes more = rw more refl
 
-pub too_large_is : (scale : ℕ) (cols : List ℕ) (header : Bool) (name : List ℕ)
-    → first_cause (file_conditions scale cols header (file_in (large_file name) name)) ≡ Some FileSize
+pub too_large_is : (width : Width) (scale : ℕ) (cols : List ℕ) (header : Bool) (name : List ℕ)
+    → first_cause (file_conditions width scale cols header (file_in (large_file name) name)) ≡ Some FileSize
 unfolding large_file
-too_large_is scale cols header name =
-    ap (λ found. first_cause (file_conditions scale cols header found)) (one_found name (more_bytes max_file).0)
-    ∙ too_large_by scale cols header (more_bytes max_file).0 (more_bytes max_file).1
+too_large_is width scale cols header name =
+    ap (λ found. first_cause (file_conditions width scale cols header found)) (one_found name (more_bytes max_file).0)
+    ∙ too_large_by width scale cols header (more_bytes max_file).0 (more_bytes max_file).1
 
 -- ---- one that is wanted
 

@@ -8,6 +8,7 @@ use Rattle.std.proofs.lemmas.List.{length-map}
 use Rattle.std.proofs.lemmas.List.Elements.{All-head}
 use Rattle.std.proofs.lemmas.List.FromFn.{length-map-range_with_len}
 use Rattle.std.proofs.lemmas.List.Splits.{length-slice_split}
+use Rattle.mp_nums.specs.declared.widths.Width.{Width}
 use Rattle.mp_bytes.specs.Values.{is_comma, values_in}
 use Rattle.mp_defs.specs.Limits.{max_samples}
 use Rattle.mp_defs.specs.Series.{Series, reading_of, series_of}
@@ -83,26 +84,26 @@ pub load_refused : (state : State) (files : Files) (slot : ℕ) (file cols : Lis
 load_refused state files slot file cols header cause prepared h answer kept =
     prepared_refused state files (asked.Load slot file cols header) cause prepared
     (first_before (load_conditions state.stores slot cols)
-    (file_conditions state.scale cols header (file_in files file)) cause h)
+    (file_conditions state.mode.width state.scale cols header (file_in files file)) cause h)
     answer kept
 
 -- a refusal by the file
 pub file_refused : (state : State) (files : Files) (slot : ℕ) (file cols : List ℕ) (header : Bool) (cause : Cause)
     (prepared : Prepared)
     → first_cause (load_conditions state.stores slot cols) ≡ None
-    → first_cause (file_conditions state.scale cols header (file_in files file)) ≡ Some cause
+    → first_cause (file_conditions state.mode.width state.scale cols header (file_in files file)) ≡ Some cause
     → prepared.answer ≡ Refused cause → prepared.change ≡ Keep
     → IsPrepared state files (Asks (asked.Load slot file cols header)) prepared
 file_refused state files slot file cols header cause prepared none some answer kept =
     prepared_refused state files (asked.Load slot file cols header) cause prepared
     (first_behind (load_conditions state.stores slot cols)
-    (file_conditions state.scale cols header (file_in files file)) none ∙ some)
+    (file_conditions state.mode.width state.scale cols header (file_in files file)) none ∙ some)
     answer kept
 
-pub good_file : (scale : ℕ) (cols : List ℕ) (header : Bool) (bytes : List ℕ) (series : List Series)
+pub good_file : (width : Width) (scale : ℕ) (cols : List ℕ) (header : Bool) (bytes : List ℕ) (series : List Series)
     → length bytes ≤ max_file
-    → table_in scale cols header bytes ≡ Ok series → first_cause (file_conditions scale cols header (Some bytes)) ≡ None
-good_file scale cols header bytes series small is =
+    → table_in width scale cols header bytes ≡ Ok series → first_cause (file_conditions width scale cols header (Some bytes)) ≡ None
+good_file width scale cols header bytes series small is =
     let fits : nat_lt max_file (length bytes) ≡ false = grind (arith, nat_tests) in
     rw (fits, is) refl
 
@@ -227,26 +228,26 @@ pub loaded : (state : State) (files : Files) (slot : ℕ) (file cols : List ℕ)
     (bundle : List (List Sample)) (first : List Sample) (samples : ℕ) (prepared : Prepared)
     → first_cause (load_conditions state.stores slot cols) ≡ None
     → file_in files file ≡ Some bytes → length bytes ≤ max_file
-    → table_in state.scale cols header bytes ≡ Ok (map series_of bundle) → slice_get bundle 0 ≡ Some first
+    → table_in state.mode.width state.scale cols header bytes ≡ Ok (map series_of bundle) → slice_get bundle 0 ≡ Some first
     → samples ≡ length first
     → prepared.answer ≡ Accepted (report.Load samples)
     → changed_by prepared.change ≡ change.PutChannels slot (map series_of bundle)
     → IsPrepared state files (Asks (asked.Load slot file cols header)) prepared
 loaded state files slot file cols header bytes bundle first samples prepared none found small table first_is
     count answer put =
-    let channels : channels_of state.scale cols header (file_in files file) ≡ map series_of bundle =
-    ap (channels_of state.scale cols header) found ∙ ap series_in table in
-    let behind : samples_in (channels_of state.scale cols header (file_in files file)) ≡ samples =
+    let channels : channels_of state.mode.width state.scale cols header (file_in files file) ≡ map series_of bundle =
+    ap (channels_of state.mode.width state.scale cols header) found ∙ ap series_in table in
+    let behind : samples_in (channels_of state.mode.width state.scale cols header (file_in files file)) ≡ samples =
     ap samples_in channels ∙ (samples_first bundle first first_is ∙ sym count) in
     prepared_accepted state files (asked.Load slot file cols header) (report.Load samples) prepared
     (first_behind (load_conditions state.stores slot cols)
-    (file_conditions state.scale cols header (file_in files file)) none
-    ∙ (ap (λ found. first_cause (file_conditions state.scale cols header found)) found
-    ∙ good_file state.scale cols header bytes (map series_of bundle) small table))
+    (file_conditions state.mode.width state.scale cols header (file_in files file)) none
+    ∙ (ap (λ found. first_cause (file_conditions state.mode.width state.scale cols header found)) found
+    ∙ good_file state.mode.width state.scale cols header bytes (map series_of bundle) small table))
     refl answer
     (ap LoadReport
     (sym (ap samples_in
-    (channels_put state.stores slot (Open (channels_of state.scale cols header (file_in files file)))
+    (channels_put state.stores slot (Open (channels_of state.mode.width state.scale cols header (file_in files file)))
     (load_within state.stores slot cols none))
     ∙ behind)))
     (put ∙ ap (change.PutChannels slot) (sym channels))

@@ -1,5 +1,6 @@
 -- What a shelf gives for a load.
 use Rattle.std.specs.Prelude.{◌≡◌, ℕ, Bool, true, false, List, Option, Some}
+use Rattle.mp_nums.specs.declared.widths.Width.{Width}
 use Rattle.mp_replies.specs.declared.causes.Cause.{Cause}
 use Rattle.mp_replies.specs.Conditions.{first_cause}
 use Rattle.mp_replies.specs.LoadCommand.{file_conditions, file_in}
@@ -10,8 +11,8 @@ use Rattle.mp_commands.specs.Preparing.{IsAsked}
 -- by these files a load of this file is refused by this word, whatever its columns
 abbrev pub FileRefuses : Files → List ℕ → Cause → Type 0
 FileRefuses files name cause =
-    (scale : ℕ) (cols : List ℕ) (header : Bool)
-    → first_cause (file_conditions scale cols header (file_in files name)) ≡ Some cause
+    (width : Width) (scale : ℕ) (cols : List ℕ) (header : Bool)
+    → first_cause (file_conditions width scale cols header (file_in files name)) ≡ Some cause
 
 -- it is by the files that a shelf tells, and by some, which no shelf needs to tell
 pub record IsRefusedFile (tells : Option Files) (name : List ℕ) (cause : Cause) : Type 0 where

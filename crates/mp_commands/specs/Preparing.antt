@@ -19,7 +19,7 @@ use Rattle.mp_outside.specs.declared.shelves.Shelf as shelves
 use Rattle.mp_stores.specs.Stores.{Stored, AreEven, CanOpen, HasRoomIn, StandFor, lists_in, series_in, slot_at}
 use Rattle.mp_requests.specs.declared.context.Context.{Context}
 use Rattle.mp_requests.specs.Answering.{IsAnswer, IsUnrefused, state_over}
-use Rattle.mp_requests.specs.Requests.{NamesChannels, is_accepted, is_ended, kind_by, version_asked, version_named}
+use Rattle.mp_requests.specs.Requests.{NamesChannels, is_accepted, is_ended, kind_by, mode_asked, mode_named}
 use Rattle.mp_commands.specs.declared.prepared.Change.{Change}
 use Rattle.mp_commands.specs.declared.prepared.Change.TheVariants.{Keep, PutChannels, PutKept, AddSamples}
 use Rattle.mp_commands.specs.declared.prepared.Prepared.{Prepared}
@@ -132,7 +132,7 @@ pub record IsPreparedBySome (context : Context) (what : Asked) (held : Stored) (
       → IsPrepared (state_over context held stores) files what prepared
 
 -- Its change can be made in these slots, puts channels where the line asks for it alone, and is none where the line
--- isn't accepted. Its answer names channels of theirs, ends the run where the line asks for that, and names a version
+-- isn't accepted. Its answer names channels of theirs, ends the run where the line asks for that, and names a mode
 -- where it accepts one that the line asks for
 pub record IsReady (what : Asked) (held : Stored) (prepared : Prepared) : Type 0 where
   pub can : CanMake held prepared.change
@@ -141,8 +141,8 @@ pub record IsReady (what : Asked) (held : Stored) (prepared : Prepared) : Type 0
   pub adds : AddsAsAsked what prepared.change
   pub names : NamesChannels held prepared.answer
   pub ends : is_ended (kind_by prepared.answer) ≡ is_end what
-  pub version : version_named prepared.answer
-      ≡ (if is_accepted (kind_by prepared.answer) then version_asked what else None)
+  pub mode : mode_named prepared.answer
+      ≡ (if is_accepted (kind_by prepared.answer) then mode_asked what else None)
 
 -- whether it asks for a file where the slots stand for some stores
 pub record NeedsFile (context : Context) (what : Asked) (held : Stored) (file : Bool) : Type 0 where

@@ -46,6 +46,7 @@ pub(crate) fn prepare_append(
 {
     let Appending { slot, items } = more;
     let form = Form {
+        width: context.mode.width,
         scale: context.settings.scale(),
         channels: stores.count(slot),
     };
@@ -65,6 +66,7 @@ pub(crate) fn prepare_append(
 /// How the items for a slot are read.
 #[derive(Clone, Copy)]
 struct Form {
+    width: Width,
     scale: u8,
     /// How many values an item has.
     channels: u64,
@@ -79,10 +81,10 @@ fn count_items(stores: &Stores, form: Form, slot: u64, items: &[u8]) -> Result<u
     requires closed { (stands : List Store) → StandFor stores.now stands
         → is_closed (store_at stands slot) ≡ (form.channels == 0) }
     ensures refused { IfErr result (λ cause. IsCause stores.now
-        (λ stands. append_conditions form.scale stands slot (fields_in items.now)) (Some cause)) }
+        (λ stands. append_conditions form.width form.scale stands slot (fields_in items.now)) (Some cause)) }
     ensures fine { OnOk result (IsCause stores.now
-        (λ stands. append_conditions form.scale stands slot (fields_in items.now)) None) }
-    ensures good { OnOk result (bad_in (items_read form.scale form.channels (fields_in items.now)) ≡ None) }
+        (λ stands. append_conditions form.width form.scale stands slot (fields_in items.now)) None) }
+    ensures good { OnOk result (bad_in (items_read form.width form.scale form.channels (fields_in items.now)) ≡ None) }
     ensures count { IfOk result (λ count. count ≡ length (fields_in items.now)) }
     ensures fits { IfOk result (λ count. sample_count (slot_at stores.now slot) + count
         ≤ most_samples (keep_of (slot_at stores.now slot))) }
@@ -118,9 +120,9 @@ fn most_in(stores: &Stores, slot: u64) -> u64
 fn count_good(form: Form, items: &[u8]) -> Result<u64, u64>
     requires { form.scale ≤ max_scale }
     ensures count { IfOk result (λ count. count ≡ length (fields_in items.now)) }
-    ensures good { OnOk result (bad_in (items_read form.scale form.channels (fields_in items.now)) ≡ None) }
+    ensures good { OnOk result (bad_in (items_read form.width form.scale form.channels (fields_in items.now)) ≡ None) }
     ensures bad { IfErr result (λ number.
-        bad_in (items_read form.scale form.channels (fields_in items.now)) ≡ Some number) }
+        bad_in (items_read form.width form.scale form.channels (fields_in items.now)) ≡ Some number) }
 {
     let mut count = 0;
     for item in (Fields { text: items }) {
@@ -136,11 +138,11 @@ fn count_good(form: Form, items: &[u8]) -> Result<u64, u64>
 #[tactic(auto, using(crate::proofs::AppendLemmas::values_within))]
 fn is_good(item: &[u8], form: Form) -> bool
     requires { form.scale ≤ max_scale }
-    ensures { (number : ℕ) → result ≡ is_ok (item_of form.scale form.channels number item.now) }
+    ensures { (number : ℕ) → result ≡ is_ok (item_of form.width form.scale form.channels number item.now) }
 {
     let mut count = 0;
     for value in Values::of(item) {
-        if read_sample(value, form.scale, Width::Narrow).is_err() {
+        if read_sample(value, form.scale, form.width).is_err() {
             return false;
         }
         count += 1;
@@ -156,9 +158,9 @@ fn read_items(
     count: u64,
 ) -> Result<Vec<Vec<Sample>>, Memory>
     requires places { form.scale ≤ max_scale }
-    requires good { bad_in (items_read form.scale form.channels (fields_in items.now)) ≡ None }
+    requires good { bad_in (items_read form.width form.scale form.channels (fields_in items.now)) ≡ None }
     ensures { IfOk result (λ added. map series_of (lists_in added.items)
-        ≡ columns_of form.channels (rows_in (items_read form.scale form.channels (fields_in items.now)))) }
+        ≡ columns_of form.channels (rows_in (items_read form.width form.scale form.channels (fields_in items.now)))) }
 {
     let mut added = empty_lists(alloc, form.channels, count)?;
     for item in (Fields { text: items }) {
@@ -182,13 +184,13 @@ fn empty_lists(alloc: Global, channels: u64, count: u64) -> Result<Vec<Vec<Sampl
 fn read_item(added: &mut [Vec<Sample>], item: &[u8], form: Form) -> Result<(), Memory>
     requires places { form.scale ≤ max_scale }
     requires lists { length added.old ≡ form.channels }
-    requires good { is_ok (item_of form.scale form.channels 0 item.now) ≡ true }
-    ensures { OnOk result ((row : Row) → item_of form.scale form.channels 0 item.now ≡ Ok row
+    requires good { is_ok (item_of form.width form.scale form.channels 0 item.now) ≡ true }
+    ensures { OnOk result ((row : Row) → item_of form.width form.scale form.channels 0 item.now ≡ Ok row
         → map series_of (lists_in added.new)
         ≡ extended (map series_of (lists_in added.old)) (columns_of form.channels (row ∷ []))) }
 {
     for (k, value) in Values::of(item).enumerate() {
-        added[k].push(read_sample(value, form.scale, Width::Narrow).unwrap())?;
+        added[k].push(read_sample(value, form.scale, form.width).unwrap())?;
     }
     Ok(())
 }

@@ -18,7 +18,7 @@ ghost use Rattle.mp_stores.specs.Stores.{HaveWindow, StandFor, items_in, streams
 use crate::prepared::{Change, Prepared};
 use crate::requests::Load;
 use mp_lines::Columns;
-use mp_nums::{Memory, Width};
+use mp_nums::Memory;
 use mp_outside::{Gate, Shelf, ShelfAnswer};
 use mp_replies::Cause;
 use mp_requests::{Answer, Context, Report, Stop};
@@ -125,7 +125,7 @@ fn prepare_table<R: Threads + Sync, G: Gate>(
         columns.as_slice(),
         load.header,
         scale,
-        Width::Narrow,
+        context.mode.width,
     ) {
         Ok(bundle) => bundle,
         Err(fault) => {

@@ -32,20 +32,20 @@ pub fn prepare<R: Threads + Sync, H: Shelf, G: Gate>(
     shelf: &mut H,
     gate: &G,
 ) -> Result<Prepared, Stop>
-    ensures prepared { IsTaken (H.files shelf.old) context (asked_of context.version line.now) stores.old result }
-    ensures some_files { IfOk result (IsPreparedBySome context (asked_of context.version line.now) stores.old) }
+    ensures prepared { IsTaken (H.files shelf.old) context (asked_of context.mode.version line.now) stores.old result }
+    ensures some_files { IfOk result (IsPreparedBySome context (asked_of context.mode.version line.now) stores.old) }
     ensures ends { IfOk result (λ prepared. is_ended (kind_by prepared.answer) ≡ ends line.now) }
-    ensures ready { IfOk result (IsReady (asked_of context.version line.now) stores.new) }
+    ensures ready { IfOk result (IsReady (asked_of context.mode.version line.now) stores.new) }
 
     // The slots, before the change is made.
-    ensures stores { IsKept (asked_of context.version line.now) stores.old stores.new }
+    ensures stores { IsKept (asked_of context.mode.version line.now) stores.old stores.new }
     ensures unread { IfOk result (λ prepared. is_accepted (kind_by prepared.answer) ≡ false
         → AreUnread stores.old stores.new) }
 
-    ensures shelf { IsAsked H.Shelf (NeedsFile context (asked_of context.version line.now) stores.old)
+    ensures shelf { IsAsked H.Shelf (NeedsFile context (asked_of context.mode.version line.now) stores.old)
         (IsErrOf result Stop.ShelfFault) shelf.old shelf.new }
 {
-    let command = match parse_line(line, context.version) {
+    let command = match parse_line(line, context.mode.version) {
         Err(fault) => return Ok(Prepared::refused(cause_of(fault))),
         Ok(command) => command,
     };

@@ -8,12 +8,14 @@ use Rattle.mp_replies.specs.Line.{Asked, Nothing, Asks, Faulty, asks}
 use Rattle.mp_replies.specs.Commands.{made}
 use Rattle.mp_replies.specs.MotifsCommand.{motif_query}
 use Rattle.mp_replies.specs.Numbers.{columns, refs}
+use Rattle.mp_replies.specs.SessionCommand.{mode_of}
 use Rattle.mp_replies.specs.Shapes.{Shape, by_shape}
 use Rattle.mp_lines.specs.declared.commands.Command.{Command}
 use Rattle.mp_lines.specs.declared.commands.Command.TheVariants.{Blank, Session, Open, Keep, Load, Append, Window}
 use Rattle.mp_lines.specs.declared.commands.Command.TheVariants.{Profile, Entry, End}
-use Rattle.mp_lines.specs.declared.commands.Command.TheVariants.{Join, Multi, Nearest, Match, Motifs, Discords}
-use Rattle.mp_lines.specs.declared.commands.Command.TheVariants.{Chain, Chains, Segments, Mpdist, Consensus}
+use Rattle.mp_lines.specs.declared.commands.Command.TheVariants.{Join, Multi, Nearest, Pan, Match, Motifs}
+use Rattle.mp_lines.specs.declared.commands.Command.TheVariants.{Discords, Chain, Chains, Segments, Mpdist}
+use Rattle.mp_lines.specs.declared.commands.Command.TheVariants.{Consensus}
 use Rattle.mp_lines.specs.declared.commands.LineFault.{LineFault}
 use Rattle.mp_lines.specs.declared.commands.LineFault.TheVariants as fault
 
@@ -26,7 +28,7 @@ cause_of fault.Number = cause.Number
 
 abbrev pub asked_by : Command → Asked
 asked_by Blank = Nothing
-asked_by (Session version) = Asks (asked.Session version)
+asked_by (Session version wide json) = Asks (asked.Session (mode_of version wide json))
 asked_by (Open slot channels) = Asks (asked.OpenAnew slot channels)
 asked_by (Keep slot keep) = Asks (asked.KeepLast slot keep)
 asked_by (Load slot file cols header) = Asks (asked.Load slot file.now (unwrap_or (columns cols.field.now) []) header)
@@ -37,6 +39,7 @@ asked_by (Entry at start) = Asks (asked.Entry at start)
 asked_by (Join a b) = Asks (asked.Join a b)
 asked_by (Multi slot k) = Asks (asked.Multi slot k)
 asked_by (Nearest at k) = Asks (asked.Nearest at k)
+asked_by (Pan at lo hi) = Asks (asked.Pan at lo hi)
 asked_by (Match at query start radius max) = Asks (asked.Match at query start radius max)
 asked_by (Motifs at count cutoff radius neighbours matches) =
     Asks (asked.Motifs at (motif_query count cutoff radius neighbours matches))

@@ -11,7 +11,8 @@ use crate::numbers::Columns;
 use crate::ref_lists::Refs;
 use crate::shapes::{
     append, consensus, keep, load, matches, motifs, no_field, one_ref, ref_and_count,
-    ref_and_rank_count, ref_and_start, segments, session, slot_and_number, two_refs,
+    ref_and_lengths, ref_and_rank_count, ref_and_start, segments, session, slot_and_number,
+    two_refs,
 };
 use mp_bytes::{Fields, same_text, without_cr};
 use mp_replies::Ref;
@@ -25,9 +26,12 @@ const MAX_LINE: usize = 1_048_576;
 pub enum Command<'a> {
     /// No field, or a first field that begins with `#`.
     Blank,
-    /// The version of the lines that follow.
+    /// The version of the lines that follow, whether their samples have 48 bits in place of 32, and whether reports are
+    /// JSON lines in place of texts.
     Session {
         version: u64,
+        wide: bool,
+        json: bool,
     },
     /// Put so many empty channels into a slot.
     Open {
@@ -74,6 +78,12 @@ pub enum Command<'a> {
     Multi {
         slot: u64,
         k: u64,
+    },
+    /// Report what the profile of each window length has, from a least one to a greatest.
+    Pan {
+        at: Ref,
+        lo: u32,
+        hi: u32,
     },
     /// Report so many nearest windows of each window.
     Nearest {
@@ -202,6 +212,9 @@ fn parse_command<'a>(
     } else if same_text(word, b"nearest") {
         let (at, k) = ref_and_rank_count(fields)?;
         Ok(Command::Nearest { at, k })
+    } else if same_text(word, b"pan") {
+        let (at, (lo, hi)) = ref_and_lengths(fields)?;
+        Ok(Command::Pan { at, lo, hi })
     } else if same_text(word, b"match") {
         matches(fields)
     } else if same_text(word, b"motifs") {

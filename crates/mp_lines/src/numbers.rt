@@ -1,9 +1,10 @@
 //! Numbers, refs and lists of columns.
 
-ghost use Rattle.std.specs.Prelude.{◌≡◌, ◌+◌, ◌^◌, ◌<◌, ◌≤◌, [], length, drop, position, is_some, unwrap_or, Some};
+ghost use Rattle.std.specs.Prelude.{◌≡◌, ◌+◌, ◌^◌, ◌<◌, ◌≤◌, [], ◌∷◌, length, drop, position, is_some, unwrap_or, Some};
 ghost use Rattle.std.specs.Prelude.{true, IfOk, IfSome};
 ghost use Rattle.mp_bytes.specs.Digits.{number_of};
 ghost use Rattle.mp_replies.specs.Limits.{max_digits};
+ghost use Rattle.mp_replies.specs.PanCommand.{lengths};
 ghost use Rattle.mp_replies.specs.Numbers.{
   column,
   columns,
@@ -33,6 +34,14 @@ const MAX_COUNT: u64 = 262_144;
 
 /// The most motifs, and the most matches of one.
 const MAX_MOTIFS: u64 = 1_024;
+
+/// The shortest and the longest window.
+const MIN_WINDOW: u64 = 3;
+
+const MAX_WINDOW: u64 = 16_384;
+
+/// The most window lengths that are compared.
+const MAX_LENGTHS: u64 = 256;
 
 /// The most nearest windows of a window.
 const MAX_RANKS: u64 = 4;
@@ -107,6 +116,19 @@ pub(crate) fn read_rank_count(field: &[u8]) -> Option<u64>
     ensures { result ≡ rank_count field.now }
 {
     unless_zero(read_at_most(field, MAX_RANKS))
+}
+
+/// A least and a greatest window length.
+pub(crate) fn read_lengths(lo: &[u8], hi: &[u8]) -> Option<(u32, u32)>
+    ensures { result ≡ lengths (lo.now ∷ hi.now ∷ []) }
+{
+    let lo = read_u64(lo)?;
+    let hi = read_u64(hi)?;
+    if MIN_WINDOW <= lo && lo <= hi && hi <= MAX_WINDOW && hi - lo < MAX_LENGTHS {
+        Some((lo as u32, hi as u32))
+    } else {
+        None
+    }
 }
 
 fn unless_zero(read: Option<u64>) -> Option<u64>

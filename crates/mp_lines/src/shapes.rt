@@ -1,6 +1,6 @@
 //! The fields of commands, read by their shape.
 
-ghost use Rattle.std.specs.Prelude.{◌≡◌};
+ghost use Rattle.std.specs.Prelude.{◌≡◌, [], ◌∷◌};
 ghost use Rattle.mp_bytes.specs.Fields.{fields_in};
 ghost use Rattle.mp_replies.specs.AppendCommand.{append_by, append_shape};
 ghost use Rattle.mp_replies.specs.Commands.{keep_form};
@@ -10,15 +10,16 @@ ghost use Rattle.mp_replies.specs.LoadCommand.{header_of, load_by, load_shape};
 ghost use Rattle.mp_replies.specs.MatchCommand.{match_by, match_shape};
 ghost use Rattle.mp_replies.specs.MotifsCommand.{motifs_by, motifs_shape};
 ghost use Rattle.mp_replies.specs.NearestCommand.{nearest_shape};
+ghost use Rattle.mp_replies.specs.PanCommand.{pan_shape};
 ghost use Rattle.mp_replies.specs.SegmentsCommand.{segments_by, segments_shape};
-ghost use Rattle.mp_replies.specs.SessionCommand.{is_version as is_version_of, session_of};
+ghost use Rattle.mp_replies.specs.SessionCommand.{is_named as is_named_line, session_of, words_of};
 ghost use Rattle.mp_replies.specs.Shapes as shape;
 ghost use Rattle.mp_lines.specs.Lines.{IsMadeBy, IsReadBy, read_as};
 
 use crate::commands::{Command, LineFault};
 use crate::numbers::{
-    Columns, read_count, read_factor, read_few, read_kept, read_neighbours, read_rank_count,
-    read_ref, read_squared, read_u64,
+    Columns, read_count, read_factor, read_few, read_kept, read_lengths, read_neighbours,
+    read_rank_count, read_ref, read_squared, read_u64,
 };
 use crate::ref_lists::{Refs, is_right_count};
 use crate::texts::{five_texts, one_text, six_texts, three_texts, two_texts};
@@ -85,6 +86,16 @@ pub(crate) fn ref_and_rank_count(fields: Fields<'_>) -> Result<(Ref, u64), LineF
         .ok_or(LineFault::Number)
 }
 
+/// `R LO HI`: a ref, and a least and a greatest window length.
+pub(crate) fn ref_and_lengths(fields: Fields<'_>) -> Result<(Ref, (u32, u32)), LineFault>
+    ensures { IsReadBy pan_shape (fields_in fields.entry.text.now) result }
+{
+    let (at, lo, hi) = three_texts(fields).ok_or(LineFault::Fields)?;
+    read_ref(at)
+        .zip(read_lengths(lo, hi))
+        .ok_or(LineFault::Number)
+}
+
 /// `S K`: a slot, and a number.
 pub(crate) fn slot_and_number(fields: Fields<'_>) -> Result<(u64, u64), LineFault>
     ensures { IsReadBy shape.slot_and_number (fields_in fields.entry.text.now) result }
@@ -97,21 +108,56 @@ pub(crate) fn slot_and_number(fields: Fields<'_>) -> Result<(u64, u64), LineFaul
 
 // ---- shapes of one command
 
-/// `session 1` or `session 2`. Its only refusal is that of the version.
-pub(crate) fn session(fields: Fields<'_>) -> Result<Command<'_>, LineFault>
+/// `session 1`, or `session 2` with `wide` or `json` or both behind. Its only refusal is that of the version.
+pub(crate) fn session(mut fields: Fields<'_>) -> Result<Command<'_>, LineFault>
     ensures { read_as result ≡ asks (session_of (fields_in fields.entry.text.now)) }
 {
-    let field = one_text(fields).ok_or(LineFault::Version)?;
-    match read_u64(field) {
-        Some(version) if is_version(version) => Ok(Command::Session { version }),
+    let number = fields.next().ok_or(LineFault::Version)?;
+    let (wide, json) = session_words(fields).ok_or(LineFault::Version)?;
+    match read_u64(number) {
+        Some(version) if is_named(version, wide, json) => Ok(Command::Session {
+            version,
+            wide,
+            json,
+        }),
         _ => Err(LineFault::Version),
     }
 }
 
-fn is_version(number: u64) -> bool
-    ensures { result ≡ is_version_of number }
+/// What stands behind the number of a version line: whether samples are wide, and whether reports are JSON lines.
+fn session_words(mut fields: Fields<'_>) -> Option<(bool, bool)>
+    ensures { result ≡ words_of (fields_in fields.entry.text.now) }
 {
-    number == FIRST_VERSION || number == SECOND_VERSION
+    let Some(first) = fields.next() else {
+        return Some((false, false));
+    };
+    let Some(second) = fields.next() else {
+        return one_word(first);
+    };
+    if same_text(first, b"wide") && same_text(second, b"json") && fields.next().is_none() {
+        Some((true, true))
+    } else {
+        None
+    }
+}
+
+fn one_word(word: &[u8]) -> Option<(bool, bool)>
+    ensures { result ≡ words_of (word.now ∷ []) }
+{
+    if same_text(word, b"wide") {
+        Some((true, false))
+    } else if same_text(word, b"json") {
+        Some((false, true))
+    } else {
+        None
+    }
+}
+
+/// Whether there is such a version line. The first version has neither word.
+fn is_named(version: u64, wide: bool, json: bool) -> bool
+    ensures { result ≡ is_named_line version wide json }
+{
+    version == SECOND_VERSION || (version == FIRST_VERSION && !(wide || json))
 }
 
 /// `keep S N`, which the first version hasn't.

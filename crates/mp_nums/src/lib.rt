@@ -10,7 +10,7 @@ mod refusal;
 mod samples;
 mod widths;
 
-pub use finds::{Centre, Discord, Motif};
+pub use finds::{Centre, Discord, Motif, Pair, PanRow};
 pub use laws::{
     nearer_has_unit, nearer_is_associative, nearer_is_commutative, nearer_is_idempotent,
 };

@@ -120,12 +120,12 @@ asks_within size read quiet e h = grind (arith, nat_tests)
 pub quiet_lines : QuietLinesAreSilent
 unfolding answer after verdict
 quiet_lines state line files =
-    let asked = asked_of state.version line in
+    let asked = asked_of state.mode.version line in
     let later = after state line files in (
-      λ silent. within (length line) _ _ (line_asks state.version line)
+      λ silent. within (length line) _ _ (line_asks state.mode.version line)
           (ap is_nothing
           (passes_nothing state files asked (silent_passes later (verdict_of state files asked) silent))),
       λ quiet.
           nothing_is_silent later state files asked
-          (is_nothing_means asked (asks_within (length line) _ _ (line_asks state.version line) quiet)),
+          (is_nothing_means asked (asks_within (length line) _ _ (line_asks state.mode.version line) quiet)),
     )

@@ -10,7 +10,7 @@ use Rattle.mp_replies.specs.Laws.{StandInOrder, WordsStandInOrder, rank}
 use Rattle.mp_replies.specs.Step.{conditions}
 
 loaded : (state : State) (slot : ℕ) (columns : List ℕ) (header : Bool) (file : Option (List ℕ))
-    → StandInOrder (load_conditions state.stores slot columns ++ file_conditions state.scale columns header file)
+    → StandInOrder (load_conditions state.stores slot columns ++ file_conditions state.mode.width state.scale columns header file)
 loaded state slot columns header None = (lit< tt, (lit< tt, (lit< tt, tt)))
 loaded state slot columns header (Some bytes) = (lit< tt, (lit< tt, (lit< tt, (lit< tt, (lit< tt, tt)))))
 

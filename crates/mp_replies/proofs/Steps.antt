@@ -14,7 +14,7 @@ use Rattle.mp_replies.specs.Line.{Asked, Nothing, Asks, Faulty, asked_of, is_end
 use Rattle.mp_replies.specs.Step.{Verdict, Passes, IsRefused, IsAccepted, verdict, verdict_by, verdict_of, cause}
 use Rattle.mp_replies.specs.Step.{cause_in, after, after_by, counted, answer, answer_by, change_by, conditions, is_last}
 use Rattle.mp_replies.specs.Step.{report_by, fetches, fetches_by}
-use Rattle.mp_replies.specs.Report.{text_of}
+use Rattle.mp_replies.specs.Report.{written_of}
 use Rattle.mp_replies.specs.Output.{reply, output_for, session_output}
 use Rattle.mp_replies.specs.Summary.{summary_of}
 use Rattle.mp_replies.specs.Words.{Setup}
@@ -86,16 +86,16 @@ answered_end later state files (Asks other) report h =
     h)
 
 ends_in : (state : State) (line : List ℕ) (files : Files)
-    → (is_end (asked_of state.version line) ≡ true) ↔ ((report : Report) × (answer state line files ≡ Ended report))
+    → (is_end (asked_of state.mode.version line) ≡ true) ↔ ((report : Report) × (answer state line files ≡ Ended report))
 unfolding answer after verdict
 ends_in state line files = (
-  ends_of (after state line files) state files (asked_of state.version line),
-  λ p. answered_end (after state line files) state files (asked_of state.version line) p.0 p.1,
+  ends_of (after state line files) state files (asked_of state.mode.version line),
+  λ p. answered_end (after state line files) state files (asked_of state.mode.version line) p.0 p.1,
 )
 
 pub ends_answered : EndsAreAnswered
 ends_answered state line files =
-    let same = ends_of_each_version state.version line in
+    let same = ends_of_each_version state.mode.version line in
     let both = ends_in state line files in
     (λ h. both.0 (same ∙ h), λ p. sym same ∙ both.1 p)
 
@@ -122,9 +122,9 @@ load_refused state files others slot file columns header None is h = absurd (cc 
 load_refused state files others slot file columns header (Some why) is h =
     rw (
       first_refused (load_conditions state.stores slot columns)
-          (file_conditions state.scale columns header (file_in files file)) why is,
+          (file_conditions state.mode.width state.scale columns header (file_in files file)) why is,
       first_refused (load_conditions state.stores slot columns)
-          (file_conditions state.scale columns header (file_in others file)) why is,
+          (file_conditions state.mode.width state.scale columns header (file_in others file)) why is,
     ) refl
 
 same_verdict : (state : State) (files others : Files) (asked : Asked) → fetches_by state asked ≡ false
@@ -139,8 +139,9 @@ same_verdict state files others (Asks other) h = refl
 pub no_file_read : OtherLinesReadNoFile
 unfolding fetches reply answer after verdict
 no_file_read state line files others h =
-    let same = same_verdict state files others (asked_of state.version line) h in (
-      ap (λ (v : Verdict). text_of (state.lines + 1) (answer_by (after_by state v) v)) same,
+    let same = same_verdict state files others (asked_of state.mode.version line) h in (
+      ap (λ (v : Verdict).
+          written_of (after_by state v).mode.form (state.lines + 1) (answer_by (after_by state v) v)) same,
       ap (after_by state) same,
     )
 

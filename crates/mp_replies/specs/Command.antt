@@ -1,17 +1,19 @@
 -- The commands, and what they report, as data.
 use Rattle.std.specs.Prelude.{ℕ, Bool, List, Option}
 use Rattle.mp_nums.specs.declared.finds.Discord.{Discord}
+use Rattle.mp_nums.specs.declared.finds.PanRow.{PanRow}
 use Rattle.mp_nums.specs.declared.nearest.Near.{Near}
 use Rattle.mp_nums.specs.declared.nearest.Sq.{Sq}
 use Rattle.mp_defs.specs.Profile.{Columns}
 use Rattle.mp_defs.specs.Series.{Series}
 use Rattle.mp_results.specs.Consensus.{Central}
 use Rattle.mp_results.specs.Motifs.{MotifQuery, Repeated}
+use Rattle.mp_replies.specs.declared.modes.Mode.{Mode}
 use Rattle.mp_replies.specs.declared.refs.Ref.{Ref}
 
 pub data Command : Type 0 where
-  -- the version of the lines that follow
-  Session : (version : ℕ) → Command
+  -- how the lines that follow are read and answered
+  Session : (mode : Mode) → Command
   -- open a slot anew, with so many empty channels
   OpenAnew : (slot channels : ℕ) → Command
   -- open a slot anew, with an empty channel of which so many samples are kept
@@ -32,6 +34,8 @@ pub data Command : Type 0 where
   Multi : (slot k : ℕ) → Command
   -- report so many nearest windows of each window
   Nearest : (at : Ref) (k : ℕ) → Command
+  -- report the nearest pair and the most unusual window of each window length from a least to a greatest
+  Pan : (at : Ref) (lo hi : ℕ) → Command
   -- report the windows of a channel that match a window of another
   Match : (at query : Ref) (start radius max : ℕ) → Command
   -- report repeated patterns
@@ -72,6 +76,8 @@ pub data Report : Type 0 where
   MultiReport : (slots : List (Option Near)) → Report
   -- for each window its nearest ones, in their order
   NearestReport : (lists : List (List Near)) → Report
+  -- for each window length what its profile has
+  PanReport : (rows : List PanRow) → Report
   MatchReport : (list : List Near) → Report
   MotifsReport : (list : List Repeated) → Report
   DiscordsReport : (list : List Discord) → Report

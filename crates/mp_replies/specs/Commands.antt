@@ -4,11 +4,11 @@ use Rattle.mp_replies.specs.declared.causes.Cause.{Cause}
 use Rattle.mp_replies.specs.declared.causes.Cause.TheVariants.{Unknown}
 use Rattle.mp_replies.specs.Change.{Change, Keep}
 use Rattle.mp_replies.specs.Command.{Command, Session, OpenAnew, KeepLast, Load, Append, Window, Profile, Entry, Join}
-use Rattle.mp_replies.specs.Command.{Multi, Nearest, Match, Motifs, Discords, Chain, Chains, Segments, Mpdist}
-use Rattle.mp_replies.specs.Command.{Consensus, End}
+use Rattle.mp_replies.specs.Command.{Multi, Nearest, Pan, Match, Motifs, Discords, Chain, Chains, Segments}
+use Rattle.mp_replies.specs.Command.{Mpdist, Consensus, End}
 use Rattle.mp_replies.specs.Command.{Report, SessionReport, OpenReport, KeepReport, LoadReport, AppendReport}
 use Rattle.mp_replies.specs.Command.{WindowReport, ProfileReport, LiveProfileReport, EntryReport, JoinReport}
-use Rattle.mp_replies.specs.Command.{MpdistReport, MultiReport, NearestReport, MatchReport}
+use Rattle.mp_replies.specs.Command.{MpdistReport, MultiReport, NearestReport, PanReport, MatchReport}
 use Rattle.mp_replies.specs.Command.{MotifsReport, DiscordsReport, ChainReport, ChainsReport, SegmentsReport}
 use Rattle.mp_replies.specs.Command.{ConsensusReport, EndReport}
 use Rattle.mp_replies.specs.Conditions.{Condition}
@@ -27,6 +27,7 @@ use Rattle.mp_replies.specs.EntryCommand.{entry_conditions, entry_report, entry_
 use Rattle.mp_replies.specs.JoinCommand.{join_conditions, join_report, join_text}
 use Rattle.mp_replies.specs.MultiCommand.{multi_conditions, multi_report, multi_text}
 use Rattle.mp_replies.specs.NearestCommand.{nearest_shape, nearest_conditions, nearest_report, nearest_text}
+use Rattle.mp_replies.specs.PanCommand.{pan_shape, pan_conditions, pan_report, pan_text}
 use Rattle.mp_replies.specs.MatchCommand.{match_shape, match_by, match_conditions, match_report, match_text}
 use Rattle.mp_replies.specs.MotifsCommand.{motifs_shape, motifs_by, motifs_conditions, motifs_report, motifs_text}
 use Rattle.mp_replies.specs.DiscordsCommand.{discords_conditions, discords_report, discords_text}
@@ -82,6 +83,7 @@ forms version =
     ∷ row (codes "join") two_refs (λ (a, b). Join a b)
     ∷ row (codes "multi") slot_and_number (λ (slot, k). Multi slot k)
     ∷ row (codes "nearest") nearest_shape (λ (at, k). Nearest at k)
+    ∷ row (codes "pan") pan_shape (λ (at, (lo, hi)). Pan at lo hi)
     ∷ row (codes "match") match_shape match_by
     ∷ row (codes "motifs") motifs_shape motifs_by
     ∷ row (codes "discords") ref_and_count (λ (at, most). Discords at most)
@@ -129,7 +131,7 @@ abbrev samples_at : State → ℕ → ℕ
 samples_at state slot = samples_in (channels_at state.stores slot)
 
 abbrev pub meaning : Command → Meaning
-meaning (Session version) = reporting session_conditions (λ state. SessionReport)
+meaning (Session mode) = reporting session_conditions (λ state. SessionReport)
 meaning (OpenAnew slot channels) =
     changing (λ state. open_conditions slot channels) (λ state. open_change slot channels)
     (λ state. OpenReport (samples_at state slot))
@@ -138,13 +140,13 @@ meaning (KeepLast slot keep) =
     (λ state. KeepReport (samples_at state slot))
 meaning (Load slot file columns header) = record {
   conditions = λ state. load_conditions state.stores slot columns;
-  file_conditions = λ state files. file_conditions state.scale columns header (file_in files file);
-  change = λ state files. load_change state.scale files slot file columns header;
+  file_conditions = λ state files. file_conditions state.mode.width state.scale columns header (file_in files file);
+  change = λ state files. load_change state.mode.width state.scale files slot file columns header;
   report = λ state. LoadReport (samples_at state slot);
 }
 meaning (Append slot items) =
-    changing (λ state. append_conditions state.scale state.stores slot items)
-    (λ state. append_change state.scale state.stores slot items) (λ state. AppendReport (samples_at state slot))
+    changing (λ state. append_conditions state.mode.width state.scale state.stores slot items)
+    (λ state. append_change state.mode.width state.scale state.stores slot items) (λ state. AppendReport (samples_at state slot))
 meaning (Window at start) =
     reporting (λ state. window_conditions state.window state.stores at start) (λ state. window_report state at start)
 meaning (Profile at) = reporting (λ state. profile_conditions state.stores at) (λ state. profile_report state at)
@@ -154,6 +156,7 @@ meaning (Join a b) = reporting (λ state. join_conditions state.stores a b) (λ 
 meaning (Multi slot k) = reporting (λ state. multi_conditions state.stores slot k) (λ state. multi_report state slot k)
 meaning (Nearest at k) =
     reporting (λ state. nearest_conditions state.stores at) (λ state. nearest_report state at k)
+meaning (Pan at lo hi) = reporting (λ state. pan_conditions state.stores at) (λ state. pan_report state at lo hi)
 meaning (Match at query start radius max) =
     reporting (λ state. match_conditions state.window state.stores at query start)
     (λ state. match_report state at query start radius max)
@@ -187,6 +190,7 @@ report_text line (JoinReport slots) = join_text line slots
 report_text line (MpdistReport dist) = mpdist_text line dist
 report_text line (MultiReport slots) = multi_text line slots
 report_text line (NearestReport lists) = nearest_text line lists
+report_text line (PanReport rows) = pan_text line rows
 report_text line (MatchReport list) = match_text line list
 report_text line (MotifsReport list) = motifs_text line list
 report_text line (DiscordsReport list) = discords_text line list

@@ -1,15 +1,14 @@
 -- A line that is cut is run as the whole.
 use Rattle.std.specs.Prelude.{◌≡◌, ℕ, ◌+◌, ◌<◌, ◌≤◌, Bool, true, false, nat_lt, List, length}
-use Rattle.std.proofs.Common.{refl, ap, arith}
+use Rattle.std.proofs.Common.{refl, ap, ◌∙◌, arith}
 use Rattle.std.proofs.lemmas.List.{length-take-le, take_all}
 use Rattle.std.proofs.lemmas.Bool.Decides.{nat_tests}
 use Rattle.mp_bytes.specs.Lines.{max_line, most_kept, cut}
 use Rattle.mp_replies.specs.State.{Files, State, first_version}
-use Rattle.mp_replies.specs.Answer.{Answer}
 use Rattle.mp_replies.specs.Line.{Asked, asked_of, is_end, ends}
 use Rattle.mp_replies.specs.Step.{Verdict, verdict, verdict_of, cause, cause_in, after, after_by, answer, answer_by}
 use Rattle.mp_replies.specs.Step.{fetches, fetches_by}
-use Rattle.mp_replies.specs.Report.{text_of}
+use Rattle.mp_replies.specs.Report.{written_of}
 use Rattle.mp_replies.specs.Output.{reply}
 use Rattle.mp_replies.specs.Laws.{LongLinesAreCut, LongLinesAreRunCut}
 
@@ -33,7 +32,7 @@ asked_cut version line = cut_by version line (nat_lt max_line (length line)) ref
 verdict_cut : (state : State) (files : Files) (line : List ℕ)
     → verdict state (cut line) files ≡ verdict state line files
 unfolding verdict
-verdict_cut state files line = ap (λ (asked : Asked). verdict_of state files asked) (asked_cut state.version line)
+verdict_cut state files line = ap (λ (asked : Asked). verdict_of state files asked) (asked_cut state.mode.version line)
 
 pub cause_cut : (state : State) (files : Files) (line : List ℕ) → cause state (cut line) files ≡ cause state line files
 unfolding cause
@@ -50,7 +49,10 @@ answer_cut state files line = ap (λ (v : Verdict). answer_by (after_by state v)
 
 pub reply_cut : (state : State) (files : Files) (line : List ℕ) → reply state (cut line) files ≡ reply state line files
 unfolding reply
-reply_cut state files line = ap (λ (a : Answer). text_of (state.lines + 1) a) (answer_cut state files line)
+reply_cut state files line =
+    ap (λ (behind : State). written_of behind.mode.form (state.lines + 1) (answer state (cut line) files))
+    (after_cut state files line)
+    ∙ ap (written_of (after state line files).mode.form (state.lines + 1)) (answer_cut state files line)
 
 pub ends_cut : (line : List ℕ) → ends (cut line) ≡ ends line
 unfolding ends
@@ -58,7 +60,7 @@ ends_cut line = ap is_end (asked_cut first_version line)
 
 pub fetches_cut : (state : State) (line : List ℕ) → fetches state (cut line) ≡ fetches state line
 unfolding fetches
-fetches_cut state line = ap (fetches_by state) (asked_cut state.version line)
+fetches_cut state line = ap (fetches_by state) (asked_cut state.mode.version line)
 
 pub run_cut : LongLinesAreRunCut
 run_cut state line files = record {

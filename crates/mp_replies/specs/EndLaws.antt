@@ -25,7 +25,8 @@ since_goes_on true read h = h
 since_goes_on false read h = refl
 
 same_by : (t : Bool) (a b c d : Result Command Cause) → is_end (asks a) ≡ is_end (asks b)
-    → is_end (asks c) ≡ is_end (asks d) → is_end (asks (if t then a else c)) ≡ is_end (asks (if t then b else d))
+    → is_end (asks c) ≡ is_end (asks d)
+    → is_end (asks (if t then a else c)) ≡ is_end (asks (if t then b else d))
 same_by true a b c d here rest = here
 same_by false a b c d here rest = rest
 

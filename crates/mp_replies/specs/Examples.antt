@@ -1,21 +1,30 @@
 -- Inputs whose lines and reports were written down by hand.
 use Rattle.std.specs.Prelude.{◌≡◌, ℕ, pos, true, false, List, [], ◌∷◌, ◌++◌, length, replicate, codes, Some, None, Ok}
 use Rattle.std.specs.Prelude.{Err}
+use Rattle.mp_nums.specs.declared.widths.Width.TheVariants.{Narrow, Wide}
+use Rattle.mp_defs.specs.Least.{near_at}
 use Rattle.mp_defs.specs.Series.{Series}
+use Rattle.mp_results.specs.Slide.{square}
 use Rattle.mp_replies.specs.declared.causes.Cause.TheVariants as cause
 use Rattle.mp_bytes.specs.Fields.{fields}
 use Rattle.mp_bytes.specs.Lines.{lines, ended_lines}
 use Rattle.mp_replies.specs.AppendCommand.{item_of}
 use Rattle.mp_replies.specs.declared.refs.Ref.{Ref}
 use Rattle.mp_replies.specs.Command.{Session, OpenAnew, KeepLast, Load, Append, Profile, End}
-use Rattle.mp_replies.specs.Command.{Join, Multi, Nearest, Match, Motifs, Discords, Chain, Chains, Segments, Mpdist}
-use Rattle.mp_replies.specs.Command.{Consensus}
+use Rattle.mp_replies.specs.Command.{Join, Multi, Nearest, Pan, Match, Motifs, Discords, Chain, Chains, Segments}
+use Rattle.mp_replies.specs.Command.{Mpdist, Consensus}
 use Rattle.mp_replies.specs.Conditions.{first_cause}
+use Rattle.mp_replies.specs.Json.{json_line, chain_data, chains_data, consensus_data, discords_data, entry_data}
+use Rattle.mp_replies.specs.Json.{match_data, motifs_data, mpdist_data, nearest_data, ok_data, pan_data}
+use Rattle.mp_replies.specs.Json.{profile_data}
+use Rattle.mp_replies.specs.Json.{refused_data, segments_data, slots_data, window_data}
 use Rattle.mp_replies.specs.Line.{Asked, Nothing, Asks, Faulty, asked_of}
 use Rattle.mp_replies.specs.LoadCommand.{file_conditions, file_in, table_in}
 use Rattle.mp_replies.specs.MotifsCommand.{motif_query}
 use Rattle.mp_replies.specs.Words.{Setup, job, session_job}
-use Rattle.mp_replies.specs.State.{Files, State, opening, first_version, second_version, Closed, Open, Kept}
+use Rattle.mp_replies.specs.SessionCommand.{mode_of}
+use Rattle.mp_replies.specs.State.{Files, State, opening, first_mode, first_version, second_version, Closed, Open}
+use Rattle.mp_replies.specs.State.{Kept}
 use Rattle.mp_replies.specs.Step.{cause}
 use Rattle.mp_replies.specs.Output.{output}
 
@@ -30,15 +39,19 @@ pub record LinesEndOrNot : Type 0 where
 
 -- items on slots of one and of two channels, at scale 2
 pub record SpelledItems : Type 0 where
-  pub plain : item_of 2 1 1 (codes "12.5") ≡ Ok (Some (pos 1250) ∷ [])
-  pub exact : item_of 2 1 1 (codes "12.500") ≡ Ok (Some (pos 1250) ∷ [])
-  pub fine : item_of 2 1 3 (codes "12.505") ≡ Err 3
-  pub missing : item_of 2 1 1 (codes "?") ≡ Ok (None ∷ [])
-  pub two_values : item_of 0 1 4 (codes "1,2") ≡ Err 4
-  pub comma_behind : item_of 0 1 4 (codes "1,") ≡ Err 4
-  pub both : item_of 0 2 1 (codes "1,?") ≡ Ok (Some (pos 1) ∷ None ∷ [])
-  pub both_missing : item_of 0 2 1 (codes ",") ≡ Ok (None ∷ None ∷ [])
-  pub one_value : item_of 0 2 5 (codes "1") ≡ Err 5
+  pub plain : item_of Narrow 2 1 1 (codes "12.5") ≡ Ok (Some (pos 1250) ∷ [])
+  pub exact : item_of Narrow 2 1 1 (codes "12.500") ≡ Ok (Some (pos 1250) ∷ [])
+  pub fine : item_of Narrow 2 1 3 (codes "12.505") ≡ Err 3
+  pub missing : item_of Narrow 2 1 1 (codes "?") ≡ Ok (None ∷ [])
+  pub two_values : item_of Narrow 0 1 4 (codes "1,2") ≡ Err 4
+  pub comma_behind : item_of Narrow 0 1 4 (codes "1,") ≡ Err 4
+  pub both : item_of Narrow 0 2 1 (codes "1,?") ≡ Ok (Some (pos 1) ∷ None ∷ [])
+  pub both_missing : item_of Narrow 0 2 1 (codes ",") ≡ Ok (None ∷ None ∷ [])
+  pub one_value : item_of Narrow 0 2 5 (codes "1") ≡ Err 5
+  pub narrow_most : item_of Narrow 0 1 1 (codes "2147483647") ≡ Ok (Some (pos 2147483647) ∷ [])
+  pub narrow_past : item_of Narrow 0 1 1 (codes "2147483648") ≡ Err 1
+  pub wide_most : item_of Wide 0 1 1 (codes "140737488355327") ≡ Ok (Some (pos 140737488355327) ∷ [])
+  pub wide_past : item_of Wide 0 1 1 (codes "140737488355328") ≡ Err 1
 
 abbrev setup : ℕ → ℕ → ℕ → ℕ → Setup
 setup window scale tile workers = record { window = window; scale = scale; tile = tile; workers = workers }
@@ -93,8 +106,17 @@ asked_later line = asked_of second_version line
 
 -- what lines ask for, and why they are refused whatever the state
 pub record AskedLines : Type 0 where
-  pub session : asked (codes "session 01") ≡ Asks (Session 1)
-  pub second : asked (codes "session 2") ≡ Asks (Session 2)
+  pub session : asked (codes "session 01") ≡ Asks (Session (mode_of 1 false false))
+  pub second : asked (codes "session 2") ≡ Asks (Session (mode_of 2 false false))
+  pub wide : asked (codes "session 2 wide") ≡ Asks (Session (mode_of 2 true false))
+  pub json : asked (codes "session 2 json") ≡ Asks (Session (mode_of 2 false true))
+  pub wide_json : asked (codes "session 2 wide json") ≡ Asks (Session (mode_of 2 true true))
+  pub json_wide : asked (codes "session 2 json wide") ≡ Faulty cause.Version
+  pub wide_twice : asked (codes "session 2 wide wide") ≡ Faulty cause.Version
+  pub other_word : asked (codes "session 2 text") ≡ Faulty cause.Version
+  pub more_words : asked (codes "session 2 wide json json") ≡ Faulty cause.Version
+  pub first_wide : asked (codes "session 1 wide") ≡ Faulty cause.Version
+  pub first_json : asked (codes "session 1 json") ≡ Faulty cause.Version
   pub other_version : asked (codes "session 3") ≡ Faulty cause.Version
   pub keep : asked_later (codes "keep 0 5") ≡ Asks (KeepLast 0 5)
   pub keep_in_first : asked (codes "keep 0 5") ≡ Faulty cause.Unknown
@@ -125,6 +147,12 @@ pub record AskedLines : Type 0 where
   pub multi : asked (codes "multi 1 2") ≡ Asks (Multi 1 2)
   pub multi_ref : asked (codes "multi 0.0 1") ≡ Faulty cause.Number
   pub nearest : asked (codes "nearest 0.1 4") ≡ Asks (Nearest (channel 0 1) 4)
+  pub pan : asked (codes "pan 0.1 3 258") ≡ Asks (Pan (channel 0 1) 3 258)
+  pub many_lengths : asked (codes "pan 0 3 259") ≡ Faulty cause.Number
+  pub short_length : asked (codes "pan 0 2 3") ≡ Faulty cause.Number
+  pub long_length : asked (codes "pan 0 16384 16385") ≡ Faulty cause.Number
+  pub no_lengths : asked (codes "pan 0 4 3") ≡ Faulty cause.Number
+  pub one_length : asked (codes "pan 0 3") ≡ Faulty cause.Fields
   pub no_ranks : asked (codes "nearest 0 0") ≡ Faulty cause.Number
   pub many_ranks : asked (codes "nearest 0 5") ≡ Faulty cause.Number
   pub match : asked (codes "match 0 1 2 6 10") ≡ Asks (Match (channel 0 0) (channel 1 0) 2 6 10)
@@ -160,7 +188,7 @@ session_of a =
     record {
       window = 3;
       scale = 0;
-      version = first_version;
+      mode = first_mode;
       lines = 1;
       begun = true;
       stores = Open (a ∷ []) ∷ replicate 7 Closed;
@@ -172,7 +200,7 @@ kept_session_of a =
     record {
       window = 3;
       scale = 0;
-      version = second_version;
+      mode = mode_of second_version false false;
       lines = 2;
       begun = true;
       stores = Kept 5 a ∷ replicate 7 Closed;
@@ -252,6 +280,34 @@ FirstVersionOutput =
     (files : Files) → output words files (codes "session 1\nkeep 0 5\nkeep\n")
     ≡ codes "ok 1\nrefused 2 unknown\nrefused 3 unknown\n"
 
+-- samples of 48 bits and reports as JSON lines
+abbrev pub WideJsonOutput : Type 0
+WideJsonOutput =
+    (files : Files) → output words files
+    (codes "session 2 wide json\nappend 0 140737488355327 -140737488355328 0\nappend 0 140737488355328\nentry 0 0\n")
+    ≡ codes "{\"kind\":\"ok\",\"line\":1}\n{\"kind\":\"ok\",\"line\":2,\"samples\":3}\n"
+    ++ codes "{\"kind\":\"refused\",\"line\":3,\"word\":\"sample 1\"}\n"
+    ++ codes "{\"kind\":\"entry\",\"line\":4,\"window\":"
+    ++ codes "{\"dist\":null,\"index\":null,\"left\":null,\"right\":null,\"start\":0}}\n"
+
+-- the greatest distance of three samples
+abbrev pub WideOutput : Type 0
+WideOutput =
+    (files : Files) → output words files
+    (codes "session 2 wide\nappend 0 -140737488355328 -140737488355328 -140737488355328"
+    ++ codes " 140737488355327 140737488355327 140737488355327\nentry 0 0\n")
+    ≡ codes "ok 1\nok 2 6\nentry 3 0 158456325028527549287181058050 2 - 2\n"
+
+-- what stands before the version line is answered as text, and what stands behind it as JSON
+abbrev pub JsonOutput : Type 0
+JsonOutput =
+    (files : Files) → output words files
+    (codes "session 1 json\nfrob\nsession 2 json\nprofile 0\nsession 2\nappend 0 2147483648\n")
+    ≡ codes "refused 1 version\nrefused 2 unknown\n{\"kind\":\"ok\",\"line\":3}\n"
+    ++ codes "{\"kind\":\"profile\",\"line\":4,\"windows\":[]}\n"
+    ++ codes "{\"kind\":\"refused\",\"line\":5,\"word\":\"version\"}\n"
+    ++ codes "{\"kind\":\"refused\",\"line\":6,\"word\":\"sample 1\"}\n"
+
 -- no line behind `end` is run
 abbrev pub EndOutput : Type 0
 EndOutput =
@@ -260,16 +316,16 @@ EndOutput =
 
 -- what files give to a load, and what they are refused for
 pub record LoadedFiles : Type 0 where
-  pub under_header : table_in 1 (1 ∷ 2 ∷ []) true (codes "time,load,temp\n0,1.0,7.5\n1,,\"7.5\"\n")
+  pub under_header : table_in Narrow 1 (1 ∷ 2 ∷ []) true (codes "time,load,temp\n0,1.0,7.5\n1,,\"7.5\"\n")
       ≡ Ok ((Some (pos 10) ∷ None ∷ []) ∷ (Some (pos 75) ∷ Some (pos 75) ∷ []) ∷ [])
-  pub in_their_order : table_in 0 (2 ∷ 0 ∷ []) false (codes "1,2,3\n")
+  pub in_their_order : table_in Narrow 0 (2 ∷ 0 ∷ []) false (codes "1,2,3\n")
       ≡ Ok ((Some (pos 3) ∷ []) ∷ (Some (pos 1) ∷ []) ∷ [])
-  pub no_bytes : table_in 0 (0 ∷ []) false [] ≡ Ok ([] ∷ [])
-  pub header_unnamed : first_cause (file_conditions 1 (1 ∷ []) false (Some (codes "time,load\n0,1.0\n")))
+  pub no_bytes : table_in Narrow 0 (0 ∷ []) false [] ≡ Ok ([] ∷ [])
+  pub header_unnamed : first_cause (file_conditions Narrow 1 (1 ∷ []) false (Some (codes "time,load\n0,1.0\n")))
       ≡ Some (cause.Record 1)
-  pub missing_field : first_cause (file_conditions 0 (1 ∷ []) false (Some (codes "1,2\n3,4\n5,6\n7\n9,10\n")))
+  pub missing_field : first_cause (file_conditions Narrow 0 (1 ∷ []) false (Some (codes "1,2\n3,4\n5,6\n7\n9,10\n")))
       ≡ Some (cause.Record 4)
-  pub no_file : first_cause (file_conditions 0 (1 ∷ []) false None) ≡ Some cause.File
+  pub no_file : first_cause (file_conditions Narrow 0 (1 ∷ []) false None) ≡ Some cause.File
 
 -- the words of a run at scale 1
 abbrev pub tenths : List (List ℕ)
@@ -341,6 +397,13 @@ ConsensusOutput =
     ≡ codes "ok 1 0\nok 2 0\nok 3 4\nok 4 4\nok 5 4\nconsensus 6 3 0 0\n0 0 0\n1 0 1\n2 3 0\n"
     ++ codes "ok 7 0\nconsensus 8 -\n"
 
+-- the window lengths of a range, with windows and without
+abbrev pub PanOutput : Type 0
+PanOutput =
+    (files : Files) → output words files (codes "append 0 1 2 3 1 2 3\npan 0 3 4\npan 0 5 7\npan 0 4 3\n")
+    ≡ codes "ok 1 6\npan 2 2\n3 4 0 0 3 6 1 3\n4 3 10 0 2 10 0 2\n"
+    ++ codes "pan 3 3\n5 2 - - - - - -\n6 1 - - - - - -\n7 0 - - - - - -\nrefused 4 number\n"
+
 -- series that are made: of one window, and of windows that have a nearest one
 abbrev pub MadeOutput : Type 0
 MadeOutput =
@@ -349,3 +412,75 @@ MadeOutput =
     bytes ≡ codes "generated 3 1\nbest -\ndiscord -\nsegment -\n")
     × (output (codes "--window=3" ∷ codes "--generate=0" ∷ codes "--count=6" ∷ codes "--scale=2" ∷ []) files bytes
     ≡ codes "generated 6 4\nbest 118633 0 2\ndiscord 119349 1 3\nsegment -\n")
+
+-- reports as JSON, each kind, and what isn't there
+pub record SpelledReports : Type 0 where
+  pub ok : json_line (ok_data 1 None)
+      ≡ codes "{\"kind\":\"ok\",\"line\":1}\n"
+  pub appended : json_line (ok_data 2 (Some 3))
+      ≡ codes "{\"kind\":\"ok\",\"line\":2,\"samples\":3}\n"
+  pub refused : json_line (refused_data 3 (cause.Sample 1))
+      ≡ codes "{\"kind\":\"refused\",\"line\":3,\"word\":\"sample 1\"}\n"
+  pub window : json_line (window_data 2 1 (Some (pos 25) ∷ None ∷ Some (pos 700) ∷ []) 2)
+      ≡ codes "{\"kind\":\"window\",\"line\":2,\"samples\":[\"0.25\",\"?\",\"7.00\"],\"start\":1}\n"
+  pub no_entry : json_line (entry_data 4 0 None None None)
+      ≡ codes "{\"kind\":\"entry\",\"line\":4,\"window\":{\"dist\":null,\"index\":null,\"left\":null,"
+      ++ codes "\"right\":null,\"start\":0}}\n"
+  pub entry : json_line (entry_data 5 2 (Some (near_at 0 6)) (Some (near_at 0 6)) (Some (near_at 4 6)))
+      ≡ codes "{\"kind\":\"entry\",\"line\":5,\"window\":{\"dist\":\"6\",\"index\":0,\"left\":0,\"right\":4,"
+      ++ codes "\"start\":2}}\n"
+  pub profile : json_line (profile_data 4 2 record {
+    all = Some (near_at 0 6) ∷ None ∷ [];
+    left = Some (near_at 0 6) ∷ None ∷ [];
+    right = None ∷ None ∷ [];
+  })
+      ≡ codes "{\"kind\":\"profile\",\"line\":4,\"windows\":[{\"dist\":\"6\",\"index\":0,\"left\":0,"
+      ++ codes "\"right\":null,\"start\":2},{\"dist\":null,\"index\":null,\"left\":null,\"right\":null,"
+      ++ codes "\"start\":3}]}\n"
+  pub no_windows : json_line (profile_data 1 0 record { all = []; left = []; right = [] })
+      ≡ codes "{\"kind\":\"profile\",\"line\":1,\"windows\":[]}\n"
+  pub join : json_line (slots_data (codes "join") 4 (Some (near_at 0 3) ∷ None ∷ []))
+      ≡ codes "{\"kind\":\"join\",\"line\":4,\"windows\":[{\"dist\":\"3\",\"index\":0,\"start\":0},{\"dist\":null,"
+      ++ codes "\"index\":null,\"start\":1}]}\n"
+  pub nearest : json_line (nearest_data 2 ((near_at 3 0 ∷ near_at 2 6 ∷ []) ∷ [] ∷ []))
+      ≡ codes "{\"kind\":\"nearest\",\"line\":2,\"windows\":[{\"nearest\":[{\"dist\":\"0\",\"index\":3},"
+      ++ codes "{\"dist\":\"6\",\"index\":2}],\"start\":0},{\"nearest\":[],\"start\":1}]}\n"
+  pub pan : json_line (pan_data 2 (record {
+    length = 3;
+    windows = 4;
+    best = Some record { start = 0; near = near_at 3 0 };
+    discord = None;
+  } ∷ []))
+      ≡ codes "{\"kind\":\"pan\",\"lengths\":[{\"best\":{\"dist\":\"0\",\"index\":3,\"start\":0},"
+      ++ codes "\"discord\":null,\"length\":3,\"windows\":4}],\"line\":2}\n"
+  pub matches : json_line (match_data 2 (near_at 0 0 ∷ near_at 3 0 ∷ []))
+      ≡ codes "{\"kind\":\"match\",\"line\":2,\"matches\":[{\"dist\":\"0\",\"index\":0},{\"dist\":\"0\","
+      ++ codes "\"index\":3}]}\n"
+  pub motifs : json_line (motifs_data 3 (record { start = 0; matches = near_at 0 0 ∷ near_at 3 0 ∷ [] } ∷ []))
+      ≡ codes "{\"kind\":\"motifs\",\"line\":3,\"motifs\":[{\"matches\":[{\"dist\":\"0\",\"index\":0},"
+      ++ codes "{\"dist\":\"0\",\"index\":3}],\"start\":0}]}\n"
+  pub discords : json_line (discords_data 2 (record { start = 1; near = near_at 3 6 } ∷ []))
+      ≡ codes "{\"discords\":[{\"dist\":\"6\",\"index\":3,\"start\":1}],\"kind\":\"discords\",\"line\":2}\n"
+  pub chain : json_line (chain_data 3 (0 ∷ 2 ∷ []))
+      ≡ codes "{\"chain\":[0,2],\"kind\":\"chain\",\"line\":3}\n"
+  pub chains : json_line (chains_data 3 ((0 ∷ 2 ∷ []) ∷ (1 ∷ []) ∷ (3 ∷ []) ∷ []) (Some 0))
+      ≡ codes "{\"chains\":[[0,2],[1],[3]],\"kind\":\"chains\",\"line\":3,\"longest\":0}\n"
+  pub no_chains : json_line (chains_data 1 [] None)
+      ≡ codes "{\"chains\":[],\"kind\":\"chains\",\"line\":1,\"longest\":null}\n"
+  pub segments : json_line (segments_data 2 (3 ∷ []) ((1, 1) ∷ (1, 1) ∷ (1, 1) ∷ (0, 6) ∷ []))
+      ≡ codes "{\"kind\":\"segments\",\"line\":2,\"segments\":[{\"den\":6,\"num\":0,\"place\":3}]}\n"
+  pub mpdist : json_line (mpdist_data 5 (Some (square 0)))
+      ≡ codes "{\"dist\":\"0\",\"kind\":\"mpdist\",\"line\":5}\n"
+  pub no_mpdist : json_line (mpdist_data 5 None)
+      ≡ codes "{\"dist\":null,\"kind\":\"mpdist\",\"line\":5}\n"
+  pub consensus : json_line (consensus_data 6 (Some record {
+    radius = 3;
+    series = 0;
+    start = 0;
+    nearest = near_at 0 0 ∷ near_at 1 0 ∷ near_at 0 3 ∷ [];
+  }))
+      ≡ codes "{\"centre\":{\"nearest\":[{\"dist\":\"0\",\"index\":0,\"place\":0},{\"dist\":\"0\",\"index\":1,"
+      ++ codes "\"place\":1},{\"dist\":\"3\",\"index\":0,\"place\":2}],\"radius\":\"3\",\"series\":0,\"start\":0},"
+      ++ codes "\"kind\":\"consensus\",\"line\":6}\n"
+  pub no_consensus : json_line (consensus_data 8 None)
+      ≡ codes "{\"centre\":null,\"kind\":\"consensus\",\"line\":8}\n"

@@ -10,7 +10,8 @@ use Rattle.mp_replies.specs.Text.{column_text}
 
 abbrev pub join_conditions : List Store → Ref → Ref → List Condition
 join_conditions stores a b =
-    no_slots stores (a ∷ b ∷ []) ∷ kept_slots stores (a ∷ b ∷ []) ∷ no_channels stores (a ∷ b ∷ []) ∷ []
+    let both = a ∷ b ∷ [] in
+    no_slots stores both ∷ kept_slots stores both ∷ no_channels stores both ∷ []
 
 -- ---- the report
 

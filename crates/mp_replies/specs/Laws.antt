@@ -4,7 +4,8 @@ use Rattle.std.specs.Prelude.{length, map}
 use Rattle.std.specs.Prelude.{slice_index_or, Some, None, Ok, Err, flat_map}
 use Rattle.mp_bytes.specs.Fields.{is_blank_line, is_comment}
 use Rattle.mp_bytes.specs.Lines.{max_line, cut}
-use Rattle.mp_defs.specs.Limits.{max_samples, min_window}
+use Rattle.mp_nums.specs.declared.widths.Width.{Width}
+use Rattle.mp_defs.specs.Limits.{max_samples, max_window, min_window}
 use Rattle.mp_text.specs.Rows.{Row}
 use Rattle.mp_results.specs.Motifs.{MotifQuery}
 use Rattle.mp_replies.specs.declared.causes.Cause.{Cause}
@@ -13,9 +14,10 @@ use Rattle.mp_replies.specs.Words.{Job}
 use Rattle.mp_replies.specs.State.{Files, State, channels_at, first_version, second_version}
 use Rattle.mp_replies.specs.Answer.{Silent, Refused, Ended}
 use Rattle.mp_replies.specs.Command.{Report}
-use Rattle.mp_replies.specs.Command.{Command, Session, KeepLast, Load, Append, Nearest, Match, Motifs, Discords}
-use Rattle.mp_replies.specs.Command.{Segments, Consensus}
-use Rattle.mp_replies.specs.Limits.{max_channels, max_column, max_count, max_factor, max_motifs, max_ranks, max_refs}
+use Rattle.mp_replies.specs.Command.{Command, Session, KeepLast, Load, Append, Nearest, Pan, Match, Motifs}
+use Rattle.mp_replies.specs.Command.{Discords, Segments, Consensus}
+use Rattle.mp_replies.specs.Limits.{max_channels, max_column, max_count, max_factor, max_lengths, max_motifs, max_ranks}
+use Rattle.mp_replies.specs.Limits.{max_refs}
 use Rattle.mp_replies.specs.Limits.{max_square, min_refs}
 use Rattle.mp_replies.specs.Conditions.{Condition}
 use Rattle.mp_replies.specs.AppendCommand.{item_of, read_items}
@@ -113,22 +115,22 @@ WordsStandInOrder = (state : State) (files : Files) (command : Command) → Stan
 -- ---- items
 
 -- item bad, counted from 1, is bad, and each earlier one is good
-pub record IsFirstBad (scale channels : ℕ) (items : List (List ℕ)) (bad : ℕ) : Type 0 where
+pub record IsFirstBad (width : Width) (scale channels : ℕ) (items : List (List ℕ)) (bad : ℕ) : Type 0 where
   pub some : 0 < bad
   pub within : bad ≤ length items
-  pub is_bad : item_of scale channels bad (slice_index_or items (bad - 1) []) ≡ Err bad
-  pub good_before : (k : ℕ) → k + 1 < bad → IsOk (item_of scale channels (k + 1) (slice_index_or items k []))
+  pub is_bad : item_of width scale channels bad (slice_index_or items (bad - 1) []) ≡ Err bad
+  pub good_before : (k : ℕ) → k + 1 < bad → IsOk (item_of width scale channels (k + 1) (slice_index_or items k []))
 
 -- each item is good, and these are their samples
-pub record AreSpelled (scale channels : ℕ) (items : List (List ℕ)) (rows : List Row) : Type 0 where
-  pub all_good : All (λ item. IsOk (item_of scale channels 0 item)) items
-  pub rows_are : map Ok rows ≡ map (item_of scale channels 0) items
+pub record AreSpelled (width : Width) (scale channels : ℕ) (items : List (List ℕ)) (rows : List Row) : Type 0 where
+  pub all_good : All (λ item. IsOk (item_of width scale channels 0 item)) items
+  pub rows_are : map Ok rows ≡ map (item_of width scale channels 0) items
 
 pub record BadItemsAreTheFirst : Type 0 where
-  pub bad : (scale channels : ℕ) (items : List (List ℕ)) (number : ℕ) → read_items scale channels items ≡ Err number
-      → IsFirstBad scale channels items number
-  pub good : (scale channels : ℕ) (items : List (List ℕ)) (rows : List Row) → read_items scale channels items ≡ Ok rows
-      → AreSpelled scale channels items rows
+  pub bad : (width : Width) (scale channels : ℕ) (items : List (List ℕ)) (number : ℕ)
+      → read_items width scale channels items ≡ Err number → IsFirstBad width scale channels items number
+  pub good : (width : Width) (scale channels : ℕ) (items : List (List ℕ)) (rows : List Row)
+      → read_items width scale channels items ≡ Ok rows → AreSpelled width scale channels items rows
 
 -- ---- appends
 
@@ -144,7 +146,7 @@ AppendEach version slot (line ∷ lines) (items ∷ groups) =
 pub record AreAlike (a b : State) : Type 0 where
   pub window_is : a.window ≡ b.window
   pub scale_is : a.scale ≡ b.scale
-  pub version_is : a.version ≡ b.version
+  pub mode_is : a.mode ≡ b.mode
   pub begun_is : a.begun ≡ b.begun
   pub stores_are : a.stores ≡ b.stores
 
@@ -154,8 +156,8 @@ abbrev pub AppendsAddUp : Type 0
 AppendsAddUp =
     (state : State) (files : Files) (slot : ℕ)
     (first : List ℕ) (lines : List (List ℕ)) (groups : List (List (List ℕ))) (whole : List ℕ)
-    → 0 < length (channels_at state.stores slot) → AppendEach state.version slot (first ∷ lines) groups
-    → asked_of state.version whole ≡ Asks (Append slot (flat_map (λ items. items) groups))
+    → 0 < length (channels_at state.stores slot) → AppendEach state.mode.version slot (first ∷ lines) groups
+    → asked_of state.mode.version whole ≡ Asks (Append slot (flat_map (λ items. items) groups))
     → some_refused state files (first ∷ lines) ≡ false
     → (cause state whole files ≡ None)
     × AreAlike (state_after state files (first ∷ lines)) (after state whole files)
@@ -179,12 +181,20 @@ IsMotifQuery query =
     × ((query.neighbours ≤ max_count)
     × IsCount max_motifs query.max_matches)))
 
+-- window lengths from a least to a greatest
+pub record AreLengths (lo hi : ℕ) : Type 0 where
+  pub least : min_window ≤ lo
+  pub ordered : lo ≤ hi
+  pub greatest : hi ≤ max_window
+  pub few : hi + 1 ≤ lo + max_lengths
+
 -- the numbers that a command names lie within their limits
 abbrev pub IsWithin : Command → Type 0
-IsWithin (Session version) = (first_version ≤ version) × (version ≤ second_version)
+IsWithin (Session mode) = (first_version ≤ mode.version) × (mode.version ≤ second_version)
 IsWithin (KeepLast slot keep) = (min_window ≤ keep) × (keep ≤ max_samples)
 IsWithin (Load slot file cols header) = AreColumns cols
 IsWithin (Nearest at k) = IsCount max_ranks k
+IsWithin (Pan at lo hi) = AreLengths lo hi
 IsWithin (Match at query start radius max) = (radius ≤ max_square) × IsCount max_count max
 IsWithin (Motifs at query) = IsMotifQuery query
 IsWithin (Discords at count) = IsCount max_count count

@@ -7,6 +7,7 @@ pub mod Conditions
 pub mod Change
 pub mod Command
 pub mod Commands
+pub mod Json
 pub mod Answer
 pub mod Text
 pub mod Shapes
@@ -21,6 +22,7 @@ pub mod EntryCommand
 pub mod JoinCommand
 pub mod MultiCommand
 pub mod NearestCommand
+pub mod PanCommand
 pub mod MatchCommand
 pub mod MotifsCommand
 pub mod DiscordsCommand

@@ -2,7 +2,7 @@
 use Rattle.std.specs.Prelude.{◌≡◌, ℕ, ◌+◌, ◌≤◌, ◌&&◌, ◌||◌, All, Bool, true, false, nat_le, nat_lt, ◌==◌, List, [], ◌∷◌}
 use Rattle.std.specs.Prelude.{length}
 use Rattle.std.specs.Prelude.{map, slice_index, codes, if◌then◌else◌, Option, Some, None, ok_or, Result, Ok, Err}
-use Rattle.std.specs.Prelude.{option_and_then}
+use Rattle.std.specs.Prelude.{option_and_then, not}
 use Rattle.std.specs.Option.{option_zip}
 use Rattle.std.proofs.Common.{zero, suc, refl, ap, subst, arith}
 use Rattle.std.proofs.lemmas.Bool.Decides.{nat_tests}
@@ -16,7 +16,7 @@ use Rattle.mp_defs.specs.Limits.{max_samples, min_window}
 use Rattle.mp_replies.specs.declared.causes.Cause.{Cause}
 use Rattle.mp_replies.specs.declared.causes.Cause.TheVariants as cause
 use Rattle.mp_replies.specs.declared.refs.Ref.{Ref}
-use Rattle.mp_replies.specs.Command.{Command, Session, End}
+use Rattle.mp_replies.specs.Command.{Command, Session, Pan, End}
 use Rattle.mp_replies.specs.ConsensusCommand.{consensus_fits, consensus_shape}
 use Rattle.mp_replies.specs.Limits.{max_channels, max_column, max_count, max_digits, max_factor, max_motifs, max_ranks}
 use Rattle.mp_replies.specs.Limits.{max_refs, max_square, min_refs}
@@ -31,11 +31,12 @@ use Rattle.mp_replies.specs.Numbers.{onto_some, rank_count}
 use Rattle.mp_replies.specs.Numbers.{positive, ref, refs}
 use Rattle.mp_replies.specs.Numbers.{squared}
 use Rattle.mp_replies.specs.NearestCommand.{nearest_shape}
+use Rattle.mp_replies.specs.PanCommand.{are_lengths, lengths, lengths_by, pan_shape}
 use Rattle.mp_replies.specs.SegmentsCommand.{segments_shape}
-use Rattle.mp_replies.specs.SessionCommand.{is_version, session_of, session_with}
+use Rattle.mp_replies.specs.SessionCommand.{is_named, mode_of, session_of, session_with, words_of}
 use Rattle.mp_replies.specs.State.{first_version, second_version}
 use Rattle.mp_replies.specs.Shapes.{Shape, by_shape, last, no_field, ref_and_count, ◌&◌}
-use Rattle.mp_replies.specs.Laws.{AreColumns, IsCount, IsMotifQuery, IsWithin, LimitsAreKept}
+use Rattle.mp_replies.specs.Laws.{AreColumns, AreLengths, IsCount, IsMotifQuery, IsWithin, LimitsAreKept}
 
 -- ---- numbers
 
@@ -141,6 +142,30 @@ keep_gives =
 nearest_gives : Gives nearest_shape.read (λ found. IsCount max_ranks found.1)
 nearest_gives =
     behind ref (last rank_count) (IsCount max_ranks) (last_gives rank_count (IsCount max_ranks) rank_counts)
+
+lengths_by_test : (lo hi : ℕ) (there : Bool) (found : ℕ × ℕ) → are_lengths lo hi ≡ there
+    → (if there then Some (lo, hi) else None) ≡ Some found → AreLengths found.0 found.1
+lengths_by_test lo hi true found is e =
+    let pair : ℕ × ℕ = (lo, hi) in
+    let same : pair ≡ found = cc in
+    let least : nat_le min_window lo ≡ true = grind (arith, nat_tests) in
+    subst (λ (p : ℕ × ℕ). AreLengths p.0 p.1) same (record {
+      least = grind (arith, nat_tests);
+      ordered = grind (arith, nat_tests);
+      greatest = grind (arith, nat_tests);
+      few = grind (arith, nat_tests);
+    })
+lengths_by_test lo hi false found is e = absurd (cc e)
+
+lengths_some : (read : Option (ℕ × ℕ)) (found : ℕ × ℕ) → option_and_then lengths_by read ≡ Some found
+    → AreLengths found.0 found.1
+lengths_some None found e = absurd (cc e)
+lengths_some (Some (lo, hi)) found e = lengths_by_test lo hi (are_lengths lo hi) found refl e
+
+pan_gives : Gives pan_shape.read (λ found. AreLengths found.1.0 found.1.1)
+pan_gives =
+    behind ref lengths (λ found. AreLengths found.0 found.1)
+    (λ fields found e. lengths_some ((number & last number) fields) found e)
 
 match_gives : Gives match_shape.read (λ found. (found.1.1.1.0 ≤ max_square) × IsCount max_count found.1.1.1.1)
 match_gives =
@@ -296,26 +321,29 @@ refs_within fields list fits is =
       omega (arith, long, length-map fields ref, within.1),
     )
 
--- ---- the version of a session
+-- ---- the mode of a session
 
-version_by : (n : ℕ) (first second : Bool) → (n == first_version) ≡ first → (n == second_version) ≡ second
-    → (first || second) ≡ true → IsWithin (Session n)
-version_by n first second one two h = (grind (arith, nat_tests), grind (arith, nat_tests))
+named_by : (version : ℕ) (plain : Bool) → (version == second_version || (version == first_version && plain)) ≡ true
+    → (first_version ≤ version) × (version ≤ second_version)
+named_by version true h = (grind (arith, nat_tests), grind (arith, nat_tests))
+named_by version false h = (grind (arith, nat_tests), grind (arith, nat_tests))
 
-versioned : (n : ℕ) (same : Bool) (command : Command) → is_version n ≡ same
-    → (if same then Ok (Session n) else Err cause.Version) ≡ Ok command → IsWithin command
-versioned n true command there e =
-    let is : Session n ≡ command = cc in
-    subst IsWithin is (version_by n (n == first_version) (n == second_version) refl refl there)
-versioned n false command there e = absurd (cc e)
+named : (version : ℕ) (wide json there : Bool) (command : Command) → is_named version wide json ≡ there
+    → (if there then Ok (Session (mode_of version wide json)) else Err cause.Version) ≡ Ok command → IsWithin command
+named version wide json true command is e =
+    let same : Session (mode_of version wide json) ≡ command = cc in
+    subst IsWithin same (named_by version (not (wide || json)) is)
+named version wide json false command is e = absurd (cc e)
 
-numbered : (read : Option ℕ) (command : Command) → session_with read ≡ Ok command → IsWithin command
+numbered : (read : Option (ℕ × (Bool × Bool))) (command : Command) → session_with read ≡ Ok command
+    → IsWithin command
 numbered None command e = absurd (cc e)
-numbered (Some n) command e = versioned n (is_version n) command refl e
+numbered (Some (version, (wide, json))) command e =
+    named version wide json (is_named version wide json) command refl e
 
 session_within : (fields : List (List ℕ)) (command : Command) → session_of fields ≡ Ok command → IsWithin command
-session_within (field ∷ []) command e = numbered (number field) command e
-session_within others command e = absurd (cc e)
+session_within [] command e = absurd (cc e)
+session_within (field ∷ words) command e = numbered (option_zip (number field) (words_of words)) command e
 
 -- ---- the table
 
@@ -340,8 +368,13 @@ since_within first version form h = record {
       unless_early (nat_le first version) (form.read fields) command (h.within fields command);
 }
 
-keep_within : (found : ℕ × ℕ) → (min_window ≤ found.1) × (found.1 ≤ max_samples) → IsWithin (keep_by found)
+keep_within : (found : ℕ × ℕ) → (min_window ≤ found.1) × (found.1 ≤ max_samples)
+    → IsWithin (keep_by found)
 keep_within (slot, keep) h = h
+
+pan_within : (found : Ref × (ℕ × ℕ)) → AreLengths found.1.0 found.1.1
+    → IsWithin ((λ (p : Ref × (ℕ × ℕ)). Pan p.0 p.1.0 p.1.1) found)
+pan_within (at, (lo, hi)) h = h
 
 forms_within : (version : ℕ) → AllKeep (forms version)
 forms_within version =
@@ -357,6 +390,7 @@ forms_within version =
     and free (codes "join") _ _ (λ _. tt)
     and free (codes "multi") _ _ (λ _. tt)
     and row_within (codes "nearest") nearest_shape _ (λ fields found fits is. nearest_gives fields found is)
+    and row_within (codes "pan") pan_shape _ (λ fields found fits is. pan_within found (pan_gives fields found is))
     and row_within (codes "match") match_shape _ (λ fields found fits is. match_gives fields found is)
     and row_within (codes "motifs") motifs_shape _ (λ fields found fits is. motifs_gives fields found is)
     and row_within (codes "discords") ref_and_count _ (λ fields found fits is. discords_gives fields found is)

@@ -61,6 +61,10 @@ max_motifs = 1024
 abbrev pub max_ranks : ℕ
 max_ranks = 4
 
+-- the most window lengths that are compared
+abbrev pub max_lengths : ℕ
+max_lengths = 256
+
 -- the most window lengths of a regime's zone
 abbrev pub max_factor : ℕ
 max_factor = 100

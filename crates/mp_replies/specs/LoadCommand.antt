@@ -3,7 +3,7 @@ use Rattle.std.specs.Prelude.{ℕ, ◌==◌, Bool, true, false, not, nat_lt, Lis
 use Rattle.std.specs.Prelude.{Option, Some, None, is_none, is_some, unwrap_or, Result, Ok, Err}
 use Rattle.std.specs.FinMap.{get}
 use Rattle.mp_bytes.specs.Bytes.{same_text}
-use Rattle.mp_nums.specs.declared.widths.Width.TheVariants.{Narrow}
+use Rattle.mp_nums.specs.declared.widths.Width.{Width}
 use Rattle.mp_defs.specs.Series.{Series}
 use Rattle.mp_text.specs.SampleText.{reading}
 use Rattle.mp_text.specs.Table.{Fault, BadField, NoField, TooManyRows, data_records, table_of}
@@ -42,8 +42,8 @@ abbrev pub file_in : Files → List ℕ → Option (List ℕ)
 file_in files file = get files file
 
 -- the series of these columns, or the first fault
-abbrev pub table_in : ℕ → List ℕ → Bool → List ℕ → Result (List Series) Fault
-table_in scale cols header bytes = table_of (reading Narrow scale) cols (data_records header bytes)
+abbrev pub table_in : Width → ℕ → List ℕ → Bool → List ℕ → Result (List Series) Fault
+table_in width scale cols header bytes = table_of (reading width scale) cols (data_records header bytes)
 
 -- the number of the record with a fault, where that is the fault
 abbrev pub bad_record : Result (List Series) Fault → Option ℕ
@@ -79,16 +79,16 @@ record_conditions table =
     ∷ []
 
 -- what the file is refused for
-abbrev pub file_conditions : ℕ → List ℕ → Bool → Option (List ℕ) → List Condition
-file_conditions scale cols header None = when true File ∷ []
-file_conditions scale cols header (Some bytes) =
-    when (nat_lt max_file (length bytes)) FileSize ∷ record_conditions (table_in scale cols header bytes)
+abbrev pub file_conditions : Width → ℕ → List ℕ → Bool → Option (List ℕ) → List Condition
+file_conditions width scale cols header None = when true File ∷ []
+file_conditions width scale cols header (Some bytes) =
+    when (nat_lt max_file (length bytes)) FileSize ∷ record_conditions (table_in width scale cols header bytes)
 
 -- ---- what is changed
 
-abbrev pub channels_of : ℕ → List ℕ → Bool → Option (List ℕ) → List Series
-channels_of scale cols header None = []
-channels_of scale cols header (Some bytes) = series_in (table_in scale cols header bytes)
+abbrev pub channels_of : Width → ℕ → List ℕ → Bool → Option (List ℕ) → List Series
+channels_of width scale cols header None = []
+channels_of width scale cols header (Some bytes) = series_in (table_in width scale cols header bytes)
 
-abbrev pub load_change : ℕ → Files → ℕ → List ℕ → List ℕ → Bool → Change
-load_change scale files slot file cols header = PutChannels slot (channels_of scale cols header (file_in files file))
+abbrev pub load_change : Width → ℕ → Files → ℕ → List ℕ → List ℕ → Bool → Change
+load_change width scale files slot file cols header = PutChannels slot (channels_of width scale cols header (file_in files file))

@@ -11,7 +11,8 @@ use Rattle.mp_replies.specs.State.{State, Store, series_at}
 
 abbrev pub mpdist_conditions : List Store → Ref → Ref → List Condition
 mpdist_conditions stores a b =
-    no_slots stores (a ∷ b ∷ []) ∷ kept_slots stores (a ∷ b ∷ []) ∷ no_channels stores (a ∷ b ∷ []) ∷ []
+    let both = a ∷ b ∷ [] in
+    no_slots stores both ∷ kept_slots stores both ∷ no_channels stores both ∷ []
 
 -- ---- the report
 

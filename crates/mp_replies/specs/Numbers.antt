@@ -42,7 +42,8 @@ factor field = number_of max_digits max_factor field
 -- how many samples of a slot are kept
 abbrev pub kept : List ℕ → Option ℕ
 kept field =
-    option_and_then (λ (n : ℕ). if nat_le min_window n then Some n else None) (number_of max_digits max_samples field)
+    option_and_then (λ (n : ℕ). if nat_le min_window n then Some n else None)
+    (number_of max_digits max_samples field)
 
 -- what is made of one more value, where all are there
 abbrev pub with_next : {A B : Type 0} → Option (A → B) → Option A → Option B

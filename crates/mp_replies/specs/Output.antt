@@ -9,11 +9,12 @@ use Rattle.mp_replies.specs.Summary.{summary_of}
 use Rattle.mp_replies.specs.declared.makes.Make.{Make}
 use Rattle.mp_replies.specs.Line.{ends}
 use Rattle.mp_replies.specs.Step.{cause, after, answer}
-use Rattle.mp_replies.specs.Report.{text_of}
+use Rattle.mp_replies.specs.Report.{written_of}
 
--- the report of a line
+-- the report of a line, in the form of the state behind it
 unfoldable pub reply : State → List ℕ → Files → List ℕ
-reply state line files = text_of (state.lines + 1) (answer state line files)
+reply state line files =
+    written_of (after state line files).mode.form (state.lines + 1) (answer state line files)
 
 -- ---- lines one behind the other, each in the state behind the lines before
 

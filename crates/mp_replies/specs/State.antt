@@ -4,7 +4,10 @@ use Rattle.std.specs.Prelude.{Option, Some, None}
 use Rattle.std.specs.FinMap.{FinMap}
 use Rattle.std.specs.Cmp.Lexicographic.{slice_cmp}
 use Rattle.std.specs.Ordering.{nat_cmp}
+use Rattle.mp_nums.specs.declared.widths.Width.TheVariants.{Narrow}
 use Rattle.mp_defs.specs.Series.{Series}
+use Rattle.mp_replies.specs.declared.modes.Mode.{Mode}
+use Rattle.mp_replies.specs.declared.modes.ReportForm.TheVariants.{Text}
 use Rattle.mp_replies.specs.declared.refs.Ref.{Ref}
 
 -- the files that a session may load, by name
@@ -21,8 +24,8 @@ pub data Store : Type 0 where
 pub record State : Type 0 where
   pub window : ℕ
   pub scale : ℕ
-  -- the version by which the next line is read
-  pub version : ℕ
+  -- how the next line is read and answered
+  pub mode : Mode
   -- how many lines were run
   pub lines : ℕ
   -- whether a command was accepted
@@ -38,13 +41,17 @@ first_version = 1
 abbrev pub second_version : ℕ
 second_version = 2
 
+-- the mode of a session that has named none
+abbrev pub first_mode : Mode
+first_mode = record { version = first_version; width = Narrow; form = Text }
+
 -- at the start slot 0 has one empty channel, and the others are closed
 abbrev pub opening : ℕ → ℕ → State
 opening window scale =
     record {
       window = window;
       scale = scale;
-      version = first_version;
+      mode = first_mode;
       lines = 0;
       begun = false;
       stores = Open ([] ∷ []) ∷ replicate 7 Closed;

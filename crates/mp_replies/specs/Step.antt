@@ -7,7 +7,7 @@ use Rattle.mp_replies.specs.Command.{Command, Load, End, Report}
 use Rattle.mp_replies.specs.Commands.{meaning}
 use Rattle.mp_replies.specs.Conditions.{Condition, first_cause}
 use Rattle.mp_replies.specs.LoadCommand.{load_conditions}
-use Rattle.mp_replies.specs.SessionCommand.{version_behind}
+use Rattle.mp_replies.specs.SessionCommand.{mode_behind}
 use Rattle.mp_replies.specs.Answer.{Answer}
 use Rattle.mp_replies.specs.Answer.{Silent, Refused, Accepted, Ended}
 use Rattle.mp_replies.specs.Line.{Asked, Nothing, Asks, Faulty, asked_of}
@@ -50,7 +50,7 @@ verdict_of state files (Asks command) =
     verdict_by command (first_cause (conditions state files command)) (change_by state files command)
 
 unfoldable pub verdict : State → List ℕ → Files → Verdict
-verdict state line files = verdict_of state files (asked_of state.version line)
+verdict state line files = verdict_of state files (asked_of state.mode.version line)
 
 -- ---- what follows from it
 
@@ -73,7 +73,7 @@ after_by state Passes = counted state
 after_by state (IsRefused cause) = counted state
 after_by state (IsAccepted command change) =
     record state {
-      version = version_behind state.version command;
+      mode = mode_behind state.mode command;
       lines = state.lines + 1;
       begun = true;
       stores = changed state.stores change;
@@ -108,4 +108,4 @@ fetches_by state Nothing = false
 fetches_by state (Faulty cause) = false
 
 unfoldable pub fetches : State → List ℕ → Bool
-fetches state line = fetches_by state (asked_of state.version line)
+fetches state line = fetches_by state (asked_of state.mode.version line)

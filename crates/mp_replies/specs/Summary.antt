@@ -2,8 +2,6 @@
 -- changes.
 use Rattle.std.specs.Prelude.{ℕ, ◌*◌, List, ◌++◌, length, map, codes, decimal, slice_get, Option, Some, None}
 use Rattle.std.specs.List.{range_with_len}
-use Rattle.std.specs.Ordering.{nat_cmp, on, then_cmp}
-use Rattle.std.specs.declared.cmp.Ordering.{Ordering}
 use Rattle.mp_nums.specs.declared.finds.Discord.{Discord}
 use Rattle.mp_nums.specs.declared.nearest.Near.{Near}
 use Rattle.mp_results.specs.Regimes.{regimes_in}
@@ -11,8 +9,7 @@ use Rattle.mp_defs.specs.Profile.{matrix_profile}
 use Rattle.mp_defs.specs.Series.{Series, series_of}
 use Rattle.mp_defs.specs.Window.{excl}
 use Rattle.mp_results.specs.Generator.{sample_of}
-use Rattle.mp_results.specs.Discords.{discords, with_entry}
-use Rattle.mp_picks.specs.Picks.{first_of}
+use Rattle.mp_results.specs.Best.{best_in, discord_in}
 use Rattle.mp_replies.specs.SegmentsCommand.{curve_in, segment_text}
 use Rattle.mp_replies.specs.declared.makes.Make.{Make}
 
@@ -23,20 +20,6 @@ made_series make = series_of (map (sample_of make.number) (range_with_len 0 make
 -- how many window lengths the margins of the curve have, and the zone of a regime
 abbrev pub summary_factor : ℕ
 summary_factor = 5
-
--- ---- the windows that are named
-
--- lesser distances to the nearest window first, and then smaller starts
-abbrev pub best_cmp : Discord → Discord → Ordering
-best_cmp = then_cmp (on (λ window. window.near.dist.0) nat_cmp) (on (λ window. window.start) nat_cmp)
-
--- of the windows that have an entry, the one that is nearest to another
-abbrev pub best_in : List (Option Near) → Option Discord
-best_in column = first_of best_cmp (with_entry column)
-
--- the first discord
-abbrev pub discord_in : List (Option Near) → ℕ → Option Discord
-discord_in column zone = slice_get (discords column zone 1) 0
 
 -- ---- the text
 

@@ -3,6 +3,7 @@
 ghost use Rattle.mp_replies.specs.Examples.{
   LinesEndOrNot,
   SpelledItems,
+  SpelledReports,
   SpelledWords,
   AskedLines,
   BadItemIsNamed,
@@ -17,6 +18,9 @@ ghost use Rattle.mp_replies.specs.Examples.{
   KeptOutput,
   KeptRefusalsOutput,
   FirstVersionOutput,
+  WideJsonOutput,
+  WideOutput,
+  JsonOutput,
   LoadedFiles,
   LoadOutput,
   OpenOutput,
@@ -27,6 +31,7 @@ ghost use Rattle.mp_replies.specs.Examples.{
   SegmentsOutput,
   MultiOutput,
   NearestOutput,
+  PanOutput,
   ConsensusOutput,
   MadeOutput,
 };
@@ -39,6 +44,11 @@ pub fn lines_end_or_not()
 /// Items with one value and with two, good and bad.
 pub fn spelled_items()
     ensures { SpelledItems }
+{}
+
+/// Reports as JSON, one of each kind, with and without what may be missing.
+pub fn spelled_reports()
+    ensures { SpelledReports }
 {}
 
 /// Words in the grammar, and outside it.
@@ -110,6 +120,26 @@ pub fn kept_refusals_output()
 /// A command of the second version in the first one.
 pub fn first_version_output()
     ensures { FirstVersionOutput }
+{}
+
+/// All window lengths of a range.
+pub fn pan_output()
+    ensures { PanOutput }
+{}
+
+/// Samples of 48 bits, reported as JSON lines.
+pub fn wide_json_output()
+    ensures { WideJsonOutput }
+{}
+
+/// The greatest distance of three samples of 48 bits.
+pub fn wide_output()
+    ensures { WideOutput }
+{}
+
+/// Lines before a version line that asks for JSON, and behind it.
+pub fn json_output()
+    ensures { JsonOutput }
 {}
 
 /// The line that ends a run.

@@ -8,7 +8,7 @@ use Rattle.mp_results.specs.Discords.{discord_at}
 use Rattle.mp_nums.specs.declared.finds.Discord.{Discord}
 use Rattle.mp_nums.specs.declared.nearest.Near.{Near}
 use Rattle.mp_picks.specs.Picks.{first_of}
-use Rattle.mp_replies.specs.Summary.{best_cmp}
+use Rattle.mp_results.specs.Best.{best_cmp}
 use Rattle.mp_report.specs.Best.{best_of, best_with}
 
 -- the best of these windows, the first of which starts there

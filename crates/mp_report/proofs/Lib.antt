@@ -2,3 +2,5 @@ pub mod ListLemmas
 pub mod RowLemmas
 pub mod SampleLemmas
 pub mod BestLemmas
+pub mod TokenLemmas
+pub mod AsciiLemmas

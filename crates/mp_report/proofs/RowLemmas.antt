@@ -8,7 +8,7 @@ range_more : (a n : ℕ) → range_with_len a (suc n) ≡ range_with_len a n ++ 
 range_more a zero = let e : a + zero ≡ a = omega arith in rw e refl
 range_more a (suc n) = let e : a + suc n ≡ a + 1 + n = omega arith in rw e (ap (λ xs. a ∷ xs) (range_more (a + 1) n))
 
-pub rows_more : (f : ℕ → List ℕ) (n : ℕ)
+pub rows_more : {T : Type 0} (f : ℕ → List T) (n : ℕ)
     → flat_map f (range_with_len 0 (n + 1)) ≡ flat_map f (range_with_len 0 n) ++ f n
 rows_more f n =
     let more : n + 1 ≡ suc n = omega arith in

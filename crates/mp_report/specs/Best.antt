@@ -4,7 +4,7 @@ use Rattle.mp_results.specs.Discords.{discord_at}
 use Rattle.mp_nums.specs.declared.finds.Discord.{Discord}
 use Rattle.mp_nums.specs.declared.nearest.Near.{Near}
 use Rattle.mp_picks.specs.Picks.{earlier_of}
-use Rattle.mp_replies.specs.Summary.{best_cmp}
+use Rattle.mp_results.specs.Best.{best_cmp}
 
 abbrev pub best_of : Option Discord → Option Discord → Option Discord
 best_of None later = later

@@ -13,3 +13,8 @@ slots_text_of Multi line slots = multi_text line slots
 abbrev pub slots_word : SlotsName → List ℕ
 slots_word Join = codes "join "
 slots_word Multi = codes "multi "
+
+-- the kind of report in JSON
+abbrev pub slots_kind : SlotsName → List ℕ
+slots_kind Join = codes "join"
+slots_kind Multi = codes "multi"

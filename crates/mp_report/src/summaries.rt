@@ -5,7 +5,8 @@ ghost use Rattle.std.specs.Prelude.{◌≡◌, ◌<◌, ◌++◌, length, map, I
 ghost use Rattle.mp_results.specs.Curve.{parts_of};
 ghost use Rattle.mp_picks.specs.Picks.{earlier_of};
 ghost use Rattle.mp_report.specs.Best.{best_with};
-ghost use Rattle.mp_replies.specs.Summary.{best_cmp, best_in, discord_in, named_text, regime_text, summary_text};
+ghost use Rattle.mp_results.specs.Best.{best_cmp, best_in, discord_in};
+ghost use Rattle.mp_replies.specs.Summary.{named_text, regime_text, summary_text};
 
 use crate::numbers::{push_distance, push_head, push_number};
 use crate::segments::push_segment;

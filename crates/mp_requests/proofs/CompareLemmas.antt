@@ -20,7 +20,7 @@ use Rattle.mp_requests.specs.declared.answers.Answer.TheVariants.{Accepted}
 use Rattle.mp_requests.specs.declared.reports.Report as reports
 use Rattle.mp_requests.specs.declared.requests.Comparison.{Comparison}
 use Rattle.mp_requests.specs.declared.requests.Comparison.TheVariants.{Join, Mpdist}
-use Rattle.mp_requests.specs.Requests.{compared_by, compared_in, report_in, version_asked}
+use Rattle.mp_requests.specs.Requests.{compared_by, compared_in, report_in, mode_asked}
 use Rattle.mp_requests.specs.Answering.{IsAnswer}
 use Rattle.mp_requests.specs.AnswerLaws.{answer_accepted}
 
@@ -37,9 +37,9 @@ pub compared_goes_on : (by : Comparison) (a b : Ref) → false ≡ is_end (Asks 
 compared_goes_on Join a b = refl
 compared_goes_on Mpdist a b = refl
 
-pub compared_in_version : (by : Comparison) (a b : Ref) → version_asked (Asks (compared_by by a b)) ≡ None
-compared_in_version Join a b = refl
-compared_in_version Mpdist a b = refl
+pub compared_in_mode : (by : Comparison) (a b : Ref) → mode_asked (Asks (compared_by by a b)) ≡ None
+compared_in_mode Join a b = refl
+compared_in_mode Mpdist a b = refl
 
 -- MPdist of two series, by the joins in both directions
 pub mpdist_told : (m : ℕ) (xs ys : List Sample) (a b : Series) (there back : List (Option Near)) (dist : Option Sq)

@@ -11,9 +11,9 @@ use Rattle.mp_defs.specs.Series.{Series, reading_of, series_of}
 use Rattle.mp_partial.specs.Profiled.{Profiled}
 use Rattle.mp_defs.specs.Band.{is_allowed_in}
 use Rattle.mp_replies.specs.Band.{live_profile}
-use Rattle.mp_replies.specs.Commands.{report_text}
-use Rattle.mp_replies.specs.EntryCommand.{entry_in, entry_of, entry_report, entry_text, live_entry}
-use Rattle.mp_replies.specs.ProfileCommand.{live_profile_text, profile_of, profile_report, profile_text}
+use Rattle.mp_replies.specs.Command.{EntryReport, LiveProfileReport, ProfileReport}
+use Rattle.mp_replies.specs.EntryCommand.{entry_in, entry_of, entry_report, live_entry}
+use Rattle.mp_replies.specs.ProfileCommand.{profile_of, profile_report}
 use Rattle.mp_replies.specs.Profiles.{columns_in}
 use Rattle.mp_replies.specs.State.{State, Store, channels_in, keep_at, series_at}
 use Rattle.mp_replies.specs.declared.refs.Ref.{Ref}
@@ -22,7 +22,7 @@ use Rattle.mp_stores.specs.Stores.{Kept, IsChannel, StandFor, Stored, channel_co
 use Rattle.mp_stores.specs.Stores.{slot_at}
 use Rattle.mp_defs.specs.Band.{first_kept, live_column, live_windows}
 use Rattle.mp_stream.specs.Kept.{Keeping, StandsFor}
-use Rattle.mp_requests.specs.Requests.{AreSlotsOf, IsLive, IsNamed, columns_kept}
+use Rattle.mp_requests.specs.Requests.{AreSlotsOf, IsLive, IsNamed, columns_kept, entry_kept}
 use Rattle.mp_requests.proofs.ColumnLemmas.{profile_stands}
 
 -- ---- an open slot
@@ -47,22 +47,22 @@ open_columns state held at profile slots all named is =
     profile_stands held state.stores at profile slots.stand (open_channel held at all named) is
     ∙ ap (λ (n : ℕ). matrix_profile n (series_at state.stores at)) slots.window_is
 
-pub open_profile_told : (state : State) (held : Stored) (line : ℕ) (at : Ref) (profile : Profiled)
+pub open_profile_is : (state : State) (held : Stored) (at : Ref) (profile : Profiled)
     → AreSlotsOf state held → keep_of (slot_at held at.slot) ≡ None → IsNamed held at
     → columns_in profile ≡ matrix_profile held.m (channel_series held at)
-    → profile_text line (columns_in profile) ≡ report_text line (profile_report state at)
-open_profile_told state held line at profile slots all named is =
-    ap (profile_text line) (open_columns state held at profile slots all named is)
-    ∙ ap (λ (o : Option ℕ). report_text line (profile_of o state.window (series_at state.stores at)))
+    → ProfileReport (columns_in profile) ≡ profile_report state at
+open_profile_is state held at profile slots all named is =
+    ap ProfileReport (open_columns state held at profile slots all named is)
+    ∙ ap (λ (o : Option ℕ). profile_of o state.window (series_at state.stores at))
     (sym (open_stands held state.stores at all slots.stand))
 
-pub open_entry_told : (state : State) (held : Stored) (line : ℕ) (at : Ref) (start : ℕ) (profile : Profiled)
+pub open_entry_is : (state : State) (held : Stored) (at : Ref) (start : ℕ) (profile : Profiled)
     → AreSlotsOf state held → keep_of (slot_at held at.slot) ≡ None → IsNamed held at
     → columns_in profile ≡ matrix_profile held.m (channel_series held at)
-    → report_text line (entry_in (columns_in profile) start) ≡ report_text line (entry_report state at start)
-open_entry_told state held line at start profile slots all named is =
-    ap (λ (cs : Columns). report_text line (entry_in cs start)) (open_columns state held at profile slots all named is)
-    ∙ ap (λ (o : Option ℕ). report_text line (entry_of o state.window (series_at state.stores at) start))
+    → entry_in (columns_in profile) start ≡ entry_report state at start
+open_entry_is state held at start profile slots all named is =
+    ap (λ (cs : Columns). entry_in cs start) (open_columns state held at profile slots all named is)
+    ∙ ap (λ (o : Option ℕ). entry_of o state.window (series_at state.stores at) start)
     (sym (open_stands held state.stores at all slots.stand))
 
 -- ---- a kept slot
@@ -116,33 +116,31 @@ live_columns samples kept stands =
     (stands.left ∙ ap (live_column (left_entry may kept.m a) kept.keep kept.m) long)
     (stands.right ∙ ap (live_column (right_entry may kept.m a) kept.keep kept.m) long)
 
--- the text of columns that are copied
-pub copied_text : (line first : ℕ) (kept : Keeping) (all left right : List (Option Near))
+-- what is reported of columns that are copied
+pub copied_is : (first : ℕ) (kept : Keeping) (all left right : List (Option Near))
     → first ≡ first_kept kept.keep kept.count → all ≡ kept.all → left ≡ kept.left → right ≡ kept.right
-    → live_profile_text line first (columns all left right)
-    ≡ live_profile_text line (first_kept kept.keep kept.count) (columns_kept kept)
-copied_text line first kept all left right start all_is left_is right_is =
-    ap (λ (n : ℕ). live_profile_text line n (columns all left right)) start
-    ∙ ap (live_profile_text line (first_kept kept.keep kept.count))
+    → LiveProfileReport first (columns all left right)
+    ≡ LiveProfileReport (first_kept kept.keep kept.count) (columns_kept kept)
+copied_is first kept all left right start all_is left_is right_is =
+    ap (λ (n : ℕ). LiveProfileReport n (columns all left right)) start
+    ∙ ap (LiveProfileReport (first_kept kept.keep kept.count))
     (columns_same (columns all left right) (columns_kept kept) all_is left_is right_is)
 
-pub live_profile_told : (state : State) (held : Stored) (line : ℕ) (at : Ref) (kept : Keeping) → AreSlotsOf state held
+pub live_profile_is : (state : State) (held : Stored) (at : Ref) (kept : Keeping) → AreSlotsOf state held
     → kept.m ≡ held.m → IsKeptAs kept state.stores at
-    → live_profile_text line (first_kept kept.keep kept.count) (columns_kept kept)
-    ≡ report_text line (profile_report state at)
-live_profile_told state held line at kept slots window is =
+    → LiveProfileReport (first_kept kept.keep kept.count) (columns_kept kept) ≡ profile_report state at
+live_profile_is state held at kept slots window is =
     let a = series_of is.samples in
     let m : kept.m ≡ state.window = window ∙ slots.window_is in
-    let told : live_profile_text line (first_kept kept.keep kept.count) (columns_kept kept)
-    ≡ report_text line (profile_of (Some kept.keep) kept.m a) =
-    ap (λ (n : ℕ). live_profile_text line (first_kept kept.keep n) (columns_kept kept))
+    let live : LiveProfileReport (first_kept kept.keep kept.count) (columns_kept kept)
+    ≡ profile_of (Some kept.keep) kept.m a =
+    ap (λ (n : ℕ). LiveProfileReport (first_kept kept.keep n) (columns_kept kept))
     (sym (appended is.samples kept is.stands))
-    ∙ ap (live_profile_text line (first_kept kept.keep (length a))) (live_columns is.samples kept is.stands) in
-    told
-    ∙ (ap (λ (n : ℕ). report_text line (profile_of (Some kept.keep) n a)) m
-    ∙ (ap (λ (s : Series). report_text line (profile_of (Some kept.keep) state.window s)) (sym is.series_is)
-    ∙ ap (λ (o : Option ℕ). report_text line (profile_of o state.window (series_at state.stores at)))
-    (sym is.keep_is)))
+    ∙ ap (LiveProfileReport (first_kept kept.keep (length a))) (live_columns is.samples kept is.stands) in
+    live
+    ∙ (ap (λ (n : ℕ). profile_of (Some kept.keep) n a) m
+    ∙ (ap (λ (s : Series). profile_of (Some kept.keep) state.window s) (sym is.series_is)
+    ∙ ap (λ (o : Option ℕ). profile_of o state.window (series_at state.stores at)) (sym is.keep_is)))
 
 -- ---- the entry of a live window
 
@@ -159,37 +157,41 @@ live_slot f column kept start is live =
     ∙ (columns_have_places.at_place (λ k. f (first + k)) (live_windows kept.keep kept.m kept.count) place within
     ∙ ap f here)
 
--- and what is written of it
-abbrev pub entry_kept_text : ℕ → Keeping → ℕ → List ℕ
-entry_kept_text line kept start =
-    entry_text line start (slice_index_or kept.all (start - first_kept kept.keep kept.count) None)
-    (slice_index_or kept.left (start - first_kept kept.keep kept.count) None)
-    (slice_index_or kept.right (start - first_kept kept.keep kept.count) None)
-
-live_entry_text : (samples : List Sample) (kept : Keeping) (line start : ℕ) → StandsFor samples kept
+live_entry_is_kept : (samples : List Sample) (kept : Keeping) (start : ℕ) → StandsFor samples kept
     → IsLive kept start
-    → entry_kept_text line kept start ≡ report_text line (live_entry kept.keep kept.m (series_of samples) start)
-live_entry_text samples kept line start stands live =
+    → entry_kept kept start ≡ live_entry kept.keep kept.m (series_of samples) start
+live_entry_is_kept samples kept start stands live =
     let a = series_of samples in
     let may = is_allowed_in kept.keep kept.m in
     let all = live_slot (entry may kept.m a) kept.all kept start stands.all live in
     let left = live_slot (left_entry may kept.m a) kept.left kept start stands.left live in
     let right = live_slot (right_entry may kept.m a) kept.right kept start stands.right live in
     let place = start - first_kept kept.keep kept.count in
-    ap (λ (o : Option Near). entry_text line start o (slice_index_or kept.left place None)
+    ap (λ (o : Option Near). EntryReport start o (slice_index_or kept.left place None)
     (slice_index_or kept.right place None)) all
-    ∙ (ap (λ (o : Option Near). entry_text line start (entry may kept.m a start) o
+    ∙ (ap (λ (o : Option Near). EntryReport start (entry may kept.m a start) o
     (slice_index_or kept.right place None)) left
-    ∙ ap (entry_text line start (entry may kept.m a start) (left_entry may kept.m a start)) right)
+    ∙ ap (EntryReport start (entry may kept.m a start) (left_entry may kept.m a start)) right)
 
-pub live_entry_told : (state : State) (held : Stored) (line : ℕ) (at : Ref) (start : ℕ) (kept : Keeping)
+pub live_entry_is : (state : State) (held : Stored) (at : Ref) (start : ℕ) (kept : Keeping)
     → AreSlotsOf state held → kept.m ≡ held.m → IsLive kept start → IsKeptAs kept state.stores at
-    → entry_kept_text line kept start ≡ report_text line (entry_report state at start)
-live_entry_told state held line at start kept slots window live is =
+    → entry_kept kept start ≡ entry_report state at start
+live_entry_is state held at start kept slots window live is =
     let a = series_of is.samples in
     let m : kept.m ≡ state.window = window ∙ slots.window_is in
-    live_entry_text is.samples kept line start is.stands live
-    ∙ (ap (λ (n : ℕ). report_text line (entry_of (Some kept.keep) n a start)) m
-    ∙ (ap (λ (s : Series). report_text line (entry_of (Some kept.keep) state.window s start)) (sym is.series_is)
-    ∙ ap (λ (o : Option ℕ). report_text line (entry_of o state.window (series_at state.stores at) start))
-    (sym is.keep_is)))
+    live_entry_is_kept is.samples kept start is.stands live
+    ∙ (ap (λ (n : ℕ). entry_of (Some kept.keep) n a start) m
+    ∙ (ap (λ (s : Series). entry_of (Some kept.keep) state.window s start) (sym is.series_is)
+    ∙ ap (λ (o : Option ℕ). entry_of o state.window (series_at state.stores at) start) (sym is.keep_is)))
+
+-- what is reported of slots that are lent
+pub lent_is : (start : ℕ) (kept : Keeping) (all left right : Option Near)
+    → all ≡ slice_index_or kept.all (start - first_kept kept.keep kept.count) None
+    → left ≡ slice_index_or kept.left (start - first_kept kept.keep kept.count) None
+    → right ≡ slice_index_or kept.right (start - first_kept kept.keep kept.count) None
+    → EntryReport start all left right ≡ entry_kept kept start
+lent_is start kept all left right all_is left_is right_is =
+    let place = start - first_kept kept.keep kept.count in
+    ap (λ (o : Option Near). EntryReport start o left right) all_is
+    ∙ (ap (λ (o : Option Near). EntryReport start (slice_index_or kept.all place None) o right) left_is
+    ∙ ap (EntryReport start (slice_index_or kept.all place None) (slice_index_or kept.left place None)) right_is)

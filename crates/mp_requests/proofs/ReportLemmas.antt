@@ -32,27 +32,27 @@ use Rattle.mp_requests.specs.declared.reports.Report as reports
 use Rattle.mp_requests.specs.AnswerLaws.{answer_accepted}
 use Rattle.mp_requests.specs.Answering.{state_over}
 use Rattle.mp_requests.specs.Reports.{IsReported}
-use Rattle.mp_requests.specs.Requests.{NamesChannels, refs_of, report_in, version_asked, version_named}
+use Rattle.mp_requests.specs.Requests.{NamesChannels, refs_of, report_in, mode_asked, mode_named}
 
 -- ---- reports
 
 -- a command that nothing refuses, whatever stores the slots stand for
 pub reported : {E : Type 0} (context : Context) (command : Command) (held : Stored) (report : reports.Report)
     → NamesChannels held (answers.Accepted report) → false ≡ is_end (Asks command) → is_last command ≡ false
-    → version_named (answers.Accepted report) ≡ version_asked (Asks command)
+    → mode_named (answers.Accepted report) ≡ mode_asked (Asks command)
     → ((stores : List Store) (files : Files) → StandFor held stores
     → first_cause (conditions (state_over context held stores) files command) ≡ None)
     → ((stores : List Store) (files : Files) → StandFor held stores → (let state = state_over context held stores in
     report_in state report ≡ report_by (after_by state (IsAccepted command (change_by state files command))) command))
     → IsReported {E = E} context (Asks command) held (Ok (answers.Accepted report))
-reported context command held report names ends last version fine is = record {
+reported context command held report names ends last mode fine is = record {
   told = record {
     ok = λ stores files stand.
         answer_accepted (state_over context held stores) files command report (fine stores files stand) last
         (is stores files stand);
     names = names;
     ends = ends;
-    version = version;
+    mode = mode;
   };
   memory = λ stores stand. tt;
 }

@@ -5,7 +5,9 @@ use Rattle.std.specs.declared.alloc.Global.{Global}
 use Rattle.mp_nums.specs.Listed.{Listed}
 use Rattle.mp_results.specs.Chains.{longest_of}
 use Rattle.mp_replies.specs.ChainsCommand.{all_chains_text, chains_text}
+use Rattle.mp_replies.specs.Command.{ChainsReport}
 use Rattle.mp_replies.specs.Commands.{report_text}
+use Rattle.mp_replies.specs.Json.{chains_data, json_line, report_data}
 use Rattle.mp_replies.specs.State.{State}
 use Rattle.mp_replies.specs.declared.refs.Ref.{Ref}
 use Rattle.mp_stores.specs.Stores.{Stored}
@@ -26,3 +28,14 @@ chains_written state line ours chains lent place is same longest =
     ap (chains_text line (map (λ chain. chain.items) lent)) longest
     ∙ (ap (λ (list : List (Listed ℕ)). all_chains_text line (map (λ chain. chain.items) list)) same
     ∙ ap (λ (r : reports.Report). report_text line (report_in state r)) (sym is))
+
+pub chains_spelled : (state : State) (line : ℕ) (ours : reports.Report) (chains : Vec (Listed ℕ) Global)
+    (lent : List (Listed ℕ)) (place : Option ℕ) → ours ≡ report.Chains chains → lent ≡ chains.items
+    → place ≡ longest_of (map (λ chain. chain.items) lent)
+    → json_line (chains_data line (map (λ chain. chain.items) lent) place)
+    ≡ json_line (report_data line (report_in state ours))
+chains_spelled state line ours chains lent place is same longest =
+    ap (λ (o : Option ℕ). json_line (chains_data line (map (λ chain. chain.items) lent) o)) longest
+    ∙ (ap (λ (list : List (Listed ℕ)). json_line (report_data line (ChainsReport (map (λ chain. chain.items) list))))
+    same
+    ∙ ap (λ (r : reports.Report). json_line (report_data line (report_in state r))) (sym is))

@@ -16,7 +16,7 @@ abbrev pub state_over : Context → Stored → List Store → State
 state_over context held stores = record {
   window = held.m;
   scale = context.settings.scale;
-  version = context.version;
+  mode = context.mode;
   lines = context.lines;
   begun = context.begun;
   stores = stores;

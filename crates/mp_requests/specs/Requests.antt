@@ -1,6 +1,6 @@
 -- What requests ask for, and what answers say.
-use Rattle.std.specs.Prelude.{◌≡◌, ℕ, ◌+◌, ◌<◌, ◌≤◌, List, [], ◌∷◌, length, map, Bool, true, false}
-use Rattle.std.specs.Prelude.{Option, Some, None, option_map, unwrap_or}
+use Rattle.std.specs.Prelude.{◌≡◌, ℕ, ◌+◌, ◌-◌, ◌<◌, ◌≤◌, List, [], ◌∷◌, length, map, Bool, true, false}
+use Rattle.std.specs.Prelude.{Option, Some, None, option_map, slice_index_or, unwrap_or}
 use Rattle.std.specs.List.{range_with_len}
 use Rattle.mp_nums.specs.Listed.{Listed}
 use Rattle.mp_nums.specs.declared.nearest.Near.{Near}
@@ -15,6 +15,7 @@ use Rattle.mp_replies.specs.Limits.{slot_count}
 use Rattle.mp_replies.specs.MpdistCommand.{mpdist_between}
 use Rattle.mp_replies.specs.ProfileCommand.{profile_report}
 use Rattle.mp_replies.specs.State.{State}
+use Rattle.mp_replies.specs.declared.modes.Mode.{Mode}
 use Rattle.mp_replies.specs.declared.refs.Ref.{Ref}
 use Rattle.mp_stores.specs.Stores.{Kept, StandFor, Stored, channel_count, channel_series, keep_of, slot_at, streams_at}
 use Rattle.mp_defs.specs.Band.{first_kept, live_windows}
@@ -36,12 +37,14 @@ use Rattle.mp_replies.specs.Numbers.{refs}
 use Rattle.mp_lines.specs.declared.ref_lists.Refs as named
 use Rattle.mp_requests.specs.declared.requests.Comparison.TheVariants.{Join, Mpdist}
 use Rattle.mp_requests.specs.declared.requests.Neighbours as neighbours
+use Rattle.mp_requests.specs.declared.requests.Lengths as lengths
 use Rattle.mp_requests.specs.declared.requests.Pattern as patterns
 use Rattle.mp_requests.specs.declared.requests.Repeats as repeats
 use Rattle.mp_requests.specs.declared.requests.ReportRequest.{ReportRequest}
 use Rattle.mp_requests.specs.declared.requests.ReportRequest.TheVariants.{Session, Window, Profile, Entry, Compare}
-use Rattle.mp_requests.specs.declared.requests.ReportRequest.TheVariants.{Multi, Nearest, Match, Motifs, Discords}
-use Rattle.mp_requests.specs.declared.requests.ReportRequest.TheVariants.{Chain, Chains, Segments, Consensus, End}
+use Rattle.mp_requests.specs.declared.requests.ReportRequest.TheVariants.{Multi, Nearest, Pan, Match, Motifs}
+use Rattle.mp_requests.specs.declared.requests.ReportRequest.TheVariants.{Discords, Chain, Chains, Segments}
+use Rattle.mp_requests.specs.declared.requests.ReportRequest.TheVariants.{Consensus, End}
 
 -- ---- requests
 
@@ -64,6 +67,9 @@ AsksForReport (Asks other) = Unit {0}
 abbrev pub asks_nearest : neighbours.Neighbours → Asked
 asks_nearest sought = Asks (commands.Nearest sought.at sought.k)
 
+abbrev pub asks_pan : lengths.Lengths → Asked
+asks_pan sought = Asks (commands.Pan sought.at sought.lo sought.hi)
+
 abbrev pub asks_match : patterns.Pattern → Asked
 asks_match pattern = Asks (commands.Match pattern.at pattern.query pattern.start pattern.radius pattern.max)
 
@@ -80,13 +86,14 @@ compared_by Join a b = commands.Join a b
 compared_by Mpdist a b = commands.Mpdist a b
 
 abbrev pub reported_in : ReportRequest → Asked
-reported_in (Session version) = Asks (commands.Session version)
+reported_in (Session mode) = Asks (commands.Session mode)
 reported_in (Window at start) = Asks (commands.Window at start)
 reported_in (Profile at) = Asks (commands.Profile at)
 reported_in (Entry at start) = Asks (commands.Entry at start)
 reported_in (Compare pair) = Asks (compared_by pair.by pair.a pair.b)
 reported_in (Multi slot k) = Asks (commands.Multi slot k)
 reported_in (Nearest sought) = asks_nearest sought
+reported_in (Pan sought) = asks_pan sought
 reported_in (Match pattern) = asks_match pattern
 reported_in (Motifs sought) = asks_motifs sought
 reported_in (Discords sought) = Asks (commands.Discords sought.at sought.count)
@@ -109,6 +116,7 @@ lends held (Asks (commands.Window at start)) = at ∷ []
 lends held (Asks (commands.Join a b)) = a ∷ b ∷ []
 lends held (Asks (commands.Mpdist a b)) = a ∷ b ∷ []
 lends held (Asks (commands.Nearest at k)) = at ∷ []
+lends held (Asks (commands.Pan at lo hi)) = at ∷ []
 lends held (Asks (commands.Match at query start radius max)) = at ∷ query ∷ []
 lends held (Asks (commands.Motifs at query)) = at ∷ []
 lends held (Asks (commands.Multi slot k)) = refs_of held slot
@@ -125,6 +133,7 @@ is_unread (Asks (commands.Window at start)) = false
 is_unread (Asks (commands.Join a b)) = false
 is_unread (Asks (commands.Multi slot k)) = false
 is_unread (Asks (commands.Nearest at k)) = false
+is_unread (Asks (commands.Pan at lo hi)) = false
 is_unread (Asks (commands.Match at query start radius max)) = false
 is_unread (Asks (commands.Motifs at query)) = false
 is_unread (Asks (commands.Mpdist a b)) = false
@@ -135,7 +144,7 @@ is_unread other = true
 
 -- what a report says, where what it names stands in this state
 abbrev pub report_in : State → reports.Report → commands.Report
-report_in state (report.Session version) = commands.SessionReport
+report_in state (report.Session mode) = commands.SessionReport
 report_in state (report.Open samples) = commands.OpenReport samples
 report_in state (report.Keep samples) = commands.KeepReport samples
 report_in state (report.Load samples) = commands.LoadReport samples
@@ -149,6 +158,7 @@ report_in state (report.Mpdist dist) = commands.MpdistReport dist
 report_in state (report.Multi slots) = commands.MultiReport slots.items
 report_in state (report.Nearest lists) =
     commands.NearestReport (map (λ (list : Listed Near). list.items) lists.items)
+report_in state (report.Pan rows) = commands.PanReport rows.items
 report_in state (report.Match list) = commands.MatchReport list.items
 report_in state (report.Motifs list) = commands.MotifsReport (map repeated_of list.items)
 report_in state (report.Discords list) = commands.DiscordsReport list.items
@@ -178,6 +188,14 @@ pub record IsLive (kept : Keeping) (start : ℕ) : Type 0 where
 -- the columns of the live windows of a kept slot
 abbrev pub columns_kept : Keeping → Columns
 columns_kept kept = record { all = kept.all; left = kept.left; right = kept.right }
+
+-- what stands at a live window in each column
+abbrev pub entry_kept : Keeping → ℕ → commands.Report
+entry_kept kept start =
+    commands.EntryReport start
+    (slice_index_or kept.all (start - first_kept kept.keep kept.count) None)
+    (slice_index_or kept.left (start - first_kept kept.keep kept.count) None)
+    (slice_index_or kept.right (start - first_kept kept.keep kept.count) None)
 
 -- a channel has the window that starts there, and of a kept slot it is a live one
 pub record IsWindow (held : Stored) (at : Ref) (start : ℕ) : Type 0 where
@@ -212,17 +230,17 @@ pub record AreSlotsOf (state : State) (held : Stored) : Type 0 where
   pub window_is : held.m ≡ state.window
   pub stand : StandFor held state.stores
 
--- ---- versions
+-- ---- modes
 
--- the version that an accepted answer names, by which the lines behind it are read
-abbrev pub version_named : Answer → Option ℕ
-version_named (Accepted (report.Session version)) = Some version
-version_named other = None
+-- the mode that an accepted answer names, for its own report and the lines behind it
+abbrev pub mode_named : Answer → Option Mode
+mode_named (Accepted (report.Session mode)) = Some mode
+mode_named other = None
 
--- the version that a line asks for
-abbrev pub version_asked : Asked → Option ℕ
-version_asked (Asks (commands.Session version)) = Some version
-version_asked other = None
+-- the mode that a line asks for
+abbrev pub mode_asked : Asked → Option Mode
+mode_asked (Asks (commands.Session mode)) = Some mode
+mode_asked other = None
 
 -- ---- kinds
 

@@ -4,6 +4,7 @@ ghost use Rattle.std.specs.Prelude.{◌≡◌, ◌-◌, ◌^◌, ◌<◌, ◌≤
 ghost use Rattle.mp_defs.specs.Limits.{max_window, min_window};
 ghost use Rattle.mp_replies.specs.State.{first_version, second_version};
 
+use mp_replies::Mode;
 use mp_stores::Plan;
 use mp_words::Settings;
 use std::alloc::Global;
@@ -13,14 +14,14 @@ use std::alloc::Global;
 pub struct Context {
     pub alloc: Global,
     pub settings: Settings,
-    /// The version by which the line is read.
-    pub version: u64,
+    /// How the line is read.
+    pub mode: Mode,
     /// How many lines were run before.
     pub lines: u64,
     /// Whether a command was accepted before.
     pub begun: bool,
-    ghost first: { first_version ≤ version },
-    ghost last: { version ≤ second_version },
+    ghost first: { first_version ≤ mode.version },
+    ghost last: { mode.version ≤ second_version },
     ghost counted: { lines < 2 ^ 64 - 1 },
 }
 

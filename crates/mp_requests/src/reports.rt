@@ -3,14 +3,26 @@
 ghost use Rattle.std.specs.Prelude.{◌<◌, ◌≤◌, All, length};
 ghost use Rattle.mp_replies.specs.Limits.{max_scale};
 
-use crate::named::{named_entry_text, named_profile_text};
+use crate::named::{named_entry, named_profile};
 use mp_chains::longest;
-use mp_nums::{Centre, Discord, Memory, Motif, NearList, Places, Ratio, Sample, Slots, Sq, Text};
-use mp_replies::Ref;
+use mp_nums::{
+    Centre, Discord, Memory, Motif, NearList, PanRow, Places, Ratio, Sample, Slots, Sq, Text,
+};
+use mp_replies::{Mode, Ref, ReportForm};
 use mp_report::answers::ok_text;
 use mp_report::chains::{chain_text, chains_text};
 use mp_report::channels::{consensus_text, mpdist_text};
+use mp_report::json_lines::answers::ok_json;
+use mp_report::json_lines::chains::{chain_json, chains_json};
+use mp_report::json_lines::channels::{consensus_json, mpdist_json};
+use mp_report::json_lines::matches::{discords_json, match_json, motifs_json};
+use mp_report::json_lines::pans::pan_json;
+use mp_report::json_lines::profiles::window_json;
+use mp_report::json_lines::ranks::nearest_json;
+use mp_report::json_lines::segments::segments_json;
+use mp_report::json_lines::slots::slots_json;
 use mp_report::matches::{discords_text, match_text, motifs_text};
+use mp_report::pans::pan_text;
 use mp_report::profiles::window_text;
 use mp_report::ranks::nearest_text;
 use mp_report::segments::segments_text;
@@ -22,8 +34,8 @@ use std::alloc::Global;
 /// not copied.
 #[derive(Debug, Drop)]
 pub enum Report {
-    /// The version of the lines that follow.
-    Session { version: u64 },
+    /// How the lines that follow are read and answered.
+    Session { mode: Mode },
     /// How many samples each channel of the slot has, or were ever appended to a kept one.
     Open { samples: u64 },
     Keep { samples: u64 },
@@ -41,6 +53,8 @@ pub enum Report {
     Multi(Slots),
     /// For each window its nearest ones, in their order.
     Nearest(Vec<NearList>),
+    /// For each window length what its profile has.
+    Pan(Vec<PanRow>),
     Match(NearList),
     Motifs(Vec<Motif>),
     Discords(Vec<Discord>),
@@ -70,15 +84,34 @@ pub struct Segments {
 
 impl Report {
     ghost use Rattle.std.specs.Prelude.{◌≡◌, IfOk};
-    ghost use Rattle.mp_replies.specs.Commands.{report_text};
+    ghost use Rattle.mp_replies.specs.Report.{report_written};
+    ghost use Rattle.mp_replies.specs.declared.modes.ReportForm.TheVariants.{Json, Text};
     ghost use Rattle.mp_replies.specs.State.{State};
     ghost use Rattle.mp_requests.specs.Requests.{AreNamed, AreSlotsOf, report_in};
 
-    /// The text for the line of this number, by its writer. What it names is looked up in the slots.
-    pub(crate) fn text(&self, alloc: Global, line: u64, stores: &Stores) -> Result<Text, Memory>
+    /// What is written of it for the line of this number, in this form. What it names is looked up in the slots.
+    pub(crate) fn written(
+        &self,
+        alloc: Global,
+        form: ReportForm,
+        line: u64,
+        stores: &Stores,
+    ) -> Result<Text, Memory>
         requires { AreNamed stores.now self.now }
         ensures { (state : State) → AreSlotsOf state stores.now
-            → IfOk result (λ text. text.items ≡ report_text line (report_in state self.now)) }
+            → IfOk result (λ text. text.items ≡ report_written form line (report_in state self.now)) }
+    {
+        match form {
+            ReportForm::Text => self.text(alloc, line, stores),
+            ReportForm::Json => self.json(alloc, line, stores),
+        }
+    }
+
+    /// Its text.
+    fn text(&self, alloc: Global, line: u64, stores: &Stores) -> Result<Text, Memory>
+        requires { AreNamed stores.now self.now }
+        ensures { (state : State) → AreSlotsOf state stores.now
+            → IfOk result (λ text. text.items ≡ report_written Text line (report_in state self.now)) }
     {
         match self {
             Report::Session { .. } | Report::End => ok_text(alloc, line, None),
@@ -90,12 +123,20 @@ impl Report {
                 let samples = window.samples.as_slice();
                 window_text(alloc, line, window.start, samples, window.scale)
             }
-            Report::Profile(at) => named_profile_text(alloc, line, stores, *at),
-            Report::Entry { at, start } => named_entry_text(alloc, line, stores, *at, *start),
+            Report::Profile(at) => named_profile(alloc, ReportForm::Text, line, stores, *at),
+            Report::Entry { at, start } => named_entry(
+                alloc,
+                ReportForm::Text,
+                line,
+                stores,
+                *at,
+                *start,
+            ),
             Report::Join(slots) => slots_text(alloc, line, SlotsName::Join, slots.as_slice()),
             Report::Mpdist(dist) => mpdist_text(alloc, line, *dist),
             Report::Multi(slots) => slots_text(alloc, line, SlotsName::Multi, slots.as_slice()),
             Report::Nearest(lists) => nearest_text(alloc, line, lists.as_slice()),
+            Report::Pan(rows) => pan_text(alloc, line, rows.as_slice()),
             Report::Match(list) => match_text(alloc, line, list.as_slice()),
             Report::Motifs(list) => motifs_text(alloc, line, list.as_slice()),
             Report::Discords(list) => discords_text(alloc, line, list.as_slice()),
@@ -109,6 +150,51 @@ impl Report {
                 segments_text(alloc, line, places, curve)
             }
             Report::Consensus(centre) => consensus_text(alloc, line, centre.as_ref()),
+        }
+    }
+    /// Its JSON line.
+    fn json(&self, alloc: Global, line: u64, stores: &Stores) -> Result<Text, Memory>
+        requires { AreNamed stores.now self.now }
+        ensures { (state : State) → AreSlotsOf state stores.now
+            → IfOk result (λ text. text.items ≡ report_written Json line (report_in state self.now)) }
+    {
+        match self {
+            Report::Session { .. } | Report::End => ok_json(alloc, line, None),
+            Report::Open { samples }
+            | Report::Keep { samples }
+            | Report::Load { samples }
+            | Report::Append { samples } => ok_json(alloc, line, Some(*samples)),
+            Report::Window(window) => {
+                let samples = window.samples.as_slice();
+                window_json(alloc, line, window.start, samples, window.scale)
+            }
+            Report::Profile(at) => named_profile(alloc, ReportForm::Json, line, stores, *at),
+            Report::Entry { at, start } => named_entry(
+                alloc,
+                ReportForm::Json,
+                line,
+                stores,
+                *at,
+                *start,
+            ),
+            Report::Join(slots) => slots_json(alloc, line, SlotsName::Join, slots.as_slice()),
+            Report::Mpdist(dist) => mpdist_json(alloc, line, *dist),
+            Report::Multi(slots) => slots_json(alloc, line, SlotsName::Multi, slots.as_slice()),
+            Report::Nearest(lists) => nearest_json(alloc, line, lists.as_slice()),
+            Report::Pan(rows) => pan_json(alloc, line, rows.as_slice()),
+            Report::Match(list) => match_json(alloc, line, list.as_slice()),
+            Report::Motifs(list) => motifs_json(alloc, line, list.as_slice()),
+            Report::Discords(list) => discords_json(alloc, line, list.as_slice()),
+            Report::Chain(chain) => chain_json(alloc, line, chain.as_slice()),
+            Report::Chains(chains) => {
+                let chains = chains.as_slice();
+                chains_json(alloc, line, chains, longest(chains))
+            }
+            Report::Segments(segments) => {
+                let (places, curve) = (segments.places.as_slice(), segments.curve.as_slice());
+                segments_json(alloc, line, places, curve)
+            }
+            Report::Consensus(centre) => consensus_json(alloc, line, centre.as_ref()),
         }
     }
 }

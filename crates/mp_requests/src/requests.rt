@@ -1,6 +1,7 @@
 //! What a line asks to be told, and the answers.
 
 ghost use Rattle.std.specs.Prelude.{◌≡◌, ◌≤◌};
+ghost use Rattle.mp_replies.specs.Laws.{AreLengths};
 ghost use Rattle.mp_replies.specs.Limits.{max_factor, max_ranks};
 
 mod chain_command;
@@ -11,6 +12,7 @@ mod match_command;
 mod motifs_command;
 mod multi_command;
 mod nearest_command;
+mod pan_command;
 mod profile_command;
 mod segments_command;
 mod session_command;
@@ -24,9 +26,10 @@ use self::match_command::report_match;
 use self::motifs_command::report_motifs;
 use self::multi_command::report_multi;
 use self::nearest_command::report_nearest;
+use self::pan_command::report_pan;
 use self::profile_command::{report_entry, report_profile};
 use self::segments_command::report_segments;
-use self::session_command::report_session;
+use self::session_command::{mode_of, report_session};
 use self::window_command::report_window;
 use crate::answers::Answer;
 use crate::context::Context;
@@ -34,20 +37,21 @@ use crate::reports::Report;
 use mp_lines::{Command, Refs};
 use mp_nums::Memory;
 use mp_outside::Gate;
-use mp_replies::Ref;
+use mp_replies::{Mode, Ref};
 use mp_stores::Stores;
 use std::thread::Threads;
 
 /// A report, for which no slot is changed.
 #[derive(Clone, Copy, Debug)]
 pub enum ReportRequest<'a> {
-    Session { version: u64 },
+    Session { mode: Mode },
     Window { at: Ref, start: u64 },
     Profile { at: Ref },
     Entry { at: Ref, start: u64 },
     Compare(Pair),
     Multi { slot: u64, k: u64 },
     Nearest(Neighbours),
+    Pan(Lengths),
     Match(Pattern),
     Motifs(Repeats),
     Discords(Unusual),
@@ -79,6 +83,15 @@ pub struct Neighbours {
     pub k: u64,
     ghost some: { 1 ≤ k },
     ghost few: { k ≤ max_ranks },
+}
+
+/// The window lengths of a channel from a least one to a greatest.
+#[derive(Clone, Copy, Debug)]
+pub struct Lengths {
+    pub at: Ref,
+    pub lo: u32,
+    pub hi: u32,
+    ghost lengths: { AreLengths lo hi },
 }
 
 /// The window whose matches are sought in a channel, how many windows match it at the most, and how far they may be.
@@ -139,7 +152,13 @@ impl<'a> ReportRequest<'a> {
         ensures { reported_in result ≡ asked_by command.entry }
     {
         match command {
-            Command::Session { version } => ReportRequest::Session { version },
+            Command::Session {
+                version,
+                wide,
+                json,
+            } => ReportRequest::Session {
+                mode: mode_of(version, wide, json),
+            },
             Command::Window { at, start } => ReportRequest::Window { at, start },
             Command::Profile { at } => ReportRequest::Profile { at },
             Command::Entry { at, start } => ReportRequest::Entry { at, start },
@@ -149,6 +168,7 @@ impl<'a> ReportRequest<'a> {
             }
             Command::Multi { slot, k } => ReportRequest::Multi { slot, k },
             Command::Nearest { at, k } => ReportRequest::Nearest(Neighbours { at, k }),
+            Command::Pan { at, lo, hi } => ReportRequest::Pan(Lengths { at, lo, hi }),
             Command::Match {
                 at,
                 query,
@@ -209,13 +229,14 @@ impl<'a> ReportRequest<'a> {
         ensures stores { OnlyReads (reported_in self.entry) stores.old stores.new result }
     {
         match self {
-            ReportRequest::Session { version } => Ok(report_session(context, version)),
+            ReportRequest::Session { mode } => Ok(report_session(context, mode)),
             ReportRequest::Window { at, start } => report_window(stores, context, at, start),
             ReportRequest::Profile { at } => Ok(report_profile(stores, context, at)),
             ReportRequest::Entry { at, start } => Ok(report_entry(stores, context, at, start)),
             ReportRequest::Compare(pair) => report_comparison(rt, stores, context, pair, gate),
             ReportRequest::Multi { slot, k } => report_multi(rt, stores, context, slot, k, gate),
             ReportRequest::Nearest(sought) => report_nearest(rt, stores, context, sought, gate),
+            ReportRequest::Pan(lengths) => report_pan(rt, stores, context, lengths, gate),
             ReportRequest::Match(pattern) => report_match(rt, stores, context, pattern),
             ReportRequest::Motifs(repeats) => report_motifs(rt, stores, context, repeats),
             ReportRequest::Discords(unusual) => report_discords(stores, context, unusual),

@@ -2,6 +2,8 @@ pub mod Slide
 pub mod Order
 pub mod Matches
 pub mod Discords
+pub mod Best
+pub mod Pan
 pub mod Motifs
 pub mod Ranks
 pub mod Columns

@@ -5,7 +5,10 @@ use Rattle.std.proofs.lemmas.Bool.Decides.{nat_tests}
 use Rattle.std.specs.Prelude.{Option, Some, None, is_none, if◌then◌else◌}
 use Rattle.mp_requests.specs.Requests.{is_accepted, kind_of}
 use Rattle.mp_requests.specs.declared.answers.ReplyKind.TheVariants as kinds
+use Rattle.mp_nums.specs.declared.widths.Width.{Width}
+use Rattle.mp_replies.specs.Answer as replies
 use Rattle.mp_replies.specs.declared.causes.Cause.{Cause}
+use Rattle.mp_replies.specs.declared.modes.Mode.{Mode}
 use Rattle.mp_replies.specs.declared.causes.Cause.TheVariants.{File, FileSize, Record, Rows}
 use Rattle.mp_replies.specs.Change.{Change, changed}
 use Rattle.mp_replies.specs.Command as asked
@@ -14,7 +17,7 @@ use Rattle.mp_replies.specs.Conditions.{Condition, first_cause}
 use Rattle.mp_replies.specs.Line.{Asked, Asks, asked_of}
 use Rattle.mp_replies.specs.LoadCommand.{file_conditions, file_in, load_conditions}
 use Rattle.mp_replies.specs.Output.{reply}
-use Rattle.mp_replies.specs.Report.{text_of}
+use Rattle.mp_replies.specs.Report.{written_of}
 use Rattle.mp_replies.specs.State.{Files, State, Store, store_at}
 use Rattle.mp_replies.specs.Step.{IsAccepted, Verdict, after, after_by, answer, answer_by}
 use Rattle.mp_replies.specs.Step.{change_by, conditions, counted, fetches, fetches_by, is_last, report_by, verdict}
@@ -22,7 +25,7 @@ use Rattle.mp_replies.specs.Step.{verdict_by, verdict_of}
 use Rattle.mp_requests.specs.declared.replies.Reply.{Reply}
 use Rattle.mp_session.specs.Sessions.{IsFileRefused, IsOfFile, IsReplyBySome, IsReplyOverAny, SessionParts}
 use Rattle.mp_session.specs.Sessions.{StandsFor, WasAccepted, changes}
-use Rattle.mp_session.proofs.StepLemmas.{accepted_by, version_by}
+use Rattle.mp_session.proofs.StepLemmas.{accepted_by, mode_by}
 
 -- ---- a line that isn't accepted
 
@@ -66,10 +69,10 @@ accepted_where state later new command None change stay h stands =
     let stores = changed state.stores change in
     record {
       stores = stores;
-      stands = subst (λ (v : ℕ).
+      stands = subst (λ (mode : Mode).
           StandsFor new
-          (record state { version = v; lines = state.lines + 1; begun = true; stores = stores }))
-          (version_by state.version command) stands;
+          (record state { mode = mode; lines = state.lines + 1; begun = true; stores = stores }))
+          (mode_by state.mode command) stands;
       others = stay;
     }
 
@@ -83,22 +86,28 @@ accepted_of state later new files other h stands = absurd (cc h)
 
 was_accepted : (state : State) (new : SessionParts) (line : List ℕ) (files : Files)
     → is_accepted (kind_of (answer state line files)) ≡ true → StandsFor new (after state line files)
-    → WasAccepted (asked_of state.version line) state new
+    → WasAccepted (asked_of state.mode.version line) state new
 unfolding answer after verdict
 was_accepted state new line files h stands =
-    accepted_of state (after state line files) new files (asked_of state.version line) h stands
+    accepted_of state (after state line files) new files (asked_of state.mode.version line) h stands
 
 -- ---- a load that is refused by its file
+
+abbrev answer_in : State → Verdict → replies.Answer
+answer_in state v = answer_by (after_by state v) v
+
+abbrev written_in : State → ℕ → Verdict → List ℕ
+written_in state line v = written_of (after_by state v).mode.form line (answer_in state v)
 
 by_word : (holds : Bool) (word cause : Cause) (others : Option Cause) → IsOfFile word
     → (others ≡ Some cause → IsOfFile cause) → (if holds then Some word else others) ≡ Some cause → IsOfFile cause
 by_word true word cause others is rest h = let same : word ≡ cause = cc in subst IsOfFile same is
 by_word false word cause others is rest h = rest h
 
-of_file : (scale : ℕ) (cols : List ℕ) (header : Bool) (found : Option (List ℕ)) (cause : Cause)
-    → first_cause (file_conditions scale cols header found) ≡ Some cause → IsOfFile cause
-of_file scale cols header None cause h = by_word true File cause None tt (λ none. absurd (cc none)) h
-of_file scale cols header (Some bytes) cause h =
+of_file : (width : Width) (scale : ℕ) (cols : List ℕ) (header : Bool) (found : Option (List ℕ)) (cause : Cause)
+    → first_cause (file_conditions width scale cols header found) ≡ Some cause → IsOfFile cause
+of_file width scale cols header None cause h = by_word true File cause None tt (λ none. absurd (cc none)) h
+of_file width scale cols header (Some bytes) cause h =
     by_word _ FileSize cause _ tt
     (by_word _ (Record _) cause _ tt (by_word _ Rows cause None tt (λ none. absurd (cc none)))) h
 
@@ -115,35 +124,34 @@ behind : (conditions more : List Condition) → is_none (first_cause conditions)
 behind [] more h = refl
 behind (condition ∷ others) more h = behind_by condition.holds condition.word others more h (behind others more)
 
-refused_where : (later : State) (slot line : ℕ) (file cols : List ℕ) (header : Bool) (why : Option Cause)
+refused_where : (state : State) (slot line : ℕ) (file cols : List ℕ) (header : Bool) (why : Option Cause)
     (change : Change) (text : List ℕ) → ((cause : Cause) → why ≡ Some cause → IsOfFile cause)
-    → kinds.Refused ≡ kind_of (answer_by later (verdict_by (asked.Load slot file cols header) why change))
-    → text ≡ text_of line (answer_by later (verdict_by (asked.Load slot file cols header) why change))
-    → IsFileRefused line text
-refused_where later slot line file cols header (Some cause) change text of kind is =
+    → kinds.Refused ≡ kind_of (answer_in state (verdict_by (asked.Load slot file cols header) why change))
+    → text ≡ written_in state line (verdict_by (asked.Load slot file cols header) why change)
+    → IsFileRefused state.mode.form line text
+refused_where state slot line file cols header (Some cause) change text of kind is =
     record { cause = cause; of_file = of cause refl; text_is = is }
-refused_where later slot line file cols header None change text of kind is = absurd (cc kind)
+refused_where state slot line file cols header None change text of kind is = absurd (cc kind)
 
-refused_of : (state later : State) (files : Files) (what : Asked) (line : ℕ) (text : List ℕ)
-    → fetches_by state what ≡ true → kinds.Refused ≡ kind_of (answer_by later (verdict_of state files what))
-    → text ≡ text_of line (answer_by later (verdict_of state files what)) → IsFileRefused line text
-refused_of state later files (Asks (asked.Load slot file cols header)) line text asks kind is =
-    refused_where later slot line file cols header
+refused_of : (state : State) (files : Files) (what : Asked) (line : ℕ) (text : List ℕ)
+    → fetches_by state what ≡ true → kinds.Refused ≡ kind_of (answer_in state (verdict_of state files what))
+    → text ≡ written_in state line (verdict_of state files what) → IsFileRefused state.mode.form line text
+refused_of state files (Asks (asked.Load slot file cols header)) line text asks kind is =
+    refused_where state slot line file cols header
     (first_cause (conditions state files (asked.Load slot file cols header)))
     (change_by state files (asked.Load slot file cols header)) text
-    (λ cause h. of_file state.scale cols header (file_in files file) cause
+    (λ cause h. of_file state.mode.width state.scale cols header (file_in files file) cause
     (sym (behind (load_conditions state.stores slot cols)
-    (file_conditions state.scale cols header (file_in files file)) asks) ∙ h))
+    (file_conditions state.mode.width state.scale cols header (file_in files file)) asks) ∙ h))
     kind is
-refused_of state later files other line text asks kind is = absurd (cc asks)
+refused_of state files other line text asks kind is = absurd (cc asks)
 
 file_refused : (state : State) (line : List ℕ) (files : Files) (text : List ℕ) → fetches state line ≡ true
     → kinds.Refused ≡ kind_of (answer state line files) → text ≡ reply state line files
-    → IsFileRefused (state.lines + 1) text
-unfolding answer verdict fetches reply
+    → IsFileRefused state.mode.form (state.lines + 1) text
+unfolding answer after verdict fetches reply
 file_refused state line files text asks kind is =
-    refused_of state (after state line files) files (asked_of state.version line) (state.lines + 1) text asks
-    kind is
+    refused_of state files (asked_of state.mode.version line) (state.lines + 1) text asks kind is
 
 -- ---- what a reply by some files says of the session
 

@@ -99,7 +99,7 @@ told_then state files ran more t = λ asks.
     t (some_fetch-append state files ran more ∙ rw asks (or-true (some_fetch state files ran)))
 
 pub told_line : {told : Option Files} (state : State) (files : Files) (line : List ℕ)
-    → ToldForAll told state files (line ∷ []) → ToldFor told state (asked_of state.version line) files
+    → ToldForAll told state files (line ∷ []) → ToldFor told state (asked_of state.mode.version line) files
 unfolding fetches
 told_line state files line t = λ asks. t (rw asks refl)
 

@@ -4,15 +4,17 @@ use Rattle.std.specs.Prelude.{Option, Some, unwrap_or, Result, IfOk, OnOk, OnErr
 use Rattle.mp_feed.specs.Reading.{bit}
 use Rattle.mp_replies.specs.declared.causes.Cause.{Cause}
 use Rattle.mp_replies.specs.declared.causes.Cause.TheVariants.{File, FileSize, Record, Rows}
+use Rattle.mp_replies.specs.declared.modes.Mode.{Mode}
+use Rattle.mp_replies.specs.declared.modes.ReportForm.{ReportForm}
 use Rattle.mp_replies.specs.Command.{OpenAnew, KeepLast, Load, Append}
 use Rattle.mp_replies.specs.Line.{Asked, Asks, asked_of}
 use Rattle.mp_replies.specs.Output.{reply}
 use Rattle.mp_replies.specs.State.{Files, State, Store, first_version, second_version, store_at}
 use Rattle.mp_replies.specs.Step.{after, answer, counted, fetches}
-use Rattle.mp_replies.specs.Text.{refused_text}
+use Rattle.mp_replies.specs.Report.{refusal_written}
 use Rattle.mp_replies.specs.Words.{Setup}
 use Rattle.mp_stores.specs.Stores.{StandChanged, StandFor, Stored, lists_in, reads_at}
-use Rattle.mp_requests.specs.Requests.{is_accepted, is_unread, kind_of, version_asked}
+use Rattle.mp_requests.specs.Requests.{is_accepted, is_unread, kind_of, mode_asked}
 use Rattle.mp_requests.specs.declared.answers.ReplyKind.TheVariants as kinds
 use Rattle.mp_requests.specs.Reads.{AreUnread}
 use Rattle.mp_requests.specs.declared.replies.Reply.{Reply}
@@ -24,8 +26,8 @@ use Rattle.mp_commands.specs.Preparing.{changed_by}
 -- what is seen of a session
 pub record SessionParts : Type 0 where
   pub settings : Setup
-  -- the version by which the next line is read
-  pub version : ℕ
+  -- how the next line is read and answered
+  pub mode : Mode
   -- how many lines were run
   pub lines : ℕ
   -- whether a command was accepted
@@ -36,24 +38,23 @@ pub record SessionParts : Type 0 where
 -- the slots have the window length of the settings, and there is such a version
 pub record AreParts (session : SessionParts) : Type 0 where
   pub window : session.stores.m ≡ session.settings.window
-  pub first : first_version ≤ session.version
-  pub last : session.version ≤ second_version
+  pub first : first_version ≤ session.mode.version
+  pub last : session.mode.version ≤ second_version
 
 pub record StandsFor (session : SessionParts) (state : State) : Type 0 where
   pub window_is : state.window ≡ session.settings.window
   pub scale_is : state.scale ≡ session.settings.scale
-  pub version_is : state.version ≡ session.version
+  pub mode_is : state.mode ≡ session.mode
   pub lines_is : state.lines ≡ session.lines
   pub begun_is : state.begun ≡ session.begun
   pub stores_stand : StandFor session.stores state.stores
 
 -- ---- the change of a line
 
--- the line is counted, the version that it names is that of the next line, and its change is made. Reads and room are
--- left open
-pub record HasCommitted (old new : SessionParts) (change : Change) (accepted : Bool) (named : Option ℕ) : Type 0 where
+-- the line is counted, the mode is that of the next line, and its change is made. Reads and room are left open
+pub record HasCommitted (old new : SessionParts) (change : Change) (accepted : Bool) (mode : Mode) : Type 0 where
   pub settings_are : new.settings ≡ old.settings
-  pub version_is : new.version ≡ unwrap_or named old.version
+  pub mode_is : new.mode ≡ mode
   pub lines_is : new.lines ≡ old.lines + 1
   pub begun_is : new.begun ≡ (old.begun || accepted)
   pub stores_stand : StandChanged (changed_by change) old.stores new.stores
@@ -90,13 +91,13 @@ changes (Asks (Load at file columns header)) slot = slot == at
 changes (Asks (Append at items)) slot = slot == at
 changes other slot = false
 
--- the line was counted and a command accepted, the version is the one that it asks for, if it asks for one, and no slot
--- was changed but one that the line asks to change
+-- the line was counted and a command accepted, the mode is the one that it asks for, if it asks for one, and no slot was
+-- changed but one that the line asks to change
 pub record WasAccepted (what : Asked) (state : State) (new : SessionParts) : Type 0 where
   pub stores : List Store
   pub stands : StandsFor new
       (record state {
-        version = unwrap_or (version_asked what) state.version;
+        mode = unwrap_or (mode_asked what) state.mode;
         lines = state.lines + 1;
         begun = true;
         stores = stores;
@@ -111,19 +112,19 @@ IsOfFile (Record number) = Unit {0}
 IsOfFile Rows = Unit {0}
 IsOfFile other = ⊥
 
--- the line of this number is refused by one of them
-pub record IsFileRefused (line : ℕ) (text : List ℕ) : Type 0 where
+-- the line of this number is refused by one of them, in this form
+pub record IsFileRefused (form : ReportForm) (line : ℕ) (text : List ℕ) : Type 0 where
   pub cause : Cause
   pub of_file : IsOfFile cause
-  pub text_is : text ≡ refused_text line cause
+  pub text_is : text ≡ refusal_written form line cause
 
 -- what such an answer says in this state. A line that isn't accepted is counted and changes nothing else, and a load
 -- that asks for its file is refused for that alone
 pub record IsReplyOverAny (state : State) (line : List ℕ) (new : SessionParts) (answered : Reply) : Type 0 where
   pub unaccepted : is_accepted answered.kind ≡ false → StandsFor new (counted state)
-  pub accepted : is_accepted answered.kind ≡ true → WasAccepted (asked_of state.version line) state new
+  pub accepted : is_accepted answered.kind ≡ true → WasAccepted (asked_of state.mode.version line) state new
   pub file_refused : fetches state line ≡ true → answered.kind ≡ kinds.Refused
-      → IsFileRefused (state.lines + 1) answered.text.items
+      → IsFileRefused state.mode.form (state.lines + 1) answered.text.items
 
 -- ---- counts
 

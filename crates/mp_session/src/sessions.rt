@@ -4,8 +4,9 @@ ghost use Rattle.std.specs.Prelude.{◌≡◌, ◌↔◌, ℕ, ◌+◌, ◌-◌,
 ghost use Rattle.std.specs.Prelude.{IsNone, IfSome, false};
 
 use mp_commands::{Change, Prepared, prepare};
-use mp_nums::Memory;
+use mp_nums::{Memory, Width};
 use mp_outside::{Gate, Shelf};
+use mp_replies::{Mode, ReportForm};
 use mp_requests::{Context, Reply, Stop};
 use mp_stores::Stores;
 use mp_words::Settings;
@@ -13,14 +14,18 @@ use std::alloc::Global;
 use std::marker::Model;
 use std::thread::Threads;
 
-/// The version of the lines of a session that has named none.
-const FIRST_VERSION: u64 = 1;
+/// How lines are read and answered where a session has named nothing else.
+const FIRST_MODE: Mode = Mode {
+    version: 1,
+    width: Width::Narrow,
+    form: ReportForm::Text,
+};
 
 /// What is kept between lines.
 #[derive(Debug, Drop)]
 pub struct Session {
     settings: Settings,
-    version: u64,
+    mode: Mode,
     lines: u64,
     begun: bool,
     stores: Stores,
@@ -33,7 +38,7 @@ impl Model for Session {
 
     ghost view = { λ s. record {
       settings = s.settings;
-      version = s.version;
+      mode = s.mode;
       lines = s.lines;
       begun = s.begun;
       stores = s.stores;
@@ -41,7 +46,7 @@ impl Model for Session {
 
     ghost invariant = { λ s. AreParts (record {
       settings = s.settings;
-      version = s.version;
+      mode = s.mode;
       lines = s.lines;
       begun = s.begun;
       stores = s.stores;
@@ -71,7 +76,7 @@ impl Session {
     {
         Ok(Session {
             settings,
-            version: FIRST_VERSION,
+            mode: FIRST_MODE,
             lines: 0,
             begun: false,
             stores: Stores::new(rt, alloc, settings.window())?,
@@ -96,7 +101,7 @@ impl Session {
 
         // What the definitions say, in every state that the session stands for, by the files that the shelf tells.
         ensures told { (state : State) (files : Files) → StandsFor self.old state
-            → ToldFor (H.files shelf.old) state (asked_of state.version line.now) files
+            → ToldFor (H.files shelf.old) state (asked_of state.mode.version line.now) files
             → IfOk result (IsReplyBy state files line.now self.new) }
 
         // What they say over any shelf, also one that tells nothing.
@@ -107,34 +112,33 @@ impl Session {
 
         ensures ends { IfOk result (λ r. is_ended r.kind ≡ ends line.now) }
         ensures counted { WasCounted self.old self.new result }
-        ensures reads { WereReadBy (asked_of self.old.version line.now) self.old.stores self.new.stores result }
+        ensures reads { WereReadBy (asked_of self.old.mode.version line.now) self.old.stores self.new.stores result }
         ensures shelf { IsAsked H.Shelf (AsksFile line.now self.old) (IsErrOf result Stop.ShelfFault) shelf.old
             shelf.new }
     {
         let context = Context {
             alloc,
             settings: self.settings,
-            version: self.version,
+            mode: self.mode,
             lines: self.lines,
             begun: self.begun,
         };
         let prepared = prepare(rt, &mut self.stores, context, line, shelf, gate)?;
         let Prepared { answer, change } = prepared;
         let accepted = answer.kind().is_accepted();
-        let named = answer.version();
-        let reply = answer.reply(alloc, self.lines + 1, &self.stores)?;
-        self.commit(change, accepted, named);
+        let mode = answer.mode().unwrap_or(self.mode);
+        let reply = answer.reply(alloc, mode.form, self.lines + 1, &self.stores)?;
+        self.commit(change, accepted, mode);
         Ok(reply)
     }
 
-    /// Counts the line and makes its change, for which all memory was taken. The version that it names is that of the
-    /// next line.
-    fn commit(&mut self, change: Change, accepted: bool, named: Option<u64>)
+    /// Counts the line and makes its change, for which all memory was taken. The mode is that of the next line.
+    fn commit(&mut self, change: Change, accepted: bool, mode: Mode)
         requires lines { self.old.lines < 2 ^ 64 - 1 }
         requires can { CanMake self.old.stores change }
-        requires first { IfSome named (λ version. first_version ≤ version) }
-        requires last { IfSome named (λ version. version ≤ second_version) }
-        ensures committed { HasCommitted self.old self.new change accepted named }
+        requires first { first_version ≤ mode.version }
+        requires last { mode.version ≤ second_version }
+        ensures committed { HasCommitted self.old self.new change accepted mode }
         ensures rise { (slot : ℕ) → puts change slot ≡ false
             → reads_at self.old.stores slot ≤ reads_at self.new.stores slot }
         ensures rest { (slot : ℕ) → puts change slot ≡ false → adds change slot ≡ false
@@ -142,7 +146,7 @@ impl Session {
         ensures added { (slot count : ℕ) → AddsEach change slot count
             → reads_at self.new.stores slot ≤ reads_at self.old.stores slot + append_reads self.old.stores slot count }
     {
-        self.version = named.unwrap_or(self.version);
+        self.mode = mode;
         self.lines += 1;
         self.begun |= accepted;
         match change {

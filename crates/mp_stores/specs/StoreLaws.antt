@@ -78,7 +78,8 @@ samples_counted (Kept kept) store stands =
     ap (λ (s : Store). samples_in (channels_in s)) stands.store_is
     ∙ (length-map stands.samples reading_of ∙ stands.stands.count)
 
-closed_by_count : (held : Held) (store : Store) → (streams_in held ≡ [] → keep_of held ≡ None → held ≡ Closed)
+closed_by_count : (held : Held) (store : Store)
+    → (streams_in held ≡ [] → keep_of held ≡ None → held ≡ Closed)
     → StandForStore held store → is_closed store ≡ (channel_count held == 0)
 closed_by_count Closed states.Closed none stands = refl
 closed_by_count Closed (states.Open series) none stands = absurd stands
@@ -304,5 +305,6 @@ slot_lasts_in (Kept old) (Kept new) same = record {
   kept = λ kept is. ap Kept (sym same) ∙ is;
 }
 
-pub slot_lasts : (old new : Stored) (slot : ℕ) → StandAsBefore old new → SlotLasts (slot_at old slot) (slot_at new slot)
+pub slot_lasts : (old new : Stored) (slot : ℕ) → StandAsBefore old new
+    → SlotLasts (slot_at old slot) (slot_at new slot)
 slot_lasts old new slot same = slot_lasts_in (slot_at old slot) (slot_at new slot) (same.each slot)

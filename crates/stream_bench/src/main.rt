@@ -1,7 +1,7 @@
 //! Appends the numbers of its input to a series one by one, and prints a number that tells the profile that was kept.
-//! With the word `timed` it also prints the time that the appends took. With the number of samples that are kept and one of
-//! rounds it appends them in each round to a store of the last samples, and prints a number that tells the profile of its
-//! live windows, and the time that the last round took.
+//! With the word `timed` it also prints the time that the appends took. With the number of samples that are kept and one
+//! of rounds it appends them in each round to a store of the last samples, and prints a number that tells the profile of
+//! its live windows, and the time that the last round took.
 #![tactic(auto)]
 
 ghost use Rattle.std.specs.Prelude.{◌≤◌};

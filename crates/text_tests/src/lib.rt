@@ -3,6 +3,8 @@
 #![tactic(auto)]
 
 #[cfg(test)]
+mod json_reports;
+#[cfg(test)]
 mod lists;
 #[cfg(test)]
 mod pieces;

@@ -6,7 +6,7 @@ ghost use Rattle.mp_defs.specs.Profile.{ab_join};
 ghost use Rattle.mp_defs.specs.Series.{Series, series_of};
 ghost use Rattle.mp_replies.specs.Line.{Asks};
 ghost use Rattle.mp_replies.specs.State.{State};
-ghost use Rattle.mp_requests.specs.Requests.{AreNamed, compared_by, compared_in, report_in, version_named};
+ghost use Rattle.mp_requests.specs.Requests.{AreNamed, compared_by, compared_in, report_in, mode_named};
 ghost use Rattle.mp_requests.specs.declared.answers.Answer.TheVariants.{Accepted};
 ghost use Rattle.mp_requests.specs.Reports.{IsReported, OnlyReads};
 ghost use Rattle.mp_stores.specs.Stores.{Stored};
@@ -60,7 +60,7 @@ fn compared<R: Threads + Sync, G: Gate>(
     ensures report { (a b : Series) (state : State) → map series_of list.now ≡ a ∷ b ∷ []
         → IfOk result (λ report. report_in state report ≡ compared_in by plan.m a b) }
     ensures names { (held : Stored) → IfOk result (AreNamed held) }
-    ensures version { IfOk result (λ report. version_named (Accepted report) ≡ None) }
+    ensures mode { IfOk result (λ report. mode_named (Accepted report) ≡ None) }
 {
     let (first, second) = (list.series(0), list.series(1));
     let there = join(rt, alloc, first, second, plan, gate)?;

@@ -40,7 +40,7 @@ returns-clause-ready c =
     let slot = c.args.more.slot in
     let added = lists_in c.in_ok-added.added.items in
     let n = c.count.result in
-    let even = added_even c.scale.result n items added c.in-Ok.ensures.good c.in_ok-added.ensures in
+    let even = added_even c.args.context.mode.width c.scale.result n items added c.in-Ok.ensures.good c.in_ok-added.ensures in
     record {
       can = record {
         within = c.count.ensures.open c.in-Ok.ensures.open;
@@ -57,5 +57,5 @@ returns-clause-ready c =
       adds = (refl, even);
       names = tt;
       ends = refl;
-      version = refl;
+      mode = refl;
     }

@@ -9,6 +9,7 @@ use Rattle.mp_commands.proofs.append_command.read_item.Goals as goal
 
 pub loop-k-init : goal.loop-k-init
 loop-k-init c =
+    let width = c.args.form.width in
     let scale = c.args.form.scale in
     let channels = c.args.form.channels in
     let item = c.args.item.now in
@@ -20,8 +21,8 @@ loop-k-init c =
     ∙ c.of.ensures in
     record {
       counted =
-          omega (arith, count, ap length left, c.requires.lists, good_fits scale channels item c.requires.good);
-      spread = spread_begun scale channels _ item _ _ c.requires.good left count;
+          omega (arith, count, ap length left, c.requires.lists, good_fits width scale channels item c.requires.good);
+      spread = spread_begun width scale channels _ item _ _ c.requires.good left count;
     }
 
 pub unwrap-requires : goal.unwrap-requires
@@ -57,5 +58,5 @@ loop-k-preserved c =
 
 pub returns : goal.returns
 returns c = λ row good.
-    spread_all c.args.form.scale c.args.form.channels _ c.args.item.now _ _ _ row c.loop-k.invariant.spread
+    spread_all c.args.form.width c.args.form.scale c.args.form.channels _ c.args.item.now _ _ _ row c.loop-k.invariant.spread
     c.in-None.ensures.steps.0.0 good

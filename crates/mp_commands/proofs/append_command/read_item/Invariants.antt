@@ -12,6 +12,6 @@ invariant-loop-k l =
     let left = values_left (option_map (λ text. text.now) (enumerate_source l.k-iterator).left) in
     record {
       counted : enumerate_count l.k-iterator + length left ≡ length l.added;
-      spread : AreSpread l.form.scale (values_in l.item) left (enumerate_count l.k-iterator)
+      spread : AreSpread l.form.width l.form.scale (values_in l.item) left (enumerate_count l.k-iterator)
           (map series_of (lists_in l.initial.added)) (map series_of (lists_in l.added));
     }

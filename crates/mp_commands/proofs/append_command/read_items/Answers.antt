@@ -9,15 +9,16 @@ use Rattle.mp_commands.proofs.append_command.read_items.Goals as goal
 
 pub loop-item-init : goal.loop-item-init
 loop-item-init c =
+    let width = c.args.form.width in
     let scale = c.args.form.scale in
     let channels = c.args.form.channels in
-    let read = read_items scale channels (fields_in c.args.items.now) in
+    let read = read_items width scale channels (fields_in c.args.items.now) in
     record {
       number = 1;
       done = [];
       rest = rows_in read;
       left_are =
-          ap (λ left. items_of scale channels 1 (fields_in left.text.now))
+          ap (λ left. items_of width scale channels 1 (fields_in left.text.now))
           c.into_iter-item-iterator.ensures.into_iter_gives
           ∙ rows_of_good read c.requires.good;
       all_are = refl;

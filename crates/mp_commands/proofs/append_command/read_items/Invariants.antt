@@ -7,5 +7,5 @@ use Rattle.mp_commands.proofs.append_command.read_items.Given as goal
 
 abbrev pub invariant-loop-item : goal.invariant-loop-item
 invariant-loop-item l =
-    AreRead l.form.scale l.form.channels (fields_in l.items) (fields_in l.item-iterator.text.now)
+    AreRead l.form.width l.form.scale l.form.channels (fields_in l.items) (fields_in l.item-iterator.text.now)
     (map series_of (lists_in l.added.items))

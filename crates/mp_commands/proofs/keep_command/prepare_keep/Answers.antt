@@ -26,5 +26,5 @@ returns-clause-ready c = record {
   adds = tt;
   names = tt;
   ends = refl;
-  version = refl;
+  mode = refl;
 }

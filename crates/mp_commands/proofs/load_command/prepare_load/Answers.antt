@@ -52,7 +52,7 @@ returns-in-Err-clause-prepared g c = record {
       let refused = rw c.in-Err.is at c.in_ok-fetched.ensures.refused in
       let none = c.in_default.ensures.cause stores stand in
       file_refused state files load.slot load.file.now cols load.header c.in-Err.cause c.refused-in-Err.result none
-      (refused.told files (told (ap is_none none)) state.scale cols load.header)
+      (refused.told files (told (ap is_none none)) state.mode.width state.scale cols load.header)
       c.refused-in-Err.ensures.answer c.refused-in-Err.ensures.change;
   stop = λ stores stand. tt;
 }
@@ -68,7 +68,7 @@ returns-in-Err-clause-some_files g c =
           let state = state_over c.args.context c.args.stores.now stores in
           file_refused state refused.files load.slot load.file.now cols load.header c.in-Err.cause
           c.refused-in-Err.result (c.in_default.ensures.cause stores stand)
-          (refused.some state.scale cols load.header)
+          (refused.some state.mode.width state.scale cols load.header)
           c.refused-in-Err.ensures.answer c.refused-in-Err.ensures.change;
     }
 

@@ -3,7 +3,6 @@ use Rattle.std.specs.Prelude.{unwrap_or}
 use Rattle.mp_defs.specs.Series.{series_of}
 use Rattle.mp_replies.specs.Change as change
 use Rattle.mp_replies.specs.Numbers.{columns}
-use Rattle.mp_nums.specs.declared.widths.Width.TheVariants.{Narrow}
 use Rattle.mp_text.specs.SampleText.{reading}
 use Rattle.mp_text.specs.Table.{data_records}
 use Rattle.std.proofs.lemmas.Simd.{map-map}
@@ -26,7 +25,7 @@ pub series-requires : goal.series-requires
 series-requires g c =
     let cols = c.as_slice.result.now in
     let t =
-    table_is (reading Narrow c.scale-scale.result) cols (data_records c.args.load.header c.args.bytes.now)
+    table_is (reading c.args.context.mode.width c.scale-scale.result) cols (data_records c.args.load.header c.args.bytes.now)
     (map series_of c.in-Ok.bundle)
     c.in-Ok.ensures.table in
     let some = some_columns c.args.load.columns.field.now c.in_ok-columns.columns.items c.in_ok-columns.ensures in
@@ -36,7 +35,7 @@ pub channels_of-requires-after_bounds : goal.channels_of-requires-after_bounds
 channels_of-requires-after_bounds g c = λ κs outlives k d within.
     let cols = c.as_slice.result.now in
     let t =
-    table_is (reading Narrow c.scale-scale.result) cols (data_records c.args.load.header c.args.bytes.now)
+    table_is (reading c.args.context.mode.width c.scale-scale.result) cols (data_records c.args.load.header c.args.bytes.now)
     (map series_of c.in-Ok.bundle)
     c.in-Ok.ensures.table in
     omega (arith, even_table cols c.in-Ok.bundle t k d within, t.few)
@@ -64,7 +63,7 @@ returns-clause-ready g c = record {
   can =
       let cols = c.as_slice.result.now in
       let t =
-      table_is (reading Narrow c.scale-scale.result) cols (data_records c.args.load.header c.args.bytes.now)
+      table_is (reading c.args.context.mode.width c.scale-scale.result) cols (data_records c.args.load.header c.args.bytes.now)
       (map series_of c.in-Ok.bundle) c.in-Ok.ensures.table in
       let some = some_columns c.args.load.columns.field.now c.in_ok-columns.columns.items c.in_ok-columns.ensures in
       let few = few_columns c.args.load.columns.field.now c.in_ok-columns.columns.items c.in_ok-columns.ensures in
@@ -79,5 +78,5 @@ returns-clause-ready g c = record {
   adds = tt;
   names = tt;
   ends = refl;
-  version = refl;
+  mode = refl;
 }

@@ -29,5 +29,5 @@ returns-clause-ready g c = record {
   adds = tt;
   names = tt;
   ends = refl;
-  version = refl;
+  mode = refl;
 }

@@ -63,7 +63,7 @@ returns-in_ok-answer-in-Report-clause-ready g c =
       adds = keep_adds (reported_in request) prepared.change kept;
       names = rw same (names_last c.args.stores.now new c.in_ok-answer-in-Report.field-0 last told.names);
       ends = ap (λ (a : Answer). is_ended (kind_by a)) same ∙ told.ends;
-      version = rw same told.version;
+      mode = rw same told.mode;
     })
 
 pub returns-in-Blank-clause-shelf : goal.returns-in-Blank-clause-shelf

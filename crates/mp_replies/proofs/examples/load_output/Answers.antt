@@ -12,7 +12,7 @@ use Rattle.mp_replies.specs.Command.{Load}
 use Rattle.mp_replies.specs.Conditions.{first_cause}
 use Rattle.mp_replies.specs.Line.{asked_of, ends}
 use Rattle.mp_replies.specs.LoadCommand.{channels_of, file_conditions, load_conditions}
-use Rattle.mp_replies.specs.Report.{text_of}
+use Rattle.mp_replies.specs.Report.{written_of}
 use Rattle.mp_replies.specs.State.{Files, State, opening}
 use Rattle.mp_replies.specs.Step.{Verdict, verdict, verdict_by, cause, after, after_by, answer, answer_by}
 use Rattle.mp_replies.specs.Output.{reply, replies, output}
@@ -26,8 +26,8 @@ appended files = after (opening 3 1) (codes "append 0 7") files
 abbrev loaded : State → Option (List ℕ) → Verdict
 loaded state bytes =
     verdict_by (Load 0 (codes "day.csv") (1 ∷ []) true)
-    (first_cause (load_conditions state.stores 0 (1 ∷ []) ++ file_conditions state.scale (1 ∷ []) true bytes))
-    (PutChannels 0 (channels_of state.scale (1 ∷ []) true bytes))
+    (first_cause (load_conditions state.stores 0 (1 ∷ []) ++ file_conditions state.mode.width state.scale (1 ∷ []) true bytes))
+    (PutChannels 0 (channels_of state.mode.width state.scale (1 ∷ []) true bytes))
 
 pub returns : goal.returns
 unfolding digits near distance field_at next_record records_from strip_bom
@@ -35,5 +35,5 @@ unfolding digits near distance field_at next_record records_from strip_bom
 returns c = λ files is.
     ap (λ (bytes : Option (List ℕ)).
     let behind = after_by (appended files) (loaded (appended files) bytes) in
-    codes "ok 1 1\n" ++ (text_of 2 (answer_by behind (loaded (appended files) bytes))
+    codes "ok 1 1\n" ++ (written_of behind.mode.form 2 (answer_by behind (loaded (appended files) bytes))
     ++ concat (replies behind files (codes "window 0 0" ∷ [])))) is

@@ -6,16 +6,16 @@ use Rattle.mp_requests.specs.Requests.{report_in}
 use Rattle.mp_requests.proofs.WrittenLemmas.{chains_written, window_named}
 use Rattle.mp_requests.proofs.reports.Report.text.Goals as goal
 
-pub named_entry_text-requires : goal.named_entry_text-requires
-named_entry_text-requires c =
+pub named_entry-requires : goal.named_entry-requires
+named_entry-requires c =
     window_named c.args.stores.now c.in-Entry.at c.in-Entry.start c.args.self.now c.in-Entry.is c.requires
 
 pub returns-in-Entry : goal.returns-in-Entry
 returns-in-Entry c = λ state slots.
     let line = c.args.line in
-    IfOk-weaker c.named_entry_text.result _ _
+    IfOk-weaker c.named_entry.result _ _
     (λ text is. is ∙ ap (λ (r : reports.Report). report_text line (report_in state r)) (sym c.in-Entry.is))
-    (c.named_entry_text.ensures state slots)
+    (c.named_entry.ensures state slots)
 
 pub returns-in-Chains : goal.returns-in-Chains
 returns-in-Chains c = λ state slots.

@@ -2,7 +2,7 @@ use Rattle.std.proofs.Common.{◌≡◌, ◌∙◌, ◌∷◌, [], ℕ, ap, sym}
 use Rattle.mp_replies.specs.State.{series_at}
 use Rattle.mp_requests.specs.Requests.{compared_in}
 use Rattle.mp_requests.specs.Answering.{state_over}
-use Rattle.mp_requests.proofs.CompareLemmas.{compared_goes_on, compared_in_version, compared_told}
+use Rattle.mp_requests.proofs.CompareLemmas.{compared_goes_on, compared_in_mode, compared_told}
 use Rattle.mp_requests.proofs.ReportLemmas.{series_of_refs}
 use Rattle.mp_requests.proofs.requests.compare_command.report_comparison.Goals as goal
 
@@ -24,8 +24,8 @@ returns-clause-report g c = record {
         ∙ ap (λ (n : ℕ). compared_in pair.by n a b) m);
     names = c.in_ok-report.ensures.names c.args.stores.now;
     ends = compared_goes_on c.args.pair.by c.args.pair.a c.args.pair.b;
-    version =
-        c.in_ok-report.ensures.version ∙ sym (compared_in_version c.args.pair.by c.args.pair.a c.args.pair.b);
+    mode =
+        c.in_ok-report.ensures.mode ∙ sym (compared_in_mode c.args.pair.by c.args.pair.a c.args.pair.b);
   };
   memory = λ stores stand. tt;
 }

@@ -18,7 +18,7 @@ returns-clause-report g c = record {
         search rules;
     names = tt;
     ends = refl;
-    version = refl;
+    mode = refl;
   };
   memory = λ stores stand. tt;
 }

@@ -83,7 +83,7 @@ returns c = record {
         ∙ ap (SegmentsReport (regimes_in curve (factor * held.m) count)) parts);
     names = tt;
     ends = refl;
-    version = refl;
+    mode = refl;
   };
   memory = λ stores stand. tt;
 }

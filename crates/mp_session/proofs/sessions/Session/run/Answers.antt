@@ -1,6 +1,7 @@
 use Rattle.std.proofs.Common.{◌∙◌, ◌≤◌, ℕ, Ok, ap, refl, rules, sym, subst}
 use Rattle.mp_replies.specs.Line.{asked_of}
 use Rattle.mp_replies.specs.State.{first_version, second_version}
+use Rattle.mp_replies.specs.declared.modes.Mode.{Mode}
 use Rattle.mp_requests.specs.Requests.{is_accepted}
 use Rattle.mp_requests.specs.declared.replies.Stop.{Stop}
 use Rattle.mp_commands.specs.Fetching.{reworded}
@@ -22,9 +23,9 @@ returns-in_err-prepared-clause-stop g c = λ state h.
 pub returns-in_err-prepared-clause-reads : goal.returns-in_err-prepared-clause-reads
 returns-in_err-prepared-clause-reads g c =
     let line = c.args.line.now in
-    let asked = asked_of c.self.inside.version line in
+    let asked = asked_of c.self.inside.mode.version line in
     subst (λ (s : SessionParts).
-    WereReadBy (asked_of s.version line) s.stores c.prepare.new.stores c.from_residual.result) c.self.view_is
+    WereReadBy (asked_of s.mode.version line) s.stores c.prepare.new.stores c.from_residual.result) c.self.view_is
     (stopped_reads asked c.self.inside.stores c.prepare.new.stores c.from_residual.result (search rules)
     c.prepare.ensures.stores.read)
 
@@ -46,9 +47,9 @@ returns-in_err-reply-clause-stop g c = λ state h.
 pub returns-in_err-reply-clause-reads : goal.returns-in_err-reply-clause-reads
 returns-in_err-reply-clause-reads g c =
     let line = c.args.line.now in
-    let asked = asked_of c.self.inside.version line in
+    let asked = asked_of c.self.inside.mode.version line in
     let stop = c.from_residual-in_err-reply.result in
-    subst (λ (s : SessionParts). WereReadBy (asked_of s.version line) s.stores c.prepare.new.stores stop)
+    subst (λ (s : SessionParts). WereReadBy (asked_of s.mode.version line) s.stores c.prepare.new.stores stop)
     c.self.view_is
     (stopped_reads asked c.self.inside.stores c.prepare.new.stores stop (search rules) c.prepare.ensures.stores.read)
 
@@ -66,15 +67,17 @@ returns-in_err-reply-clause-shelf g c =
 
 pub commit-requires-clause-first : goal.commit-requires-clause-first
 commit-requires-clause-first g c =
-    named_within (λ (n : ℕ). first_version ≤ n) (λ n within. within.0) c.self.inside.version c.args.line.now
-    c.in_ok-prepared.prepared.answer c.version-named.result c.version-named.ensures
-    c.in_ok-prepared.ensures.ready.version
+    subst (λ (mode : Mode). first_version ≤ mode.version) (sym c.unwrap_or-mode.ensures)
+    (named_within (λ (mode : Mode). first_version ≤ mode.version) (λ mode within. within.0)
+    c.self.inside.mode.version c.args.line.now c.in_ok-prepared.prepared.answer c.mode.result c.self.inside.mode
+    c.mode.ensures c.in_ok-prepared.ensures.ready.mode c.self.invariant.first)
 
 pub commit-requires-clause-last : goal.commit-requires-clause-last
 commit-requires-clause-last g c =
-    named_within (λ (n : ℕ). n ≤ second_version) (λ n within. within.1) c.self.inside.version c.args.line.now
-    c.in_ok-prepared.prepared.answer c.version-named.result c.version-named.ensures
-    c.in_ok-prepared.ensures.ready.version
+    subst (λ (mode : Mode). mode.version ≤ second_version) (sym c.unwrap_or-mode.ensures)
+    (named_within (λ (mode : Mode). mode.version ≤ second_version) (λ mode within. within.1)
+    c.self.inside.mode.version c.args.line.now c.in_ok-prepared.prepared.answer c.mode.result c.self.inside.mode
+    c.mode.ensures c.in_ok-prepared.ensures.ready.mode c.self.invariant.last)
 
 pub returns-clause-told : goal.returns-clause-told
 returns-clause-told g c = λ state files h told.
@@ -83,10 +86,10 @@ returns-clause-told g c = λ state files h told.
     let inside = subst (λ (s : SessionParts). StandsFor s state) (sym c.self.view_is) h in
     let step = prepared_in _ state files line prepared _ c.self.invariant.window inside
     c.in_ok-prepared.ensures.prepared.ok told in
-    replied _ c.commit.new.self c.prepare.new.stores state files line prepared c.in_ok-reply.reply _ _
+    replied _ c.commit.new.self c.prepare.new.stores state files line prepared c.in_ok-reply.reply _ _ _
     c.self.invariant.window c.prepare.ensures.stores.stands (c.in_ok-reply.ensures.text state)
     c.in_ok-reply.ensures.kind (c.is_accepted-accepted.ensures ∙ ap is_accepted c.kind.ensures)
-    c.version-named.ensures c.in_ok-prepared.ensures.ready.version c.commit.ensures.committed inside step
+    c.mode.ensures c.unwrap_or-mode.ensures c.in_ok-prepared.ensures.ready.mode c.commit.ensures.committed inside step
 
 pub returns-clause-some_files : goal.returns-clause-some_files
 returns-clause-some_files g c =
@@ -98,10 +101,10 @@ returns-clause-some_files g c =
       is = λ state h.
           let inside = subst (λ (s : SessionParts). StandsFor s state) (sym c.self.view_is) h in
           let step = prepared_by _ state some.files line prepared c.self.invariant.window inside some.is in
-          replied _ c.commit.new.self c.prepare.new.stores state some.files line prepared c.in_ok-reply.reply _ _
+          replied _ c.commit.new.self c.prepare.new.stores state some.files line prepared c.in_ok-reply.reply _ _ _
           c.self.invariant.window c.prepare.ensures.stores.stands (c.in_ok-reply.ensures.text state)
           c.in_ok-reply.ensures.kind (c.is_accepted-accepted.ensures ∙ ap is_accepted c.kind.ensures)
-          c.version-named.ensures c.in_ok-prepared.ensures.ready.version c.commit.ensures.committed inside step;
+          c.mode.ensures c.unwrap_or-mode.ensures c.in_ok-prepared.ensures.ready.mode c.commit.ensures.committed inside step;
     }
 
 pub returns-clause-any_shelf : goal.returns-clause-any_shelf
@@ -110,11 +113,11 @@ returns-clause-any_shelf g c = λ state h. over_any state _ _ _ _ (returns-claus
 pub returns-clause-reads : goal.returns-clause-reads
 returns-clause-reads g c =
     let line = c.args.line.now in
-    let asked = asked_of c.self.inside.version line in
+    let asked = asked_of c.self.inside.mode.version line in
     let new = c.commit.new.self.stores in
     let reply = c.in_ok-reply.reply in
     let is = c.in_ok-prepared.ensures in
-    subst (λ (s : SessionParts). WereReadBy {E = Stop} (asked_of s.version line) s.stores new (Ok reply))
+    subst (λ (s : SessionParts). WereReadBy {E = Stop} (asked_of s.mode.version line) s.stores new (Ok reply))
     c.self.view_is
     (answered_reads asked c.self.inside.stores c.prepare.new.stores new c.in_ok-prepared.prepared reply
     c.in_ok-reply.ensures.kind is.ready is.unread c.prepare.ensures.stores c.commit.ensures.rise c.commit.ensures.rest

@@ -1,0 +1,10 @@
+use Rattle.std.proofs.Common.{take, map}
+use Rattle.std.specs.List.{enumerate_from}
+use Rattle.mp_replies.specs.Json.{ranks_object}
+use Rattle.mp_report.specs.Tokens.{tokens_of_each, Adds}
+use Rattle.mp_report.proofs.json_lines.ranks.push_each_list.Given as goal
+
+abbrev pub invariant-loop-start : goal.invariant-loop-start
+invariant-loop-start l =
+    Adds l.initial.json l.json
+    (tokens_of_each ranks_object (enumerate_from 0 (take l.start (map (λ near. near.items) l.lists))))

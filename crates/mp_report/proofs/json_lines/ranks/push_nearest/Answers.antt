@@ -1,0 +1,11 @@
+use Rattle.std.proofs.Common.{refl}
+use Rattle.mp_report.proofs.TokenLemmas.{adds_five}
+use Rattle.mp_report.proofs.json_lines.ranks.push_nearest.Goals as goal
+
+pub returns : goal.returns
+returns c =
+    adds_five c.args.json.now c.begin_object.new.self c.push_kind.new.json c.key.new.self
+    c.push_lists.new.json c.end_object.new.self _ _ _ _ _ _
+    (c.in_ok-begin_object.ensures.room.0, c.in_ok-begin_object.ensures.ok) c.in_ok-push_kind.ensures
+    (c.in_ok-key.ensures.room.0, c.in_ok-key.ensures.ok) c.in_ok-push_lists.ensures
+    (c.in_ok-end_object.ensures.room.0, c.in_ok-end_object.ensures.ok) refl
