@@ -1,0 +1,9 @@
+pub mod Spans
+pub mod Longer
+pub mod SlotLaws
+pub mod SpanLaws
+pub mod Extremes
+pub mod Ranges
+pub mod RangeLaws
+pub mod Laws
+pub mod Examples
