@@ -8,22 +8,21 @@ samples nothing is told. LIMIT is a squared distance.
 """
 import csv
 import sys
-from mprof import Mprof
+from pathlib import Path
+
+sys.path.insert(0, str(Path(__file__).resolve().parent.parent / "clients" / "python"))
+from mprof import Session  # noqa: E402
 
 
 def main(program, window, scale, file, skip, limit):
     with open(file, newline="") as lines:
         rows = list(csv.reader(lines))[1:]
-    with Mprof(program, "--window", str(window), "--scale", str(scale)) as session:
-        for place, (moment, sample) in enumerate(rows):
-            session.ask("append 0 " + (sample or "?"))
-            start = place + 1 - window
-            if place < skip or start < 0:
-                continue
-            _, _, _, distance, index, _, _ = session.ask("entry 0 %d" % start)[0]
-            if distance != "-" and int(distance) > limit:
-                like = rows[int(index) + window - 1][0]
-                print("%s: %s from the nearest, which ends with %s" % (moment, distance, like), flush=True)
+    with Session(window, scale, program=program) as session:
+        for entry in session.stream(0, (sample for _, sample in rows)):
+            place = entry.start + window - 1
+            if place >= skip and entry.square is not None and entry.square > limit:
+                moment, like = rows[place][0], rows[entry.index + window - 1][0]
+                print("%s: %d from the nearest, which ends with %s" % (moment, entry.square, like), flush=True)
 
 
 if __name__ == "__main__":

@@ -8,21 +8,33 @@ it prints how far the newest window is from its nearest one, and which of the wi
 """
 import itertools
 import sys
-from mprof import Mprof
+from pathlib import Path
+
+sys.path.insert(0, str(Path(__file__).resolve().parent.parent / "clients" / "python"))
+from mprof import Session  # noqa: E402
+
+
+def distance_text(entry):
+    return "- from -" if entry.square is None else "%d from %d" % (entry.square, entry.index)
+
+
+def oddest_text(discords):
+    for start, square, index in zip(discords.start, discords.squares, discords.index):
+        return ", the oddest one is %d, %d from %d" % (start, square, index)
+    return ""
 
 
 def main(program, window, scale, keep, block):
-    samples = (line.strip() or None for line in sys.stdin)
-    with Mprof(program, "--window", str(window), "--scale", str(scale), version=2) as session:
+    samples = (line.strip() for line in sys.stdin)
+    with Session(window, scale, program=program) as session:
         session.keep(0, keep)
         while part := list(itertools.islice(samples, block)):
             count = session.append(0, part)
             if count < window:
                 continue
-            _, _, _, distance, index, _, _ = session.ask("entry 0 %d" % (count - window))[0]
-            odd = session.ask("discords 0 1")[1:]
-            told = ", the oddest one is %s, %s from %s" % tuple(odd[0]) if odd else ""
-            print("%d samples: the newest window is %s from %s%s" % (count, distance, index, told), flush=True)
+            newest = distance_text(session.entry(0, count - window))
+            oddest = oddest_text(session.discords(0, 1))
+            print("%d samples: the newest window is %s%s" % (count, newest, oddest), flush=True)
 
 
 if __name__ == "__main__":
