@@ -18,9 +18,18 @@ eval panels(2)
 set xrange [0:2500]
 set arrow 1 from change, graph 0 to change, graph 1 nohead ls 3
 set ylabel "mV"
+set label 1 sprintf("the change, at %d", change) at change + 20, graph 0.95
 plot work."series" using 1:(mv($2)) with lines ls 1
 set xlabel "sample, 360 a second"
 set ylabel "arcs, of those by chance"
-set yrange [0:1]
-plot work."curve" with lines ls 2, work."change" with points pointtype 7 linecolor rgb "#d1495b"
+set yrange [0:1.05]
+unset label 1
+set label 2 "0.3: below it is a change" at 520, 0.36
+# five windows from both ends no place is listed; there are 2,401 places
+set object 1 rectangle from 0, graph 0 to 500, graph 1 fillcolor rgb "#e3e6ea" fillstyle solid noborder behind
+set object 2 rectangle from 1901, graph 0 to 2401, graph 1 fillcolor rgb "#e3e6ea" fillstyle solid noborder behind
+set label 3 "none is listed here" at 250, 0.08 center
+set label 4 "none is listed here" at 2151, 0.08 center
+plot work."curve" with lines ls 2, 0.3 with lines ls 1 dashtype 2, \
+     work."change" with points pointtype 7 linecolor rgb "#d1495b"
 END
