@@ -13,11 +13,16 @@ pair dist i j = record { start = i; near = near_at j dist }
 abbrev window : ℕ → ℕ → ℕ → Discord
 window dist i j = record { start = i; near = near_at j dist }
 
-abbrev row : ℕ → ℕ → Option Pair → Option Discord → PanRow
-row length windows best discord = record { length = length; windows = windows; best = best; discord = discord }
+abbrev at_length : ℕ → ℕ → Option Pair → Option Discord → PanRow
+at_length length windows best discord =
+    record { length = length; windows = windows; best = best; discord = discord }
 
 -- of 1 2 3 1 2 3, which has no two windows far enough apart from length 5 on
 abbrev pub PlainRows : Type 0
 PlainRows = pan_of 3 7 plain
-    ≡ row 3 4 (Some (pair 0 0 3)) (Some (window 6 1 3)) ∷ row 4 3 (Some (pair 10 0 2)) (Some (window 10 0 2))
-    ∷ row 5 2 None None ∷ row 6 1 None None ∷ row 7 0 None None ∷ []
+    ≡ at_length 3 4 (Some (pair 0 0 3)) (Some (window 6 1 3))
+    ∷ at_length 4 3 (Some (pair 10 0 2)) (Some (window 10 0 2))
+    ∷ at_length 5 2 None None
+    ∷ at_length 6 1 None None
+    ∷ at_length 7 0 None None
+    ∷ []

@@ -1,5 +1,6 @@
 -- What is known of windows at a greater length from a shorter one.
-use Rattle.std.proofs.Common.{◌≡◌, ℕ, zero, suc, ◌+◌, ◌-◌, ◌<◌, ◌≤◌, [], ◌∷◌, length, Bool, true, false, refl, sym, ap, ◌∙◌}
+use Rattle.std.proofs.Common.{◌≡◌, ℕ, zero, suc, ◌+◌, ◌-◌, ◌<◌, ◌≤◌, [], ◌∷◌, length, Bool, true, false}
+use Rattle.std.proofs.Common.{refl, sym, ap, ◌∙◌}
 use Rattle.std.proofs.Common.{arith, subst, inl, inr}
 use Rattle.std.specs.Prelude.{Option, Some, None, IsSome, IsTrue, is_some, ◌&&◌}
 use Rattle.std.proofs.Math.Nat.{div-mul-le_self}
@@ -22,7 +23,8 @@ last_true true t e = e
 last_true false t e = absurd (cc)
 
 -- has each of its samples
-pub free_there : (m : ℕ) (a : Series) (i t : ℕ) → is_free m a i ≡ true → t < m → is_some (number_at a (i + t)) ≡ true
+pub free_there : (m : ℕ) (a : Series) (i t : ℕ) → is_free m a i ≡ true → t < m
+    → is_some (number_at a (i + t)) ≡ true
 unfolding is_free
 free_there zero a i t e lt = absurd (omega (arith, lt))
 free_there (suc m) a i t e lt = one m t lt (free_there m a i t (first_true (is_free m a i) _ e))
@@ -43,7 +45,8 @@ some_within (x ∷ a) (suc n) e = let lt = some_within a n e in omega (arith, lt
 -- lies within the series
 pub free_within : (m : ℕ) (a : Series) (i : ℕ) → 1 ≤ m → is_free m a i ≡ true → i < windows_of m a
 free_within m a i some e =
-    let last = some_within a (i + (m - 1)) (free_there m a i (m - 1) e (omega (arith, some))) in omega (arith, last, some)
+    let last = some_within a (i + (m - 1)) (free_there m a i (m - 1) e (omega (arith, some))) in
+    omega (arith, last, some)
 
 -- ---- distances
 
@@ -104,7 +107,8 @@ still_apart m k = le-div (excl m) (m + k + 3) 4 (omega arith) (omega (arith, div
 -- ---- one square more
 
 pub next_distance : (m k : ℕ) (a : Series) (i j : ℕ) (dist square result : Option ℕ)
-    → square ≡ square_between (number_at a (i + (m + k))) (number_at a (j + (m + k))) → result ≡ plus dist square
+    → square ≡ square_between (number_at a (i + (m + k))) (number_at a (j + (m + k)))
+    → result ≡ plus dist square
     → dist ≡ distance (m + k) a i a j → result ≡ distance (m + (k + 1)) a i a j
 next_distance m k a i j dist square result is e h =
     let same : m + k + 1 ≡ m + (k + 1) = omega arith in

@@ -21,7 +21,8 @@ extremes_merge = record {
   merged_is_value = λ size a b h k. (columns_merge 4).merged_is_value MAX_LENGTHS a b h k;
 }
 
-all_four : (P : Column → Type 0) (a b c d : Column) → P a → P b → P c → P d → All P (a ∷ b ∷ c ∷ d ∷ [])
+all_four : (P : Column → Type 0) (a b c d : Column) → P a → P b → P c → P d
+    → All P (a ∷ b ∷ c ∷ d ∷ [])
 all_four P a b c d p q r s zero e lt = p
 all_four P a b c d p q r s (suc zero) e lt = q
 all_four P a b c d p q r s (suc (suc zero)) e lt = r
@@ -29,7 +30,8 @@ all_four P a b c d p q r s (suc (suc (suc zero))) e lt = s
 all_four P a b c d p q r s (suc (suc (suc (suc k)))) e lt = absurd (omega (arith, lt))
 
 -- a column for each of the four that a value has
-pub four_columns : (n : ℕ) (a b c d : Column) → length a ≡ n → length b ≡ n → length c ≡ n → length d ≡ n
+pub four_columns : (n : ℕ) (a b c d : Column) → length a ≡ n → length b ≡ n
+    → length c ≡ n → length d ≡ n
     → HasColumns 4 n (a ∷ b ∷ c ∷ d ∷ [])
 four_columns n a b c d p q r s = record {
   columns = omega arith;

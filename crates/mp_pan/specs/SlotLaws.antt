@@ -64,7 +64,8 @@ length_put k i j d slots =
     ∙ length-set slots (4 * i + k) (nearer_of (get_or slots (4 * i + k) None) (at_distance j d))
 
 -- a pair at its length
-pub pair_at_same : (w k i j : ℕ) (d : Option ℕ) (slots : Column) → i < j → j < w → 4 * w ≤ length slots → k < 4
+pub pair_at_same : (w k i j : ℕ) (d : Option ℕ) (slots : Column) → i < j → j < w
+    → 4 * w ≤ length slots → k < 4
     → column_at w k (pair_put k i j d slots)
     ≡ taken (taken (column_at w k slots) i (at_distance j d)) j (at_distance i d)
 pair_at_same w k i j d slots order lt long few =
@@ -84,7 +85,8 @@ pair_at_other w k l i j d slots ne few few' =
 
 -- ---- a pair at all lengths
 
-pub length_all : (n m : ℕ) (a : Series) (i j : ℕ) (slots : Column) → length (all_put n m a i j slots) ≡ length slots
+pub length_all : (n m : ℕ) (a : Series) (i j : ℕ) (slots : Column)
+    → length (all_put n m a i j slots) ≡ length slots
 unfolding all_put
 length_all zero m a i j slots = refl
 length_all (suc n) m a i j slots =

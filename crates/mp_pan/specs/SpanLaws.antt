@@ -25,7 +25,8 @@ use Rattle.mp_pan.specs.declared.lengths.Lengths.{Lengths}
 use Rattle.mp_pan.specs.declared.offers.AtLengths.{AtLengths}
 use Rattle.mp_pan.specs.Longer.{distance_free, free_within, shorter}
 use Rattle.mp_pan.specs.SlotLaws.{all_at, at_place, length_all, length_at}
-use Rattle.mp_pan.specs.Spans.{all_put, AreTakenAt, column_at, distance_apart, FitsLengths, IsScannedAt, keeps_at, keeps_lengths}
+use Rattle.mp_pan.specs.Spans.{all_put, AreTakenAt, column_at, distance_apart, FitsLengths, IsScannedAt}
+use Rattle.mp_pan.specs.Spans.{keeps_at, keeps_lengths}
 use Rattle.mp_pan.specs.Spans.{may_lengths, pairs_at}
 
 -- ---- tests
@@ -57,8 +58,10 @@ turned_only i j r c = grind (arith, nat_tests)
 pair_distance : (i j m : ℕ) (a : Series) (r c : ℕ) → either_way (only i j) r c ≡ true
     → distance m a r a c ≡ distance m a i a j
 pair_distance i j m a r c is = elim (either_true (only i j r c) (only i j c r) is) [
-  | inl e ↦ ap (λ n. distance m a n a c) (only_row i j r c e) ∙ ap (λ n. distance m a i a n) (only_column i j r c e)
-  | inr e ↦ ap (λ n. distance m a n a c) (only_column i j c r e) ∙ ap (λ n. distance m a j a n) (only_row i j c r e)
+  | inl e ↦ ap (λ n. distance m a n a c) (only_row i j r c e)
+      ∙ ap (λ n. distance m a i a n) (only_column i j r c e)
+  | inr e ↦ ap (λ n. distance m a n a c) (only_column i j c r e)
+      ∙ ap (λ n. distance m a j a n) (only_row i j c r e)
       ∙ symmetric m a j a i
 ]
 
@@ -80,7 +83,8 @@ pair_none i j m a slots missing =
     (sym (pair_allowed i j m r c pair) ∙ last_true (either_way (only i j) r c) (is_allowed m r c) is)
     (sym (pair_distance i j m a r c pair) ∙ found)))
   where
-    no_distance : (t : Bool) (x : Option ℕ) (d : ℕ) → (if t then x else None) ≡ None → t ≡ true → x ≡ Some d → ⊥
+    no_distance : (t : Bool) (x : Option ℕ) (d : ℕ) → (if t then x else None) ≡ None
+        → t ≡ true → x ≡ Some d → ⊥
     no_distance true x d e f g = absurd (cc)
     no_distance false x d e f g = absurd (cc)
 
@@ -104,7 +108,8 @@ pair_some i j m a slots d may found some lt lt' =
     let column : j < windows_of m a = free_within m a j some (distance_free m a j a i d back) in
     let mid = taken slots i (at_distance j (Some d)) in
     let new = taken mid j (at_distance i (Some d)) in
-    let same : length mid ≡ length slots = length-set slots i (nearer_of (get_or slots i None) (at_distance j (Some d)))
+    let same : length mid ≡ length slots =
+    length-set slots i (nearer_of (get_or slots i None) (at_distance j (Some d)))
     in
     taken_same_from (λ r c. only i j r c || only j i r c) (pairs_at (only i j) m) m a a 0 slots new
     (taken_then_from (only i j) (only j i) m a a 0 slots mid new
@@ -125,7 +130,8 @@ pub pair_taken : (i j m : ℕ) (a : Series) (slots : Column) → 1 ≤ m → i <
 pair_taken i j m a slots some lt lt' =
     by_distance (distance_apart m a i j) refl
   where
-    chosen : (t : Bool) (x : Option ℕ) (d : ℕ) → (if t then x else None) ≡ Some d → (t ≡ true) × (x ≡ Some d)
+    chosen : (t : Bool) (x : Option ℕ) (d : ℕ) → (if t then x else None) ≡ Some d
+        → (t ≡ true) × (x ≡ Some d)
     chosen true x d e = (refl, e)
     chosen false x d e = absurd (cc)
 
@@ -139,7 +145,8 @@ pair_taken i j m a slots some lt lt' =
         pair_some i j m a slots d may found some lt lt'
 
 -- and so at each of the lengths
-pub pair_taken_at : (count i j m : ℕ) (a : Series) (slots : Column) → 1 ≤ m → count ≤ 4 → i < j → j < windows_of m a
+pub pair_taken_at : (count i j m : ℕ) (a : Series) (slots : Column) → 1 ≤ m → count ≤ 4
+    → i < j → j < windows_of m a
     → length slots ≡ 4 * windows_of m a → AreTakenAt count m a (only i j) slots (all_put count m a i j slots)
 pair_taken_at count i j m a slots some few order lt long =
     let w = windows_of m a in
@@ -163,7 +170,8 @@ same_series m a b i j d e h = subst (λ (x : Series). distance m a i x j ≡ d) 
 
 -- pairs that give nothing at any length
 taken_at_none : (count m : ℕ) (a : Series) (pairs : ℕ → ℕ → Bool) (slots : Column)
-    → ((i j k d : ℕ) → k < count → pairs_at pairs (m + k) i j ≡ true → distance (m + k) a i a j ≡ Some d → ⊥)
+    → ((i j k d : ℕ) → k < count → pairs_at pairs (m + k) i j ≡ true
+    → distance (m + k) a i a j ≡ Some d → ⊥)
     → AreTakenAt count m a pairs slots slots
 taken_at_none count m a pairs slots h = record {
   places = refl;
@@ -171,10 +179,12 @@ taken_at_none count m a pairs slots h = record {
       (λ i j d _ _ _ _ is found. absurd (h i j k d less is found));
 }
 
-either_none : (p : ℕ → ℕ → Bool) → ((i j : ℕ) → p i j ≡ false) → (i j : ℕ) → either_way p i j ≡ false
+either_none : (p : ℕ → ℕ → Bool) → ((i j : ℕ) → p i j ≡ false)
+    → (i j : ℕ) → either_way p i j ≡ false
 either_none p none i j = ap (λ t. t || p j i) (none i j) ∙ none j i
 
-missing_longer : (m k : ℕ) (a : Series) (i j d : ℕ) → distance m a i a j ≡ None → distance (m + k) a i a j ≡ Some d → ⊥
+missing_longer : (m k : ℕ) (a : Series) (i j d : ℕ) → distance m a i a j ≡ None
+    → distance (m + k) a i a j ≡ Some d → ⊥
 missing_longer m k a i j d missing found =
     let h = shorter m k a i a j d found in
     let same : Some h.shorter ≡ None = sym h.is ∙ missing in absurd (cc)
@@ -197,8 +207,10 @@ taken_at_then count m a p q old mid new g h = record {
 fewer_windows : (m k : ℕ) (a : Series) (i : ℕ) → i < windows_of (m + k) a → i < windows_of m a
 fewer_windows m k a i lt = omega (arith, lt)
 
-taken_at_same : (count m : ℕ) (a : Series) (p q : ℕ → ℕ → Bool) (old new : Column) → AreTakenAt count m a p old new
-    → ((i j : ℕ) → i < windows_of m a → j < windows_of m a → p i j ≡ q i j) → AreTakenAt count m a q old new
+taken_at_same : (count m : ℕ) (a : Series) (p q : ℕ → ℕ → Bool) (old new : Column)
+    → AreTakenAt count m a p old new
+    → ((i j : ℕ) → i < windows_of m a → j < windows_of m a → p i j ≡ q i j)
+    → AreTakenAt count m a q old new
 taken_at_same count m a p q old new h same = record {
   places = h.places;
   each = λ k less.
@@ -260,7 +272,8 @@ lengths_offer = record {
 -- ---- limits
 
 lengths_quiet : (m : ℕ) (a : Series) (pairs : ℕ → ℕ → Bool) (into : AtLengths) → FitsLengths m a a into
-    → ((i j d : ℕ) → i < windows_of m a → j < windows_of m a → pairs i j ≡ true → distance m a i a j ≡ Some d
+    → ((i j d : ℕ) → i < windows_of m a → j < windows_of m a → pairs i j ≡ true
+    → distance m a i a j ≡ Some d
     → keeps_lengths into i j d × keeps_lengths into j i d)
     → AreTakenAt into.lengths.count m a pairs into.slots.now into.slots.now
 lengths_quiet m a pairs into h q = record {
@@ -272,11 +285,13 @@ lengths_quiet m a pairs into h q = record {
 }
   where
     here : (k i j d : ℕ) → distance (m + k) a i a j ≡ Some d
-        → distance (into.lengths.least + k) (series_of into.lengths.samples.now) i (series_of into.lengths.samples.now) j
+        → distance (into.lengths.least + k) (series_of into.lengths.samples.now) i
+        (series_of into.lengths.samples.now) j
         ≡ Some d
     here k i j d found =
         let s = series_of into.lengths.samples.now in
-        ap (λ n. distance (n + k) s i s j) h.least ∙ ap (λ (x : Series). distance (m + k) x i x j) (sym h.series) ∙ found
+        ap (λ n. distance (n + k) s i s j) h.least
+        ∙ ap (λ (x : Series). distance (m + k) x i x j) (sym h.series) ∙ found
 
     at_least : (i j d : ℕ) → distance m a i a j ≡ Some d
         → distance into.lengths.least (series_of into.lengths.samples.now) i (series_of into.lengths.samples.now) j
@@ -285,7 +300,8 @@ lengths_quiet m a pairs into h q = record {
         let s = series_of into.lengths.samples.now in
         ap (λ n. distance n s i s j) h.least ∙ ap (λ (x : Series). distance m x i x j) (sym h.series) ∙ found
 
-    keeps : (k i j d : ℕ) → i < windows_of m a → j < windows_of m a → (pairs i j ≡ true) ⊎ (pairs j i ≡ true)
+    keeps : (k i j d : ℕ) → i < windows_of m a → j < windows_of m a
+        → (pairs i j ≡ true) ⊎ (pairs j i ≡ true)
         → (e : ℕ) → distance m a i a j ≡ Some e → keeps_lengths into i j e
     keeps k i j d lt lt' way e is = elim way [
       | inl here ↦ (q i j e lt lt' here is).0
@@ -321,9 +337,11 @@ lengths_stay m a b pairs old new i j d s lt keeps =
 
 -- in one series
 one_series : (m : ℕ) (a b : Series) (pairs : ℕ → ℕ → Bool) (into : AtLengths) → a ≡ b
-    → ((i j d : ℕ) → i < windows_of m a → j < windows_of m b → pairs i j ≡ true → distance m a i b j ≡ Some d
+    → ((i j d : ℕ) → i < windows_of m a → j < windows_of m b → pairs i j ≡ true
+    → distance m a i b j ≡ Some d
     → keeps_lengths into i j d × keeps_lengths into j i d)
-    → (i j d : ℕ) → i < windows_of m a → j < windows_of m a → pairs i j ≡ true → distance m a i a j ≡ Some d
+    → (i j d : ℕ) → i < windows_of m a → j < windows_of m a → pairs i j ≡ true
+    → distance m a i a j ≡ Some d
     → keeps_lengths into i j d × keeps_lengths into j i d
 one_series m a b pairs into e q =
     subst (λ (x : Series). (i j d : ℕ) → i < windows_of m a → j < windows_of m x → pairs i j ≡ true

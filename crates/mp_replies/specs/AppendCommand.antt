@@ -41,7 +41,8 @@ row_with number (Err fault) = Err number
 -- the samples of the item of this number, or this number where it is bad
 abbrev pub item_of : Width → ℕ → ℕ → ℕ → List ℕ → Result Row ℕ
 item_of width scale channels number item =
-    if length (values_in item) == channels then row_with number (samples_of width scale (values_in item)) else Err number
+    if length (values_in item) == channels then row_with number (samples_of width scale (values_in item))
+    else Err number
 
 -- ---- the samples of some items, of which the first has this number, or the number of the first bad one
 

@@ -146,7 +146,8 @@ meaning (Load slot file columns header) = record {
 }
 meaning (Append slot items) =
     changing (λ state. append_conditions state.mode.width state.scale state.stores slot items)
-    (λ state. append_change state.mode.width state.scale state.stores slot items) (λ state. AppendReport (samples_at state slot))
+    (λ state. append_change state.mode.width state.scale state.stores slot items)
+    (λ state. AppendReport (samples_at state slot))
 meaning (Window at start) =
     reporting (λ state. window_conditions state.window state.stores at start) (λ state. window_report state at start)
 meaning (Profile at) = reporting (λ state. profile_conditions state.stores at) (λ state. profile_report state at)

@@ -119,7 +119,8 @@ pub record IsFirstBad (width : Width) (scale channels : ℕ) (items : List (List
   pub some : 0 < bad
   pub within : bad ≤ length items
   pub is_bad : item_of width scale channels bad (slice_index_or items (bad - 1) []) ≡ Err bad
-  pub good_before : (k : ℕ) → k + 1 < bad → IsOk (item_of width scale channels (k + 1) (slice_index_or items k []))
+  pub good_before : (k : ℕ) → k + 1 < bad
+      → IsOk (item_of width scale channels (k + 1) (slice_index_or items k []))
 
 -- each item is good, and these are their samples
 pub record AreSpelled (width : Width) (scale channels : ℕ) (items : List (List ℕ)) (rows : List Row) : Type 0 where

@@ -323,13 +323,15 @@ refs_within fields list fits is =
 
 -- ---- the mode of a session
 
-named_by : (version : ℕ) (plain : Bool) → (version == second_version || (version == first_version && plain)) ≡ true
+named_by : (version : ℕ) (plain : Bool)
+    → (version == second_version || (version == first_version && plain)) ≡ true
     → (first_version ≤ version) × (version ≤ second_version)
 named_by version true h = (grind (arith, nat_tests), grind (arith, nat_tests))
 named_by version false h = (grind (arith, nat_tests), grind (arith, nat_tests))
 
 named : (version : ℕ) (wide json there : Bool) (command : Command) → is_named version wide json ≡ there
-    → (if there then Ok (Session (mode_of version wide json)) else Err cause.Version) ≡ Ok command → IsWithin command
+    → (if there then Ok (Session (mode_of version wide json)) else Err cause.Version) ≡ Ok command
+    → IsWithin command
 named version wide json true command is e =
     let same : Session (mode_of version wide json) ≡ command = cc in
     subst IsWithin same (named_by version (not (wide || json)) is)

@@ -91,4 +91,5 @@ channels_of width scale cols header None = []
 channels_of width scale cols header (Some bytes) = series_in (table_in width scale cols header bytes)
 
 abbrev pub load_change : Width → ℕ → Files → ℕ → List ℕ → List ℕ → Bool → Change
-load_change width scale files slot file cols header = PutChannels slot (channels_of width scale cols header (file_in files file))
+load_change width scale files slot file cols header =
+    PutChannels slot (channels_of width scale cols header (file_in files file))

@@ -1,4 +1,4 @@
--- `pan R LO HI`: for each window length of a range the nearest pair of windows of a channel, and the most unusual window.
+-- `pan R LO HI`: for each window length of a range the nearest pair of a channel's windows, and the most unusual one.
 use Rattle.std.specs.Prelude.{ℕ, ◌+◌, ◌&&◌, Bool, nat_le, List, [], ◌∷◌, ◌++◌, length, codes, decimal, flat_map}
 use Rattle.std.specs.Prelude.{if◌then◌else◌, Option, Some, None, option_map, option_and_then}
 use Rattle.mp_nums.specs.declared.finds.Discord.{Discord}
@@ -19,7 +19,8 @@ use Rattle.mp_replies.specs.Text.{pair_text}
 
 -- there are windows of these lengths, from a least one to a greatest, and not too many
 abbrev pub are_lengths : ℕ → ℕ → Bool
-are_lengths lo hi = nat_le min_window lo && (nat_le lo hi && (nat_le hi max_window && nat_le (hi + 1) (lo + max_lengths)))
+are_lengths lo hi =
+    nat_le min_window lo && (nat_le lo hi && (nat_le hi max_window && nat_le (hi + 1) (lo + max_lengths)))
 
 abbrev pub lengths_by : ℕ × ℕ → Option (ℕ × ℕ)
 lengths_by (lo, hi) = if are_lengths lo hi then Some (lo, hi) else None

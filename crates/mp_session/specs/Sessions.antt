@@ -91,8 +91,8 @@ changes (Asks (Load at file columns header)) slot = slot == at
 changes (Asks (Append at items)) slot = slot == at
 changes other slot = false
 
--- the line was counted and a command accepted, the mode is the one that it asks for, if it asks for one, and no slot was
--- changed but one that the line asks to change
+-- the line was counted and a command accepted, the mode is the one that it asks for, if it asks for one, and no slot
+-- was changed but one that the line asks to change
 pub record WasAccepted (what : Asked) (state : State) (new : SessionParts) : Type 0 where
   pub stores : List Store
   pub stands : StandsFor new

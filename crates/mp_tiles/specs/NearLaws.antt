@@ -78,7 +78,8 @@ next_rows : (on : Bool) (top height end rows i : ℕ) → top < rows → 0 < hei
 next_rows on top height end rows i some high le = grind (arith, nat_tests)
 
 -- some bands have the pairs of their rows
-bands_have : (bands : Bands) (i j k n : ℕ) → 0 < bands.height → ((q : ℕ) → q < k + n → q * bands.height < bands.rows)
+bands_have : (bands : Bands) (i j k n : ℕ) → 0 < bands.height
+    → ((q : ℕ) → q < k + n → q * bands.height < bands.rows)
     → some_has 0 (map (band_at bands) (range_with_len k n)) i j
     ≡ (on_bands bands i j && in_rows (k * bands.height) ((k + n) * bands.height) bands.rows i)
 bands_have bands i j k zero high some =

@@ -54,17 +54,20 @@ either_more t ts i j =
     ∙ ap (λ p. some_has 0 (t ∷ ts) i j || p) (some_more 0 t ts j i)
 
 -- windows that may be compared are a pair from one side or the other
-one_side : (t u : Bool) (i j : ℕ) → t ≡ u → (i ≡ j → t ≡ false) → ((nat_lt i j && t) || (nat_lt j i && u)) ≡ t
+one_side : (t u : Bool) (i j : ℕ) → t ≡ u → (i ≡ j → t ≡ false)
+    → ((nat_lt i j && t) || (nat_lt j i && u)) ≡ t
 one_side t u i j e h = grind (arith, nat_tests)
 
 -- tiles that hold each pair once have the windows that may be compared
-pub either_may : (may : ℕ → ℕ → Bool) → IsIrreflexive may → IsSymmetric may → (w : ℕ) (tiles : List Tile)
+pub either_may : (may : ℕ → ℕ → Bool) → IsIrreflexive may → IsSymmetric may
+    → (w : ℕ) (tiles : List Tile)
     → HoldEachOnce may w tiles → (i j : ℕ) → i < w → j < w → either_way (some_has 0 tiles) i j ≡ may i j
 either_may may irreflexive symmetric w tiles once i j lt lt' =
     let has = λ (i j : ℕ) (lt : j < w). once_or_not (nat_lt i j && may i j)
     (count_by (λ t. has_pair 0 t i j) tiles) (once i j lt) in
     ap (λ p. p || some_has 0 tiles j i) (has i j lt') ∙ ap (λ p. (nat_lt i j && may i j) || p) (has j i lt)
-    ∙ one_side (may i j) (may j i) i j (symmetric i j) (λ e. subst (λ (k : ℕ). may i k ≡ false) e (irreflexive i))
+    ∙ one_side (may i j) (may j i) i j (symmetric i j)
+    (λ e. subst (λ (k : ℕ). may i k ≡ false) e (irreflexive i))
 
 -- ---- windows that start further apart than a zone
 
