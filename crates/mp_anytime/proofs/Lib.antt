@@ -1,0 +1,10 @@
+pub mod Digits
+pub mod Choosing
+pub mod Stepping
+pub mod LazyLemmas
+pub mod Appending
+pub mod Distances
+pub mod Scans
+pub mod Reading
+pub mod Windows
+pub mod LawLemmas

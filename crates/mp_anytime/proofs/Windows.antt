@@ -1,0 +1,374 @@
+-- What is kept, with one window more and with some diagonals more.
+use Rattle.std.proofs.Common.{◌≡◌, ℕ, zero, suc, ◌+◌, ◌-◌, ◌<◌, ◌≤◌, inl, inr, List, [], ◌∷◌, ◌++◌, length, get_or}
+use Rattle.std.proofs.Common.{Bool, true, false}
+use Rattle.std.proofs.Common.{take, drop, refl, sym, ap, ◌∙◌, arith, subst}
+use Rattle.std.specs.Int.{abs_diff}
+use Rattle.std.specs.Prelude.{All, Option, None, ℤ, nat_lt, slice_index, ◌&&◌, ◌||◌}
+use Rattle.std.proofs.Math.ListN.{get_or-append}
+use Rattle.std.proofs.Math.Seq.{get_or-append_seam}
+use Rattle.std.proofs.lemmas.Bool.{cases_lt}
+use Rattle.std.proofs.lemmas.List.{length-map, length-append, length-take, map-append, take_all, take_more}
+use Rattle.mp_nums.specs.declared.samples.Sample.{Sample}
+use Rattle.mp_nums.specs.declared.samples.Sample.TheVariants.{Missing}
+use Rattle.mp_defs.specs.Series.{Series, reading_of, series_of}
+use Rattle.mp_defs.specs.ColumnLaws.{columns_have_places}
+use Rattle.mp_defs.specs.Window.{is_allowed, windows}
+use Rattle.mp_defs.specs.Profile.{column, entry, left_entry, nearest_column, profile, right_entry, windows_of}
+use Rattle.mp_partial.specs.Profiled.{Profiled}
+use Rattle.mp_defs.specs.NearestLaws.{zone_is_mutual}
+use Rattle.mp_defs.specs.SeriesLaws.{series_are_of_samples}
+use Rattle.mp_partial.specs.Values.{Column, Value, empty_columns, merged_column, merged_columns}
+use Rattle.mp_stream.specs.Appended.{EntriesGrow, with_one}
+use Rattle.mp_tiles.specs.Among.{columns_value, either_way}
+use Rattle.mp_tiles.specs.Scanning.{IsScanned}
+use Rattle.mp_tiles.specs.SideLaws.{profiles_are_of_both_sides}
+use Rattle.mp_anytime.specs.Covering.{is_covered}
+use Rattle.mp_anytime.specs.LazyProfile.{is_allowed_along, lazy_profile}
+use Rattle.mp_anytime.specs.Scanning.{lie_along}
+use Rattle.mp_anytime.specs.Kept.{AreSums, AreWaiting, IsAlongCovered, IsDiagonal, IsOf, IsSumAt, is_last_pair}
+use Rattle.mp_anytime.specs.Kept.{IsListed, last_place, without_last}
+use Rattle.mp_anytime.specs.declared.coverage.Coverage.{Coverage}
+use Rattle.mp_anytime.proofs.Choosing.{other_test}
+use Rattle.mp_anytime.proofs.Appending.{first_pairs, grown_left, grown_right, joined_column}
+use Rattle.mp_anytime.proofs.Distances.{sum_front}
+use Rattle.mp_anytime.proofs.LazyLemmas.{all_of, along_both, left_of, lazy_is_along, right_of, value_none}
+
+-- ---- one sample more
+
+front_taken : {A : Type 0} (xs ys : List A) → take (length xs) (xs ++ ys) ≡ xs
+front_taken [] ys = refl
+front_taken (x ∷ xs) ys = ap (λ l. x ∷ l) (front_taken xs ys)
+
+-- what stood before the last one
+pub front_is : (front items : List Sample) (sample : Sample) → items ≡ front ++ sample ∷ [] → without_last items ≡ front
+front_is front items sample e =
+    let long = length-append front (sample ∷ []) in
+    ap without_last e ∙ ap (λ n. take n (front ++ sample ∷ [])) (omega (arith, long)) ∙ front_taken front (sample ∷ [])
+
+pub last_sample : (items : List Sample) → 1 ≤ length items
+    → items ≡ without_last items ++ get_or items (length items - 1) Missing ∷ []
+last_sample items some =
+    let one : length items ≡ length items - 1 + 1 = omega arith in
+    sym (take_all (length items) items (omega arith)) ∙ ap (λ n. take n items) one
+    ∙ take_more items (length items - 1) Missing (omega arith)
+
+pub front_long : (items : List Sample) → length (without_last items) ≡ length items - 1
+front_long items = omega (arith, length-take (length items - 1) items)
+
+pub series_with : (items front : List Sample) (sample : Sample) → items ≡ front ++ sample ∷ []
+    → series_of items ≡ with_one (series_of front) (reading_of sample)
+series_with items front sample e = ap series_of e ∙ map-append reading_of front (sample ∷ [])
+
+pub diagonals_stay : (m w v : ℕ) (covered : List ℕ) → w ≤ v → All (IsDiagonal m w) covered
+    → All (IsDiagonal m v) covered
+diagonals_stay m w v covered le all k d lt = ((all k d lt).0, omega (arith, (all k d lt).1, le))
+
+-- ---- columns
+
+left_along : (m w : ℕ) (covered : List ℕ) (a : Series) → All (IsDiagonal m w) covered
+    → (lazy_profile m covered a).left ≡ (profile (lie_along covered) m a).left
+left_along m w covered a all = left_of _ _ _ _ _ _ (lazy_is_along m w covered a all)
+
+right_along : (m w : ℕ) (covered : List ℕ) (a : Series) → All (IsDiagonal m w) covered
+    → (lazy_profile m covered a).right ≡ (profile (lie_along covered) m a).right
+right_along m w covered a all = right_of _ _ _ _ _ _ (lazy_is_along m w covered a all)
+
+-- the last window is compared along the covered diagonals
+pub left_grows : (grow : EntriesGrow) (m w : ℕ) (covered : List ℕ) (a : Series) (s : Option ℤ)
+    (old grown new : Profiled)
+    → m ≤ length a + 1 → windows_of m a ≡ w → All (IsDiagonal m w) covered
+    → old.left ≡ (lazy_profile m covered a).left → grown.left ≡ old.left ++ None ∷ []
+    → IsScanned (is_last_pair covered w) m (with_one a s) grown new
+    → new.left ≡ (lazy_profile m covered (with_one a s)).left
+left_grows grow m w covered a s old grown new long count all was more scanned =
+    let b = with_one a s in
+    let counted : windows_of m b ≡ w + 1 = grow.windows m a s long ∙ ap (λ n. n + 1) count in
+    let first : grown.left ≡ nearest_column (λ i j. first_pairs covered w i j && nat_lt j i) m b b =
+    more ∙ ap (λ (c : Column). c ++ None ∷ []) (was ∙ left_along m w covered a all)
+    ∙ sym (grown_left grow m a s covered long)
+    ∙ ap (λ n. nearest_column (λ i j. first_pairs covered n i j && nat_lt j i) m b b) count in
+    scanned.sides.left
+    ∙ ap (λ (c : Column). merged_column c
+    (nearest_column (λ i j. either_way (is_last_pair covered w) i j && nat_lt j i) m b b))
+    first
+    ∙ joined_column covered m b w (λ i j. nat_lt j i) counted
+    ∙ sym (left_along m (w + 1) covered b (diagonals_stay m w (w + 1) covered (omega arith) all))
+
+pub right_grows : (grow : EntriesGrow) (m w : ℕ) (covered : List ℕ) (a : Series) (s : Option ℤ)
+    (old grown new : Profiled)
+    → m ≤ length a + 1 → windows_of m a ≡ w → All (IsDiagonal m w) covered
+    → old.right ≡ (lazy_profile m covered a).right → grown.right ≡ old.right ++ None ∷ []
+    → IsScanned (is_last_pair covered w) m (with_one a s) grown new
+    → new.right ≡ (lazy_profile m covered (with_one a s)).right
+right_grows grow m w covered a s old grown new long count all was more scanned =
+    let b = with_one a s in
+    let counted : windows_of m b ≡ w + 1 = grow.windows m a s long ∙ ap (λ n. n + 1) count in
+    let first : grown.right ≡ nearest_column (λ i j. first_pairs covered w i j && nat_lt i j) m b b =
+    more ∙ ap (λ (c : Column). c ++ None ∷ []) (was ∙ right_along m w covered a all)
+    ∙ sym (grown_right grow m a s covered long)
+    ∙ ap (λ n. nearest_column (λ i j. first_pairs covered n i j && nat_lt i j) m b b) count in
+    scanned.sides.right
+    ∙ ap (λ (c : Column). merged_column c
+    (nearest_column (λ i j. either_way (is_last_pair covered w) i j && nat_lt i j) m b b))
+    first
+    ∙ joined_column covered m b w (λ i j. nat_lt i j) counted
+    ∙ sym (right_along m (w + 1) covered b (diagonals_stay m w (w + 1) covered (omega arith) all))
+
+-- the sums of the pairs before the last window's
+pub sums_front : (m w : ℕ) (a : Series) (s : Option ℤ) (covered sums : List ℕ) → windows_of m a ≡ w
+    → All (IsDiagonal m w) covered → AreSums m a covered (w - 1) sums → AreSums m (with_one a s) covered (w - 1) sums
+sums_front m w a s covered sums count all h = record {
+  places = h.places;
+  each = λ k lt.
+      let less = (all k 0 lt).1 in
+      sum_front m a s (w - 1 - slice_index covered k) (w - 1) (slice_index sums k) (omega (arith, less, count))
+      (omega (arith, less, count)) (h.each k lt);
+}
+
+-- ---- more diagonals
+
+all_both : {X : Type 0} (P : X → Type 0) (xs ys : List X) → All P xs → All P ys → All P (xs ++ ys)
+all_both P [] ys h g k d lt = g k d lt
+all_both P (x ∷ xs) ys h g zero d lt = h zero d (omega arith)
+all_both P (x ∷ xs) ys h g (suc k) d lt =
+    all_both P xs ys (λ i e less. h (suc i) e (omega (arith, less))) g k d (omega (arith, lt))
+
+pub diagonals_both : (m w : ℕ) (covered chosen : List ℕ) → All (IsDiagonal m w) covered → All (IsDiagonal m w) chosen
+    → All (IsDiagonal m w) (covered ++ chosen)
+diagonals_both m w covered chosen h g = all_both (IsDiagonal m w) covered chosen h g
+
+-- none of them is a window that comes later
+pub not_covered : (m w : ℕ) (covered : List ℕ) → All (IsDiagonal m w) covered → is_covered covered w ≡ false
+not_covered m w [] all = refl
+not_covered m w (d ∷ ds) all =
+    ap (λ t. t || is_covered ds w) (other_test d w (λ e. omega (arith, (all 0 d (omega arith)).1, e)))
+    ∙ not_covered m w ds (λ k e lt. all (suc k) e (omega (arith, lt)))
+
+-- how many windows a profile has
+pub kept_places : (m : ℕ) (items : List Sample) (covered : List ℕ) (p : Profiled) → IsAlongCovered m items covered p
+    → length p.left ≡ windows (length items) m
+kept_places m items covered p h =
+    ap length h.left
+    ∙ columns_have_places.count (left_entry (is_allowed_along covered m) m (series_of items))
+    (windows_of m (series_of items))
+    ∙ series_are_of_samples.windows_are m items
+
+pub found_places : (m : ℕ) (items : List Sample) (chosen : List ℕ) (found : Profiled)
+    → ◌≡◌ {A = Value} (found.all ∷ found.left ∷ found.right ∷ [])
+    (columns_value (profile (lie_along chosen) m (series_of items))) → length found.all ≡ windows (length items) m
+found_places m items chosen found e =
+    ap length (all_of _ _ _ _ _ _ e)
+    ∙ columns_have_places.count (entry (lie_along chosen) m (series_of items)) (windows_of m (series_of items))
+    ∙ series_are_of_samples.windows_are m items
+
+-- what was written to a part of a list that is all of it
+pub written_back : (xs ys : List ℕ) → length xs ≡ length ys → take (length ys) (xs ++ drop (length xs) ys) ≡ xs
+written_back xs ys e =
+    ap (λ n. take n (xs ++ drop (length xs) ys)) (sym e) ∙ front_taken xs (drop (length xs) ys)
+
+-- ---- no diagonals
+
+pub none_along : (m : ℕ) (items : List Sample) (p : Profiled)
+    → ◌≡◌ {A = Value} (p.all ∷ p.left ∷ p.right ∷ []) (empty_columns 3 (windows (length items) m))
+    → IsAlongCovered m items [] p
+none_along m items p e =
+    let a = series_of items in
+    let same : empty_columns 3 (windows (length items) m) ≡ columns_value (lazy_profile m [] a) =
+    ap (empty_columns 3) (sym (series_are_of_samples.windows_are m items))
+    ∙ sym (value_none (is_allowed_along [] m) m a (λ i j. never (is_allowed m i j))) in
+    record {
+      left = left_of _ _ _ _ _ _ (e ∙ same);
+      right = right_of _ _ _ _ _ _ (e ∙ same);
+    }
+  where
+    never : (t : Bool) → (t && false) ≡ false
+    never true = refl
+    never false = refl
+
+-- ---- both sides
+
+pub all_entries : (m : ℕ) (covered : List ℕ) (a : Series) (all left right : Column) → all ≡ merged_column left right
+    → left ≡ (lazy_profile m covered a).left → right ≡ (lazy_profile m covered a).right
+    → all ≡ (lazy_profile m covered a).all
+all_entries m covered a all left right e f g =
+    e ∙ ap (λ (c : Column). merged_column c right) f ∙ ap (merged_column (lazy_profile m covered a).left) g
+    ∙ sym (profiles_are_of_both_sides.any (is_allowed_along covered m) never m a)
+  where
+    never : (i : ℕ) → is_allowed_along covered m i i ≡ false
+    never i = ap (λ t. t && is_covered covered (abs_diff i i)) (zone_is_mutual.irreflexive m i)
+
+-- ---- what was found is taken over
+
+pub covers_more : (m w : ℕ) (items : List Sample) (covered chosen : List ℕ) (old found new : Profiled)
+    → All (IsDiagonal m w) covered → All (IsDiagonal m w) chosen → IsAlongCovered m items covered old
+    → ◌≡◌ {A = Value} (found.all ∷ found.left ∷ found.right ∷ [])
+    (columns_value (profile (lie_along chosen) m (series_of items)))
+    → ◌≡◌ {A = Value} (new.all ∷ new.left ∷ new.right ∷ [])
+    (merged_columns (old.all ∷ old.left ∷ old.right ∷ []) (found.all ∷ found.left ∷ found.right ∷ []))
+    → IsAlongCovered m items (covered ++ chosen) new
+covers_more m w items covered chosen old found new all all' was e f =
+    let a = series_of items in
+    let both = diagonals_both m w covered chosen all all' in
+    let whole = along_both covered chosen m a in
+    record {
+      left = left_of _ _ _ _ _ _ f
+          ∙ ap (λ (c : Column). merged_column c found.left) (was.left ∙ left_along m w covered a all)
+          ∙ ap (merged_column (profile (lie_along covered) m a).left) (left_of _ _ _ _ _ _ e)
+          ∙ sym (left_of _ _ _ _ _ _ whole)
+          ∙ sym (left_along m w (covered ++ chosen) a both);
+      right = right_of _ _ _ _ _ _ f
+          ∙ ap (λ (c : Column). merged_column c found.right) (was.right ∙ right_along m w covered a all)
+          ∙ ap (merged_column (profile (lie_along covered) m a).right) (right_of _ _ _ _ _ _ e)
+          ∙ sym (right_of _ _ _ _ _ _ whole)
+          ∙ sym (right_along m w (covered ++ chosen) a both);
+    }
+
+-- what is kept where no diagonal is covered
+pub none_kept : (m count : ℕ) (items : List Sample) (coverage : Coverage) → windows (length items) m ≡ count
+    → ◌≡◌ {A = Value} (coverage.profile.all ∷ coverage.profile.left ∷ coverage.profile.right ∷ [])
+    (empty_columns 3 count)
+    → coverage.covered.items ≡ [] → coverage.sums.items ≡ [] → AreWaiting m count [] coverage.waiting.items
+    → IsOf m items coverage
+none_kept m count items coverage is value no_covered no_sums waiting = record {
+  listed = record {
+    diagonals = subst (λ ds. All (IsDiagonal m (windows (length items) m)) ds) (sym no_covered)
+        (λ k d lt. absurd (omega (arith, lt)));
+    lasts = record {
+      places = ap length no_sums ∙ sym (ap length no_covered);
+      each = λ k lt. absurd (omega (arith, lt, ap length no_covered));
+    };
+    waiting = subst (λ ds. AreWaiting m (windows (length items) m) ds coverage.waiting.items) (sym no_covered)
+        (subst (λ w. AreWaiting m w [] coverage.waiting.items) (sym is) waiting);
+  };
+  profile = subst (λ ds. IsAlongCovered m items ds coverage.profile) (sym no_covered)
+      (none_along m items coverage.profile (value ∙ ap (empty_columns 3) (sym is)));
+}
+
+-- ---- all that is kept, with one window more
+
+pub window_added : (grow : EntriesGrow) (m : ℕ) (items front : List Sample) (sample : Sample) (old new : Coverage)
+    (grown : Profiled) (last : ℕ) → items ≡ front ++ sample ∷ [] → 1 ≤ m → m ≤ length items
+    → last ≡ windows (length front) m → IsOf m front old → new.covered.items ≡ old.covered.items
+    → grown.left ≡ old.profile.left ++ None ∷ [] → grown.right ≡ old.profile.right ++ None ∷ []
+    → IsScanned (is_last_pair old.covered.items last) m (series_of items) grown new.profile
+    → AreSums m (series_of items) old.covered.items last new.sums.items
+    → AreWaiting m (last + 1) old.covered.items new.waiting.items → IsOf m items new
+window_added grow m items front sample old new grown last e least long is was same left right scanned sums waiting =
+    let covered = old.covered.items in
+    let a = series_of front in
+    let s = reading_of sample in
+    let many : length items ≡ length front + 1 = ap length e ∙ length-append front (sample ∷ []) in
+    let more : windows (length items) m ≡ last + 1 = omega (arith, many, is, least, long) in
+    let place : last ≡ last_place m items = omega (arith, more) in
+    let counted : windows_of m a ≡ last = series_are_of_samples.windows_are m front ∙ sym is in
+    let room : m ≤ length a + 1 = omega (arith, long, many, length-map front reading_of) in
+    let whole = series_with items front sample e in
+    let all : All (IsDiagonal m last) covered =
+    subst (λ w. All (IsDiagonal m w) covered) (sym is) was.listed.diagonals in
+    let along : IsScanned (is_last_pair covered last) m (with_one a s) grown new.profile =
+    subst (λ (x : Series). IsScanned (is_last_pair covered last) m x grown new.profile) whole scanned in
+    record {
+      listed = record {
+        diagonals = subst (λ ds. All (IsDiagonal m (windows (length items) m)) ds) (sym same)
+            (subst (λ w. All (IsDiagonal m w) covered) (sym more)
+            (diagonals_stay m last (last + 1) covered (omega arith) all));
+        lasts = subst (λ ds. AreSums m (series_of items) ds (last_place m items) new.sums.items) (sym same)
+            (subst (λ j. AreSums m (series_of items) covered j new.sums.items) place sums);
+        waiting = subst (λ ds. AreWaiting m (windows (length items) m) ds new.waiting.items) (sym same)
+            (subst (λ w. AreWaiting m w covered new.waiting.items) (sym more) waiting);
+      };
+      profile = subst (λ ds. IsAlongCovered m items ds new.profile) (sym same)
+          (record {
+            left = subst (λ (x : Series). new.profile.left ≡ (lazy_profile m covered x).left) (sym whole)
+                (left_grows grow m last covered a s old.profile grown new.profile room counted all was.profile.left
+                left along);
+            right = subst (λ (x : Series). new.profile.right ≡ (lazy_profile m covered x).right) (sym whole)
+                (right_grows grow m last covered a s old.profile grown new.profile room counted all was.profile.right
+                right along);
+          });
+    }
+
+-- a sample without a window changes nothing
+pub sample_added : (m : ℕ) (items front : List Sample) (sample : Sample) (coverage : Coverage)
+    → items ≡ front ++ sample ∷ [] → length items < m → IsOf m front coverage → IsOf m items coverage
+sample_added m items front sample coverage e short was =
+    let many : length items ≡ length front + 1 = ap length e ∙ length-append front (sample ∷ []) in
+    let none : windows (length front) m ≡ windows (length items) m = omega (arith, many, short) in
+    let counted : windows_of m (series_of items) ≡ 0 =
+    series_are_of_samples.windows_are m items ∙ omega (arith, short) in
+    let before : windows_of m (series_of front) ≡ 0 =
+    series_are_of_samples.windows_are m front ∙ omega (arith, many, short) in
+    let covered = coverage.covered.items in
+    record {
+      listed = record {
+        diagonals = subst (λ w. All (IsDiagonal m w) covered) none was.listed.diagonals;
+        lasts = record {
+          places = was.listed.lasts.places;
+          each = λ k lt. absurd (omega (arith, (was.listed.diagonals k 0 lt).1, many, short));
+        };
+        waiting = subst (λ w. AreWaiting m w covered coverage.waiting.items) none was.listed.waiting;
+      };
+      profile = record {
+        left = was.profile.left ∙ ap (column (left_entry (is_allowed_along covered m) m (series_of front))) before
+            ∙ sym (ap (column (left_entry (is_allowed_along covered m) m (series_of items))) counted);
+        right = was.profile.right ∙ ap (column (right_entry (is_allowed_along covered m) m (series_of front))) before
+            ∙ sym (ap (column (right_entry (is_allowed_along covered m) m (series_of items))) counted);
+      };
+    }
+
+-- ---- a diagonal more
+
+pub listed_more : (m : ℕ) (items : List Sample) (diagonal sum : ℕ) (old new : Coverage)
+    → IsDiagonal m (windows (length items) m) diagonal → IsListed m items old
+    → new.covered.items ≡ old.covered.items ++ diagonal ∷ [] → new.sums.items ≡ old.sums.items ++ sum ∷ []
+    → IsSumAt m (series_of items) (last_place m items - diagonal) (last_place m items) sum
+    → AreWaiting m (windows (length items) m) (old.covered.items ++ diagonal ∷ []) new.waiting.items
+    → IsListed m items new
+listed_more m items diagonal sum old new is was more sums here waiting =
+    let covered = old.covered.items in
+    let last = last_place m items in
+    let long = length-append covered (diagonal ∷ []) in
+    record {
+      diagonals = subst (λ ds. All (IsDiagonal m (windows (length items) m)) ds) (sym more)
+          (diagonals_both m (windows (length items) m) covered (diagonal ∷ []) was.diagonals
+          only_one);
+      lasts = record {
+        places = ap length sums ∙ length-append old.sums.items (sum ∷ [])
+            ∙ ap (λ n. n + 1) was.lasts.places ∙ sym (ap length more ∙ long);
+        each = λ k lt. subst (λ ds. IsSumAt m (series_of items) (last - get_or ds k 0) last (get_or new.sums.items k 0))
+            (sym more)
+            (subst (λ xs. IsSumAt m (series_of items) (last - get_or (covered ++ diagonal ∷ []) k 0) last
+            (get_or xs k 0))
+            (sym sums) (placed k (omega (arith, lt, ap length more, long))));
+      };
+      waiting = subst (λ ds. AreWaiting m (windows (length items) m) ds new.waiting.items) (sym more) waiting;
+    }
+  where
+    only_one : (k d : ℕ) → k < length (diagonal ∷ [])
+        → IsDiagonal m (windows (length items) m) (get_or (diagonal ∷ []) k d)
+    only_one zero d lt = is
+    only_one (suc k) d lt = absurd (omega (arith, lt))
+
+    placed : (k : ℕ) → k < length old.covered.items + 1
+        → IsSumAt m (series_of items) (last_place m items - get_or (old.covered.items ++ diagonal ∷ []) k 0)
+        (last_place m items) (get_or (old.sums.items ++ sum ∷ []) k 0)
+    placed k lt = elim (cases_lt k (length old.covered.items)) [
+      | inl less ↦
+          subst (λ d. IsSumAt m (series_of items) (last_place m items - d) (last_place m items)
+          (get_or (old.sums.items ++ sum ∷ []) k 0))
+          (sym (get_or-append old.covered.items (diagonal ∷ []) 0 k less))
+          (subst (λ x. IsSumAt m (series_of items) (last_place m items - get_or old.covered.items k 0)
+          (last_place m items) x)
+          (sym (get_or-append old.sums.items (sum ∷ []) 0 k (omega (arith, less, was.lasts.places))))
+          (was.lasts.each k less))
+      | inr ge ↦
+          let at : length old.covered.items ≡ k = omega (arith, lt, ge) in
+          let at_sum : length old.sums.items ≡ k = was.lasts.places ∙ at in
+          subst (λ d. IsSumAt m (series_of items) (last_place m items - d) (last_place m items)
+          (get_or (old.sums.items ++ sum ∷ []) k 0))
+          (sym (ap (λ q. get_or (old.covered.items ++ diagonal ∷ []) q 0) (sym at)
+          ∙ get_or-append_seam old.covered.items diagonal [] 0))
+          (subst (λ x. IsSumAt m (series_of items) (last_place m items - diagonal) (last_place m items) x)
+          (sym (ap (λ q. get_or (old.sums.items ++ sum ∷ []) q 0) (sym at_sum)
+          ∙ get_or-append_seam old.sums.items sum [] 0)) here)
+    ]

@@ -1,0 +1,31 @@
+-- What the values of diagonals have.
+use Rattle.std.proofs.Common.{◌≡◌, ℕ, zero, suc, List, [], ◌∷◌, length, Bool, refl, ◌∙◌, arith}
+use Rattle.std.specs.Prelude.{All}
+use Rattle.mp_nums.specs.declared.samples.Sample.{Sample}
+use Rattle.mp_defs.specs.Series.{series_of}
+use Rattle.mp_defs.specs.Window.{windows}
+use Rattle.mp_defs.specs.Profile.{windows_of, profile, entry, left_entry, right_entry}
+use Rattle.mp_defs.specs.SeriesLaws.{series_are_of_samples}
+use Rattle.mp_defs.specs.ColumnLaws as columns
+use Rattle.mp_partial.specs.Values.{Column, HasColumns}
+use Rattle.mp_tiles.specs.Among.{columns_value}
+
+pub all_three : (P : Column → Type 0) (a b c : Column) → P a → P b → P c → All P (a ∷ b ∷ c ∷ [])
+all_three P a b c p q r zero d lt = p
+all_three P a b c p q r (suc zero) d lt = q
+all_three P a b c p q r (suc (suc zero)) d lt = r
+all_three P a b c p q r (suc (suc (suc k))) d lt = absurd (omega (arith, lt))
+
+pub columns_have_places : (may : ℕ → ℕ → Bool) (m : ℕ) (samples : List Sample)
+    → HasColumns 3 (windows (length samples) m) (columns_value (profile may m (series_of samples)))
+columns_have_places may m samples =
+    let a = series_of samples in
+    let same = series_are_of_samples.windows_are m samples in
+    let p = profile may m a in
+    record {
+      columns = refl;
+      places = all_three (λ column. length column ≡ windows (length samples) m) p.all p.left p.right
+          (columns.columns_have_places.count (entry may m a) (windows_of m a) ∙ same)
+          (columns.columns_have_places.count (left_entry may m a) (windows_of m a) ∙ same)
+          (columns.columns_have_places.count (right_entry may m a) (windows_of m a) ∙ same);
+    }

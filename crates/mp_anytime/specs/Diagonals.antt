@@ -1,0 +1,33 @@
+-- The diagonals of a series as the pieces of a kernel.
+use Rattle.std.specs.Prelude.{◌≡◌, ℕ, ◌<◌, ◌≤◌, List, length, slice_index, All, Bool}
+use Rattle.mp_nums.specs.declared.samples.Sample.{Sample}
+use Rattle.mp_defs.specs.Series.{series_of}
+use Rattle.mp_defs.specs.Window.{windows}
+use Rattle.mp_defs.specs.Profile.{profile}
+use Rattle.mp_partial.specs.Values.{Value}
+use Rattle.mp_sums.specs.declared.distances.Grid.{Grid}
+use Rattle.mp_tiles.specs.Among.{columns_value}
+use Rattle.mp_anytime.specs.Scanning.{AreFree, lie_apart}
+
+-- what is seen of the kernel: the samples, the length of a window, and how far the windows of each piece start apart
+pub record Along : Type 0 where
+  pub samples : List Sample
+  pub m : ℕ
+  pub offsets : List ℕ
+
+-- what its fields keep to
+pub record IsAlong (grid : Grid) (free : List Bool) (offsets : List ℕ) : Type 0 where
+  pub some : 1 ≤ grid.m
+  pub same : grid.columns.now ≡ grid.rows.now
+  pub are_free : AreFree grid.m (series_of grid.rows.now) free
+  pub apart : All (λ offset. 1 ≤ offset) offsets
+  pub within : All (λ offset. offset < length free) offsets
+
+-- the number of windows
+abbrev pub along_size : Along → ℕ
+along_size along = windows (length along.samples) along.m
+
+-- the value of piece k: the profile of the pairs that start so far apart
+abbrev pub along_value : Along → ℕ → Value
+along_value along k =
+    columns_value (profile (lie_apart (slice_index along.offsets k)) along.m (series_of along.samples))

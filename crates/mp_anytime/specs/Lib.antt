@@ -1,0 +1,8 @@
+pub mod Reversal
+pub mod Covering
+pub mod LazyProfile
+pub mod Scanning
+pub mod Kept
+pub mod Diagonals
+pub mod DiagonalLaws
+pub mod Laws

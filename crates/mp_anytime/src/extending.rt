@@ -1,0 +1,119 @@
+//! The last pair of each covered diagonal, and the pair that one window more brings.
+
+ghost use Rattle.std.specs.Prelude.{◌≡◌, ◌+◌, ◌-◌, ◌*◌, ◌<◌, ◌≤◌, length, All};
+ghost use Rattle.mp_defs.specs.Limits.{max_samples};
+ghost use Rattle.mp_defs.specs.Series.{series_of};
+ghost use Rattle.mp_series.specs.declared.limits.TheConstants.{MAX_WINDOW};
+ghost use Rattle.mp_sums.specs.Sums.{greatest_square};
+ghost use Rattle.mp_scans.specs.Offering.{only};
+ghost use Rattle.mp_tiles.specs.Scanning.{HasPlaces, IsScanned};
+ghost use Rattle.mp_anytime.specs.Kept.{AreSums, IsDiagonal, IsSumAt, OnlyReads, is_last_pair, square_at};
+
+use crate::pairs::offer_pair;
+use mp_nums::Sq;
+use mp_partial::Profile;
+use mp_series::Samples;
+use mp_sums::square;
+
+/// The squared difference of samples `i` and `j`, where a missing one counts as 0.
+#[inline]
+fn square_between(samples: &mut Samples, i: u64, j: u64) -> u128
+    requires first { i < length samples.old.items }
+    requires second { j < length samples.old.items }
+    ensures square { result ≡ square_at (series_of samples.old.items) i j }
+    ensures small { result ≤ greatest_square }
+    ensures read { OnlyReads 2 samples.old samples.new }
+{
+    let (first, second) = samples.parts(i, j, 1);
+    square(first[0], second[0])
+}
+
+/// The sum of windows `i` and `j`.
+pub(crate) fn sum_of(samples: &mut Samples, m: u32, i: u64, j: u64) -> u128
+    requires width { m ≤ MAX_WINDOW }
+    requires few { length samples.old.items ≤ max_samples }
+    requires first { i + m ≤ length samples.old.items }
+    requires second { j + m ≤ length samples.old.items }
+    ensures sum { IsSumAt m (series_of samples.old.items) i j result }
+    ensures read { OnlyReads (2 * m) samples.old samples.new }
+{
+    let mut sum = 0;
+    for k in 0..u64::from(m) {
+        sum += square_between(samples, i + k, j + k);
+    }
+    sum
+}
+
+/// The sum of windows `i` and `j`, from that of the windows before them.
+#[inline]
+fn next_sum(samples: &mut Samples, m: u32, i: u64, j: u64, sum: u128) -> u128
+    requires shortest { 1 ≤ m }
+    requires width { m ≤ MAX_WINDOW }
+    requires some { 1 ≤ i }
+    requires order { i < j }
+    requires within { j + m ≤ length samples.old.items }
+    requires few { length samples.old.items ≤ max_samples }
+    requires sum { IsSumAt m (series_of samples.old.items) (i - 1) (j - 1) sum }
+    ensures sum { IsSumAt m (series_of samples.old.items) i j result }
+    ensures read { OnlyReads 4 samples.old samples.new }
+{
+    let behind = u64::from(m) - 1;
+    let enters = square_between(samples, i + behind, j + behind);
+    let leaves = square_between(samples, i - 1, j - 1);
+    sum + enters - leaves
+}
+
+/// Takes the pair of a diagonal with the last window, where the sum is that of the pair before it. The result is the
+/// sum of this pair.
+#[inline]
+fn extend(
+    samples: &mut Samples,
+    m: u32,
+    i: u64,
+    last: u64,
+    sum: u128,
+    profile: &mut Profile,
+) -> u128
+    requires shortest { 1 ≤ m }
+    requires width { m ≤ MAX_WINDOW }
+    requires some { 1 ≤ i }
+    requires order { i < last }
+    requires within { last + m ≡ length samples.old.items }
+    requires few { length samples.old.items ≤ max_samples }
+    requires sum { IsSumAt m (series_of samples.old.items) (i - 1) (last - 1) sum }
+    requires places { HasPlaces (last + 1) profile.old }
+    ensures sum { IsSumAt m (series_of samples.old.items) i last result }
+    ensures scanned { IsScanned (only i last) m (series_of samples.old.items) profile.old profile.new }
+    ensures read { OnlyReads 4 samples.old samples.new }
+{
+    let both_free = samples.free(i, m) & samples.free(last, m);
+    let sum = next_sum(samples, m, i, last, sum);
+    offer_pair(profile, i, last, both_free, Sq(sum));
+    sum
+}
+
+/// Takes the pair of each covered diagonal with the last window.
+pub(crate) fn extend_each(
+    samples: &mut Samples,
+    m: u32,
+    last: u64,
+    covered: &[u64],
+    sums: &mut [u128],
+    profile: &mut Profile,
+)
+    requires shortest { 1 ≤ m }
+    requires width { m ≤ MAX_WINDOW }
+    requires within { last + m ≡ length samples.old.items }
+    requires few { length samples.old.items ≤ max_samples }
+    requires diagonals { All (IsDiagonal m last) covered.now }
+    requires sums { AreSums m (series_of samples.old.items) covered.now (last - 1) sums.old }
+    requires places { HasPlaces (last + 1) profile.old }
+    ensures sums { AreSums m (series_of samples.old.items) covered.now last sums.new }
+    ensures scanned { IsScanned (is_last_pair covered.now last) m (series_of samples.old.items) profile.old
+        profile.new }
+    ensures read { OnlyReads (4 * length covered.now) samples.old samples.new }
+{
+    for k in 0..covered.len() {
+        sums[k] = extend(samples, m, last - covered[k], last, sums[k], profile);
+    }
+}
