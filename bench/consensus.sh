@@ -1,7 +1,8 @@
 #!/bin/sh
-# Milliseconds of the centre of eight series of 4,000 samples at three window lengths, each the least of five runs: by the
-# joins of each two of them, and by `consensus`, which has to find the same centre, both by one worker. Then, at window
-# 160, what four workers reach of what four runs of one worker reach at the same time. The series are pieces of an
+# Milliseconds of the centre of eight series of 4,000 samples at three window lengths, each the least of five runs: by
+# the joins of each two of them, and by `consensus`, which has to find the same centre, both by one worker. Then, at
+# window 160, what four workers reach of what four runs of one worker reach at the same time: by the least of five
+# rounds of each, where a round of four runs counts by the one that ends last. The series are pieces of an
 # electrocardiogram and noise. Needs the program: `rt run` in crates/consensus_bench once.
 set -eu
 here="$(dirname "$0")"

@@ -1,9 +1,10 @@
 #!/bin/sh
 # Milliseconds of the profile of several channels together at window 128, beside those of the profiles of each alone, by
 # one worker, each the least of three runs: three channels of 20,000 samples of electrocardiograms, of which one, two or
-# three are taken together for each pair, and eight. At last, what four workers reach of what four runs of one worker
-# reach at the same time, and the processor time of four workers beside that of one, all on one processor. It takes some
-# minutes, and needs the program: `rt run` in crates/multi_bench once.
+# three are taken together for each pair, and eight. Then what four workers reach of what four runs of one worker reach
+# at the same time: by the least of three rounds of each, where a round of four runs counts by the one that ends last.
+# At last, the processor time of four workers beside that of one, all on one processor. It takes some minutes, and needs
+# the program: `rt run` in crates/multi_bench once.
 set -eu
 here="$(dirname "$0")"
 program="$here/../crates/multi_bench/out/multi_bench"
@@ -44,12 +45,19 @@ line 2 3
 line 3 3
 line 4 8
 
-four="$(least multi 2 3 4)"
-for _ in 1 2 3 4; do nanoseconds multi 2 3 1 >> "$work/side" & done
-wait
-awk -v four="$four" '{ sum += $1 } END {
-    printf "four workers: %.2f of four runs of one worker at the same time\n", sum / NR / 4 / four
-}' "$work/side"
+# the time of the slowest of four runs at once
+together() {
+    for k in 1 2 3 4; do
+        nanoseconds multi 2 3 1 > "$work/time.$k" &
+    done
+    wait
+    cat "$work"/time.* | sort -n | tail -n 1
+}
+
+four_runs=$(for _ in 1 2 3; do together; done | sort -n | head -n 1)
+four_workers=$(least multi 2 3 4)
+awk -v runs="$four_runs" -v workers="$four_workers" \
+    'BEGIN { printf "2 of 3 channels, four workers by four runs: %.2f\n", runs / (4 * workers) }'
 
 # the processor time of three runs, on the first processor
 seconds() {

@@ -1,8 +1,9 @@
 #!/bin/sh
-# How long a session takes for the K nearest windows of each window of `ecg.csv`, 20,000 samples at window 128, beside the
-# profile of a `load`: what a second `load` adds to a session, and what a `nearest` of each K adds to it, its report
-# included, by one worker. Then what four workers reach for K = 4 of what four sessions of one worker reach at the same time.
-# Each is timed nine times in turn, and the least counts. Needs the program: `rt run` in crates/mprof once.
+# How long a session takes for the K nearest windows of each window of `ecg.csv`, 20,000 samples at window 128, beside
+# the profile of a `load`: what a second `load` adds to a session, and what a `nearest` of each K adds to it, its report
+# included, by one worker. Then what four workers reach for K = 4 of what four sessions of one worker reach at the same
+# time, where a round of four sessions counts by the one that ends last. Each is timed nine times in turn, and the least
+# counts. Needs the program: `rt run` in crates/mprof once.
 set -eu
 here="$(dirname "$0")"
 mprof="$(cd "$here/../crates/mprof/out" && pwd)/mprof"
@@ -52,4 +53,5 @@ for k in 1 2 3 4; do
 done
 four=$(($(least times.nearest4.four) - $(least times.once.four)))
 runs=$(($(least times.nearest4.runs) - $(least times.once.runs)))
-awk -v four="$four" -v runs="$runs" 'BEGIN { printf "four workers reach %.2f of four runs\n", runs / 4 / four }'
+awk -v runs="$runs" -v workers="$four" \
+    'BEGIN { printf "K = 4, four workers by four runs: %.2f\n", runs / (4 * workers) }'

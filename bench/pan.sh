@@ -1,8 +1,9 @@
 #!/bin/sh
-# Milliseconds of the nearest pair and the most unusual window at all lengths of a range, beside those of the profiles of
-# each length alone, by one worker, each the least of three runs: of the electrocardiogram of 20,000 samples at eight
-# lengths from 16, 64 and 128 on. At last, what four workers reach of what one reaches, at 32 lengths from 128 on. It takes
-# some minutes, and needs the program: `rt run` in crates/pan_bench once.
+# Milliseconds of the nearest pair and the most unusual window at all lengths of a range, beside those of the profiles
+# of each length alone, by one worker, each the least of three runs: of the electrocardiogram of 20,000 samples at eight
+# lengths from 16, 64 and 128 on. At last, at 32 lengths from 128 on, what four workers reach of what four runs of one
+# worker reach at the same time: by the least of three rounds of each, where a round of four runs counts by the one that
+# ends last. It takes some minutes, and needs the program: `rt run` in crates/pan_bench once.
 set -eu
 here="$(dirname "$0")"
 program="$here/../crates/pan_bench/out/pan_bench"
@@ -33,6 +34,16 @@ line 16 23
 line 64 71
 line 128 135
 
-one="$(least pan 128 159 1)"
-four="$(least pan 128 159 4)"
-awk -v one="$one" -v four="$four" 'BEGIN { printf "four workers: %.2f times as fast as one\n", one / four }'
+# the time of the slowest of four runs at once
+together() {
+    for k in 1 2 3 4; do
+        nanoseconds pan 128 159 1 > "$work/time.$k" &
+    done
+    wait
+    cat "$work"/time.* | sort -n | tail -n 1
+}
+
+four_runs=$(for _ in 1 2 3; do together; done | sort -n | head -n 1)
+four_workers=$(least pan 128 159 4)
+awk -v runs="$four_runs" -v workers="$four_workers" \
+    'BEGIN { printf "lengths from 128 to 159, four workers by four runs: %.2f\n", runs / (4 * workers) }'

@@ -4,8 +4,9 @@
 # diagonal after another. The first of these is timed on a series of as many samples whose sums 64 bits hold, and has to
 # find the same profile where it is the same series; the second always has to, save where samples are missing. Then
 # profiles by one tile after another and by four workers, and AB-joins of two halves. At last, what four workers reach
-# of what four runs of one worker reach at the same time. It takes some minutes, and needs g++ and the program: `rt run`
-# in crates/scan_bench once.
+# of what four runs of one worker reach at the same time: by the least of three rounds of each, where a round of four
+# runs counts by the one that ends last. It takes some minutes, and needs g++ and the program: `rt run` in
+# crates/scan_bench once.
 set -eu
 here="$(dirname "$0")"
 program="$here/../crates/scan_bench/out/scan_bench"
@@ -108,6 +109,7 @@ nanoseconds_a_pair ecg join 1
 nanoseconds_a_pair ecg workers 4
 nanoseconds_a_pair made workers 4
 
+# the time of the slowest of four runs at once
 together() {
     for k in 1 2 3 4; do
         nanoseconds "$1" workers 1 > "$work/time.$k" &

@@ -12,12 +12,14 @@ ghost use Rattle.mp_tiles.specs.OfferingLaws.{fits_sides, may_sides, is_scanned_
 ghost use Rattle.mp_tiles.specs.LimitLaws.{keeps_row_sides, keeps_column_sides, side_limits};
 ghost use Rattle.mp_tiles.specs.Pieces.{sides_value};
 
+use crate::blocks::scan_blocks;
 use crate::columns::{Column, Room};
 use crate::offers::OnBothSides;
 use crate::scans::scan_tile;
 use mp_cuts::Tile;
 use mp_nums::{Memory, Near, Slots, Sq, nearer};
 use mp_scans::{Firsts, Offers, Plan};
+use mp_skips::Coarse;
 use mp_sums::{Limit, Rounding};
 use std::alloc::Global;
 use std::marker::Model;
@@ -189,6 +191,25 @@ pub(crate) fn take_tile(plan: &Plan, tile: &Tile, into: &mut Found)
     let _windows = into.len();
     into.round_by(&plan.rounding);
     scan_tile::<OnBothSides>(plan, tile, into);
+}
+
+/// The same in coarse sums.
+pub(crate) fn take_by_sums(coarse: &Coarse, tile: &Tile, into: &mut Found)
+    requires same { coarse.now.plan.grid.columns.now ≡ coarse.now.plan.grid.rows.now }
+    requires tile { IsTileBetween (zone coarse.now.plan.grid.m + 1)
+        (windows_in (length coarse.now.plan.grid.rows.now) coarse.now.plan.grid.m)
+        (windows_in (length coarse.now.plan.grid.rows.now) coarse.now.plan.grid.m) tile.now }
+    requires places { length into.old.left ≡ windows_in (length coarse.now.plan.grid.rows.now) coarse.now.plan.grid.m }
+    ensures value { into.new.left ∷ into.new.right ∷ [] ≡ merged_columns (into.old.left ∷ into.old.right ∷ [])
+        (sides_value (profile_among (has_pair 0 tile.now) coarse.now.plan.grid.m
+        (series_of coarse.now.plan.grid.rows.now))) }
+    ensures size { length into.new.left ≡ length into.old.left }
+    ensures is_value { HasColumns 2 (length into.new.left) (into.new.left ∷ into.new.right ∷ []) }
+    ensures room { into.new.room ≡ into.old.room }
+{
+    let _windows = into.len();
+    into.round_by(&coarse.plan.rounding);
+    scan_blocks::<OnBothSides>(coarse, tile, into);
 }
 
 /// Room for both sides of as many windows: memory that was taken, and that nothing was written to.

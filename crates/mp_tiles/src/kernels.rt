@@ -1,6 +1,6 @@
 //! The tiles of a series as the pieces of a kernel, and the profile that they make.
 
-ghost use Rattle.std.specs.Prelude.{◌≡◌, ◌≤◌, length, IfOk};
+ghost use Rattle.std.specs.Prelude.{◌≡◌, ◌≤◌, [], ◌∷◌, length, IfOk};
 ghost use Rattle.mp_series.specs.declared.limits.TheConstants.{MAX_SAMPLES, MAX_WINDOW, MIN_WINDOW};
 ghost use Rattle.mp_defs.specs.Series.{series_of};
 ghost use Rattle.mp_defs.specs.Window.{windows as windows_in, excl as zone};
@@ -9,6 +9,7 @@ ghost use Rattle.mp_tiles.specs.Pieces.{sides_value};
 
 use crate::near::{Bands, NearTiles};
 use crate::sides::Sides;
+use crate::summed::SUMMED_TILE;
 use mp_cuts::{Cut, MAX_TILE, MAX_TILES, cut_own};
 use mp_nums::{Memory, Sample};
 use mp_partial::{Kernel, Profile, run_in_order};
@@ -111,8 +112,29 @@ impl<'a> Kernel for OwnTiles<'a> {
     }
 }
 
+/// Both sides of the matrix profile, one tile after another.
+fn sides_in_order(alloc: Global, samples: &[Sample], m: u32, tile: u32) -> Result<Sides, Memory>
+    requires shortest { MIN_WINDOW ≤ m }
+    requires longest { m ≤ MAX_WINDOW }
+    requires samples { length samples.now ≤ MAX_SAMPLES }
+    requires least { 1 ≤ tile }
+    requires greatest { tile ≤ MAX_TILE }
+    ensures value { IfOk result (λ sides. sides.left ∷ sides.right ∷ []
+        ≡ sides_value (matrix_profile m (series_of samples.now))) }
+    ensures size { IfOk result (λ sides. length sides.left ≡ windows_in (length samples.now) m) }
+{
+    let tiles = OwnTiles::new(samples, m, tile);
+    match tiles.sums(alloc)? {
+        Some(sums) => {
+            let wide = OwnTiles::new(samples, m, tile.max(SUMMED_TILE));
+            run_in_order(alloc, &wide.by_sums(&sums))
+        }
+        None => run_in_order(alloc, &tiles),
+    }
+}
+
 /// The matrix profile of the samples at window length `m`, computed in tiles of at most `tile` diagonals, one after
-/// another.
+/// another. Where blocks of pairs are passed over by coarse sums, a tile may have `SUMMED_TILE` diagonals.
 pub fn profile(alloc: Global, samples: &[Sample], m: u32, tile: u32) -> Result<Profile, Memory>
     requires shortest { MIN_WINDOW ≤ m }
     requires longest { m ≤ MAX_WINDOW }
@@ -123,7 +145,6 @@ pub fn profile(alloc: Global, samples: &[Sample], m: u32, tile: u32) -> Result<P
     ensures left { IfOk result (λ p. p.left ≡ (matrix_profile m (series_of samples.now)).left) }
     ensures right { IfOk result (λ p. p.right ≡ (matrix_profile m (series_of samples.now)).right) }
 {
-    let tiles = OwnTiles::new(samples, m, tile);
-    let room = Profile::with_capacity(alloc, tiles.size())?;
-    Ok(run_in_order(alloc, &tiles)?.profile(room))
+    let room = Profile::with_capacity(alloc, windows(samples.len() as u64, m))?;
+    Ok(sides_in_order(alloc, samples, m, tile)?.profile(room))
 }

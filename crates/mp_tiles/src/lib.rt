@@ -1,6 +1,7 @@
 //! Profiles along diagonals: each tile of a cut of the pairs of windows is scanned.
 #![tactic(auto)]
 
+mod blocks;
 mod columns;
 mod compact;
 mod found;
@@ -13,6 +14,7 @@ mod offers;
 mod plans;
 mod scans;
 mod sides;
+mod summed;
 
 pub use joins::{JoinTiles, join};
 pub use kernels::{OwnTiles, profile};
@@ -24,3 +26,4 @@ pub use mp_cuts::{
 pub use near::{Bands, NearTiles};
 pub use scans::{scan_both, scan_own, scan_patch};
 pub use sides::Sides;
+pub use summed::{SUMMED_TILE, SummedTiles};

@@ -10,11 +10,12 @@ ghost use Rattle.mp_tiles.specs.Among.{profile_among};
 ghost use Rattle.mp_tiles.specs.Sides.{sides_by};
 ghost use Rattle.mp_tiles.specs.Pieces.{sides_value};
 
-use crate::found::{Found, FoundRoom, take_tile};
+use crate::found::{Found, FoundRoom, take_by_sums, take_tile};
 use mp_cuts::Tile;
 use mp_nums::{Memory, Slots};
 use mp_partial::{Part, Profile};
 use mp_scans::Plan;
+use mp_skips::Coarse;
 use std::alloc::Global;
 use std::marker::Model;
 
@@ -88,6 +89,25 @@ impl Sides {
     {
         fill(&mut self.room, &mut self.found);
         take_tile(plan, tile, &mut self.found);
+    }
+
+    /// The same in coarse sums.
+    pub(crate) fn take_by_sums(&mut self, coarse: &Coarse, tile: &Tile)
+        requires same { coarse.now.plan.grid.columns.now ≡ coarse.now.plan.grid.rows.now }
+        requires tile { IsTileBetween (zone coarse.now.plan.grid.m + 1)
+            (windows_in (length coarse.now.plan.grid.rows.now) coarse.now.plan.grid.m)
+            (windows_in (length coarse.now.plan.grid.rows.now) coarse.now.plan.grid.m) tile.now }
+        requires places { length self.old.left
+            ≡ windows_in (length coarse.now.plan.grid.rows.now) coarse.now.plan.grid.m }
+        ensures value { self.new.left ∷ self.new.right ∷ [] ≡ merged_columns (self.old.left ∷ self.old.right ∷ [])
+            (sides_value (profile_among (has_pair 0 tile.now) coarse.now.plan.grid.m
+            (series_of coarse.now.plan.grid.rows.now))) }
+        ensures size { length self.new.left ≡ length self.old.left }
+        ensures is_value { HasColumns 2 (length self.new.left) (self.new.left ∷ self.new.right ∷ []) }
+        ensures room { self.new.room ≡ self.old.room }
+    {
+        fill(&mut self.room, &mut self.found);
+        take_by_sums(coarse, tile, &mut self.found);
     }
 
     /// Puts what was found on the left into a column of no windows, which has room for it. It takes no memory.

@@ -5,7 +5,6 @@ use Rattle.mp_tiles.proofs.kernels.profile.Goals as goal
 
 pub returns-clause-all : goal.returns-clause-all
 returns-clause-all c =
-    let sides = c.in_ok-run_in_order.field-0 in
+    let sides = c.in_ok-sides_in_order.field-0 in
     c.profile-2.ensures.all
-    ∙ all_of_both sides.left sides.right c.args.m (series_of c.args.samples.now)
-    (c.in_ok-run_in_order.ensures.value ∙ c.new-tiles.ensures.together)
+    ∙ all_of_both sides.left sides.right c.args.m (series_of c.args.samples.now) c.in_ok-sides_in_order.ensures.value

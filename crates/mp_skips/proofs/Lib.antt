@@ -1,0 +1,10 @@
+pub mod TotalLemmas
+pub mod CoreLemmas
+pub mod FloorLemmas
+pub mod SideLemmas
+pub mod BlockLemmas
+pub mod NeedLemmas
+pub mod PairLemmas
+pub mod FillLemmas
+pub mod LevelLemmas
+pub mod VectorLemmas

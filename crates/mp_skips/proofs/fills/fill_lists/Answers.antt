@@ -1,0 +1,25 @@
+use Rattle.std.proofs.Common.{◌*◌, sym, subst, arith}
+use Rattle.mp_defs.specs.Series.{series_of}
+use Rattle.mp_skips.specs.Sums.{AreFloors, AreGroups}
+use Rattle.mp_skips.proofs.fills.fill_lists.Goals as goal
+
+pub returns-clause-lists : goal.returns-clause-lists
+returns-clause-lists c =
+    let units = c.args.units.now in
+    let s = 8 * units.eights in
+    let a = series_of c.args.samples.now in
+    let floors = c.fill_floors.new.floors in
+    let are_floors = subst (AreFloors units.low s units.grain a floors) (sym c.fill_floors.ensures.places)
+    c.fill_floors.ensures.floors in
+    record {
+      low_is = c.requires.levels.low_is;
+      are_levels = c.fill_levels.ensures.levels;
+      small_levels = c.fill_levels.ensures.small;
+      are_floors = are_floors;
+      small_floors = λ p. omega (arith, c.fill_floors.ensures.small p);
+      are_groups = subst (AreGroups units.low s units.grain a c.fill_groups.new.least c.fill_groups.new.greatest)
+          (sym c.fill_groups.ensures.places)
+          (c.fill_groups.ensures.groups units.low s units.grain c.args.samples.now c.slack_of-slack.ensures.slack
+          are_floors);
+      small_groups = c.fill_groups.ensures.small;
+    }

@@ -1,0 +1,20 @@
+use Rattle.std.proofs.Common.{◌≡◌, ◌+◌, ◌*◌, ◌/◌, ◌<◌, subst, arith}
+use Rattle.mp_skips.specs.Blocks.{height}
+use Rattle.mp_skips.proofs.NeedLemmas.{above_by, units_above, product_fits, some_square}
+use Rattle.mp_skips.proofs.needs.need_above.Goals as goal
+
+pub overflow_mul-product : goal.overflow_mul-product
+overflow_mul-product c =
+    let coarse = c.args.coarse.now in
+    omega (arith, product_fits coarse.rows.units.eights c.args.dist coarse.rows.units.few (omega arith))
+
+pub returns-then-dist-lt-MOST : goal.returns-then-dist-lt-MOST
+returns-then-dist-lt-MOST c = λ d some reach.
+    let coarse = c.args.coarse.now in
+    let square = coarse.rows.units.grain * coarse.rows.units.grain in
+    let product = height coarse * c.args.dist in
+    let by = c.grain_square-square.result in
+    let units = units_above product by square c.grain_square-square.ensures.square
+    (some_square coarse.rows.units.grain coarse.rows.units.some_grain) in
+    let is : product / by + 1 ≡ c.min.result = omega (arith, c.min.ensures, c.from.ensures, some) in
+    above_by (height coarse) square c.args.dist d c.min.result (subst (λ n. product < n * square) is units) reach

@@ -1,0 +1,50 @@
+use Rattle.std.proofs.Common.{◌+◌, ◌-◌, arith}
+use Rattle.mp_skips.proofs.LevelLemmas.{part_more, part_tells, squares_small, none_yet}
+use Rattle.mp_skips.proofs.sums.Coarse.core_within.Goals as goal
+
+pub loop-place-init : goal.loop-place-init
+loop-place-init c = record {
+  after = omega arith;
+  before = c.requires.behind;
+  sum = none_yet c.args.self.now c.args.behind (c.args.row + c.args.behind) (c.args.column + c.args.behind);
+}
+
+pub overflow_add-row : goal.overflow_add-row
+overflow_add-row c = omega (arith, c.requires.row, c.loop-place-test.true)
+
+pub overflow_add-column : goal.overflow_add-column
+overflow_add-column c = omega (arith, c.requires.column, c.loop-place-test.true)
+
+pub overflow_add-sum : goal.overflow_add-sum
+overflow_add-sum c =
+    omega (
+      arith,
+      c.loop-place.invariant.sum,
+      c.loop-place.invariant.after,
+      squares_small c.args.self.now (c.loop-place.place - c.args.behind) (c.args.row + c.args.behind)
+          (c.args.column + c.args.behind),
+      c.squares-sum.ensures.small,
+      c.min-count.ensures,
+      c.loop-place-test.true,
+      c.args.self.now.plan.grid.short,
+    )
+
+pub returns-then-sum-most-clause-none : goal.returns-then-sum-most-clause-none
+returns-then-sum-most-clause-none c =
+    let before = c.loop-place.invariant in
+    part_tells c.args.self.now (c.args.row + c.args.behind) (c.args.column + c.args.behind)
+    (c.loop-place.place + c.min-count.result - c.args.behind) (c.args.self.now.plan.grid.m - c.args.behind)
+    (c.loop-place.sum + c.squares-sum.result) c.args.most (omega (arith, c.min-count.ensures, c.loop-place-test.true))
+    (part_more c.args.self.now c.args.row c.args.column c.args.behind c.loop-place.place c.min-count.result
+    c.loop-place.sum c.squares-sum.result before.after before.sum c.squares-sum.ensures.sum)
+    (omega arith)
+
+pub loop-place-preserved : goal.loop-place-preserved
+loop-place-preserved c =
+    let before = c.loop-place.invariant in
+    record {
+      after = omega (arith, before.after);
+      before = omega (arith, c.min-count.ensures, c.loop-place-test.true);
+      sum = part_more c.args.self.now c.args.row c.args.column c.args.behind c.loop-place.place c.min-count.result
+          c.loop-place.sum c.squares-sum.result before.after before.sum c.squares-sum.ensures.sum;
+    }

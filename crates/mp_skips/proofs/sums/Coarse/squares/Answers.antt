@@ -1,0 +1,27 @@
+use Rattle.std.proofs.Common.{arith}
+use Rattle.mp_skips.specs.Sums.{number_in}
+use Rattle.mp_skips.proofs.LevelLemmas.{no_squares, squares_more}
+use Rattle.mp_skips.proofs.sums.Coarse.squares.Goals as goal
+
+pub loop-t-init : goal.loop-t-init
+loop-t-init c =
+    let coarse = c.args.self.now in
+    record {
+      sum = no_squares (number_in coarse.rows.levels.now) (number_in coarse.columns.levels.now) c.args.row c.args.column;
+      small = omega arith;
+    }
+
+pub loop-t-preserved : goal.loop-t-preserved
+loop-t-preserved c =
+    let coarse = c.args.self.now in
+    record {
+      sum = squares_more (number_in coarse.rows.levels.now) (number_in coarse.columns.levels.now) c.loop-t.t c.args.row
+          c.args.column c.loop-t.sum c.square-sum.result c.loop-t.invariant.sum c.square-sum.ensures.square;
+      small = omega (arith, c.loop-t.invariant.small, c.square-sum.ensures.small);
+    }
+
+pub overflow_add-row : goal.overflow_add-row
+overflow_add-row c = omega (arith, c.requires.row)
+
+pub overflow_add-column : goal.overflow_add-column
+overflow_add-column c = omega (arith, c.requires.column)

@@ -1,0 +1,27 @@
+-- Samples above a low number, and what is left where sums are rounded down.
+use Rattle.std.specs.Prelude.{ℕ, ◌+◌, ◌*◌, ◌<◌, ◌≤◌, List, length, ℤ}
+use Rattle.mp_nums.specs.declared.samples.Sample.{Sample}
+use Rattle.mp_defs.specs.Series.{Series, series_of}
+use Rattle.mp_skips.specs.Totals.{level}
+use Rattle.mp_skips.specs.Sums.{number_in, IsLow, AreNumbers, AreFloors, AreGroups}
+use Rattle.mp_skips.specs.declared.sums.TheConstants.{MOST_GRAINS}
+
+-- no sample of a series lies below a low number, or more than a range above it
+pub record AreLevels (low : ℤ) (range : ℕ) (a : Series) : Type 0 where
+  pub low_is : IsLow low a
+  pub each : (t : ℕ) → level low a t ≤ range
+
+-- none is left where grains are 1
+pub record IsSlack (grain slack : ℕ) : Type 0 where
+  pub enough : grain ≤ slack * grain + 1
+
+-- the lists of a series in plain numbers and in sums of s samples are filled
+pub record AreFilled (low : ℤ) (s grain : ℕ) (samples : List Sample) (levels floors least greatest : List ℕ) : Type 0
+  where
+    pub low_is : IsLow low (series_of samples)
+    pub are_levels : AreNumbers low (series_of samples) levels
+    pub small_levels : (p : ℕ) → number_in levels p < MOST_GRAINS
+    pub are_floors : AreFloors low s grain (series_of samples) floors (length floors)
+    pub small_floors : (p : ℕ) → number_in floors p ≤ MOST_GRAINS
+    pub are_groups : AreGroups low s grain (series_of samples) least greatest (length least)
+    pub small_groups : (g : ℕ) → number_in greatest g ≤ MOST_GRAINS

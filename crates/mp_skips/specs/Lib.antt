@@ -1,0 +1,9 @@
+pub mod Totals
+pub mod Bounds
+pub mod Sums
+pub mod Lists
+pub mod Fills
+pub mod Blocks
+pub mod Needs
+pub mod Levels
+pub mod Lanes

@@ -1,0 +1,20 @@
+//! Blocks of pairs of windows that need not be looked at, since sums of their samples tell that they are far apart.
+#![tactic(auto)]
+
+mod blocks;
+mod fills;
+mod laws;
+mod levels;
+mod needs;
+mod pairs;
+mod scans;
+mod summed;
+mod sums;
+mod trials;
+mod vectors;
+
+pub use laws::{core_is_below, floors_are_safe, groups_are_below, square_of_sum_is_below};
+pub use scans::scan_apart;
+pub use summed::Summed;
+pub use sums::{Coarse, MOST_GRAINS, NO_NEED, Side, Units};
+pub use trials::scan_by_sums;

@@ -1,0 +1,73 @@
+//! Two series in coarse sums.
+
+ghost use Rattle.std.specs.Prelude.{◌≡◌, ◌+◌, ◌*◌, ◌<◌, ◌≤◌};
+ghost use Rattle.mp_skips.specs.Lists.{AreLists};
+ghost use Rattle.mp_skips.specs.declared.sums.TheConstants.{MOST_GRAINS};
+
+use mp_nums::{Sample, Whole};
+use mp_scans::Plan;
+
+/// More grains than any sum has, and more than any sample lies above the low number. So the squares of those of a
+/// window's rows and columns have 62 bits together.
+pub const MOST_GRAINS: u32 = 16_777_216;
+
+/// A coarse sum of squares that no block reaches.
+pub const NO_NEED: u64 = 4_611_686_018_427_387_904;
+
+/// In which units series are summed.
+#[derive(Clone, Copy)]
+pub struct Units {
+    /// A number that no sample lies below.
+    pub low: Whole,
+    /// How far samples lie above it at most.
+    pub width: u64,
+    /// How many times eight samples a sum has.
+    pub eights: usize,
+    /// In which unit sums are rounded down.
+    pub grain: u32,
+    pub ghost some: { 1 ≤ eights },
+    pub ghost few: { eights ≤ 8 },
+    pub ghost some_grain: { 1 ≤ grain },
+    pub ghost few_grains: { grain ≤ 8 * eights },
+    pub ghost narrow: { width < MOST_GRAINS },
+    pub ghost fits: { 8 * eights * width < MOST_GRAINS * grain },
+}
+
+/// A series in plain numbers, and in sums of successive ones that are rounded down to grains.
+#[derive(Clone, Copy)]
+pub struct Side<'a> {
+    pub samples: &'a [Sample],
+    /// How many samples a window has.
+    pub m: usize,
+    pub units: Units,
+    /// How far each sample lies above the low number. A missing one counts as 0.
+    pub levels: &'a [u32],
+    /// The sums from each place on.
+    pub floors: &'a [u32],
+    /// From which number of grains on the sums lie, for each eight places.
+    pub least: &'a [u32],
+    /// Up to which they lie.
+    pub greatest: &'a [u32],
+    /// Whether no sample of a window is missing.
+    pub free: &'a [bool],
+    pub ghost lists: { AreLists units.low (8 * units.eights) units.grain m samples.now levels.now floors.now least.now
+        greatest.now free.now },
+}
+
+/// Two series whose windows are compared, in sums of successive samples. A block of pairs has as many successive rows
+/// as a sum has samples, on the diagonals of eight successive columns. The windows of its rows on one diagonal share
+/// the samples behind the first sum, and sums of these bound how far all of them are apart.
+#[derive(Clone, Copy)]
+pub struct Coarse<'a> {
+    pub plan: Plan<'a>,
+    pub rows: Side<'a>,
+    pub columns: Side<'a>,
+    /// How many sums of a window are compared.
+    pub terms: usize,
+    pub ghost row_samples: { rows.samples.now ≡ plan.grid.rows.now },
+    pub ghost column_samples: { columns.samples.now ≡ plan.grid.columns.now },
+    pub ghost row_length: { rows.m ≡ plan.grid.m },
+    pub ghost column_length: { columns.m ≡ plan.grid.m },
+    pub ghost same_units: { columns.units ≡ rows.units },
+    pub ghost wide: { (terms + 1) * (8 * rows.units.eights) ≤ plan.grid.m },
+}
