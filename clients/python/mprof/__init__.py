@@ -38,6 +38,7 @@ except ImportError:
 
 __version__ = "1.0.0"
 __all__ = [
+    "Advanced",
     "Chains",
     "Channel",
     "Column",
@@ -55,6 +56,7 @@ __all__ = [
     "MprofError",
     "OutOfMemory",
     "Pair",
+    "Part",
     "Profile",
     "Ranks",
     "ReadFailed",
@@ -345,6 +347,21 @@ class Profile(Entries):
 
 
 @dataclass(frozen=True, eq=False)
+class Part(Profile):
+    """The profile of the pairs of windows whose diagonals are covered. `uncovered` is how many diagonals aren't."""
+
+    uncovered: int
+
+
+@dataclass(frozen=True)
+class Advanced:
+    """How many diagonals were covered, and how many are left."""
+
+    done: int
+    left: int
+
+
+@dataclass(frozen=True, eq=False)
 class Ranks:
     """The K nearest windows of each of W windows, by rising distance: W starts, and W rows of K columns each.
 
@@ -515,6 +532,10 @@ class _Shape:
     def profile(self, found: List[Dict[str, Any]]) -> Profile:
         left, right = self.indices(found, "left"), self.indices(found, "right")
         return Profile(self.starts(found), *self.near(found), left, right)
+
+    def part(self, found: List[Dict[str, Any]], uncovered: int) -> Part:
+        left, right = self.indices(found, "left"), self.indices(found, "right")
+        return Part(self.starts(found), *self.near(found), left, right, uncovered)
 
     def ranks(self, found: List[Dict[str, Any]], count: int) -> Ranks:
         none = {"dist": None, "index": None}
@@ -731,6 +752,15 @@ class Session:
         fields = [b"load", _number(slot).encode(), _file_name(file), ",".join(map(_number, chosen)).encode()]
         return self._samples(b" ".join(fields + [b"header"] * header))
 
+    def lazy(self, slot: int, file: Union[str, "os.PathLike[str]"], column: int, header: bool = False) -> int:
+        """Puts a column of a file into a slot, in place of what stood there, and gives how many samples it has.
+
+        Its profile is made in parts, by `advance`, and `partial` gives what there is of it. Other reports are refused
+        `lazy`.
+        """
+        fields = [b"lazy", _number(slot).encode(), _file_name(file), _number(column).encode()]
+        return self._samples(b" ".join(fields + [b"header"] * header))
+
     def append(self, slot: int, samples: Iterable[Any]) -> int:
         """Adds samples behind those of a slot, and gives how many there are then, or were ever in a kept slot.
 
@@ -764,6 +794,11 @@ class Session:
             if start >= 0:
                 yield self.entry(channel, start)
 
+    def advance(self, slot: int, count: int) -> Advanced:
+        """Covers `count` more diagonals of a lazy slot, 1 to 262,144, or all that are left."""
+        report = self.ask("advance %s %s" % (_number(slot), _number(count)))
+        return Advanced(report["done"], report["left"])
+
     def _samples(self, line: Union[str, bytes]) -> int:
         samples: int = self.ask(line)["samples"]
         return samples
@@ -778,6 +813,19 @@ class Session:
     def profile(self, channel: Channel = 0) -> Profile:
         """The matrix profile of a channel: for each window the nearest one, and the nearest before and behind it."""
         return self._shape.profile(self.ask("profile %s" % _ref(channel))["windows"])
+
+    def partial(self, slot: int) -> Part:
+        """The profile of a lazy slot, over the diagonals that are covered. It is the whole where `uncovered` is 0."""
+        report = self.ask("partial %s" % _number(slot))
+        return self._shape.part(report["windows"], report["left"])
+
+    def parts(self, slot: int, count: int) -> Iterator[Part]:
+        """Covers `count` diagonals of a lazy slot at a time, and gives its profile behind each, until none is left."""
+        while True:
+            left = self.advance(slot, count).left
+            yield self.partial(slot)
+            if left == 0:
+                return
 
     def entry(self, channel: Channel, start: int) -> Entry:
         """The profile's entry of one window."""

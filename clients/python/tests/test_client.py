@@ -137,8 +137,12 @@ class Lines(Faked):
             (lambda it: it.keep(0, 1800), samples, "keep 0 1800"),
             (lambda it: it.load(0, "a.csv", 1), samples, "load 0 a.csv 1"),
             (lambda it: it.load(0, "a.csv", [1, 0], header=True), samples, "load 0 a.csv 1,0 header"),
+            (lambda it: it.lazy(1, "a.csv", 2), samples, "lazy 1 a.csv 2"),
+            (lambda it: it.lazy(1, "a.csv", 2, header=True), samples, "lazy 1 a.csv 2 header"),
             (lambda it: it.append(0, [1, None, "0.5"]), samples, "append 0 1 ? 0.5"),
             (lambda it: it.append(1, [(1, 2.5), [None, Decimal(3)]]), samples, "append 1 1,2.5 ?,3"),
+            (lambda it: it.advance(1, 262_144), {"done": 3, "left": 0}, "advance 1 262144"),
+            (lambda it: it.partial(1), {"left": 2, **windows}, "partial 1"),
             (lambda it: it.window((1, 7), 3), {"samples": []}, "window 1.7 3"),
             (lambda it: it.profile((0, 1)), windows, "profile 0.1"),
             (lambda it: it.profile(), windows, "profile 0"),
@@ -310,6 +314,18 @@ class Reports(Faked):
         (found,) = self.session([OK, {"kind": "pan", "lengths": rows, "line": 2}], scale=1).pan(0, 4, 4)
         self.assertEqual((found.length, found.windows, found.discord), (4, 5, None))
         self.assertEqual(found.best, mprof.Found(start=0, square=16, distance=0.4, index=3))
+
+    def test_parts_of_a_profile(self) -> None:
+        row = {"dist": "16", "index": 2, "left": None, "right": 2, "start": 0}
+        none = {"dist": None, "index": None, "left": None, "right": None, "start": 0}
+        answers: List[Union[str, Dict[str, Any]]] = [OK]
+        for line, (left, window) in enumerate([(1, none), (0, row)]):
+            answers.append({"kind": "advance", "line": 2 * line + 2, "done": 1, "left": left})
+            answers.append({"kind": "partial", "line": 2 * line + 3, "left": left, "windows": [window]})
+        first, whole = self.session(answers, scale=1).parts(1, 1)
+        self.assertEqual((first.uncovered, first.squares, first.distances), (1, [None], [math.inf]))
+        self.assertEqual((whole.uncovered, whole.squares, whole.distances, whole.right), (0, [16], [0.4], [2]))
+        self.assertEqual(self.written("asked").splitlines()[1:], ["advance 1 1", "partial 1"] * 2)
 
     def test_samples_of_a_window(self) -> None:
         answer = {"kind": "window", "line": 2, "samples": ["-0.25", "?", "7.00"], "start": 1}

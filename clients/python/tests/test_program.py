@@ -51,6 +51,19 @@ class Program(unittest.TestCase):
             self.assertEqual([it.best.square for it in session.pan(0, 3, 4) if it.best], [0, 10])
             self.assertEqual(session.close(), 0)
 
+    def test_a_profile_in_parts(self) -> None:
+        with tempfile.TemporaryDirectory() as folder, self.session(folder=folder) as session:
+            with open(os.path.join(folder, "s.csv"), "w") as file:
+                file.write("".join("%d\n" % sample for sample in SIX))
+            self.assertEqual(session.lazy(1, "s.csv", 0), 6)
+            self.assertEqual(session.partial(1).uncovered, 2)
+            self.assertEqual(session.advance(1, 1), mprof.Advanced(done=1, left=1))
+            self.assertEqual(session.partial(1).squares, [6, 6, 6, 6])
+            self.assertEqual([it.squares for it in session.parts(1, 5)], [[0, 6, 6, 0]])
+            with self.assertRaises(Refused) as caught:
+                session.profile(1)
+            self.assertEqual(caught.exception.word, "lazy")
+
     def test_a_window_without_another_one(self) -> None:
         with self.session() as session:
             session.append(0, [1, 2])

@@ -97,8 +97,8 @@ fn advance<R: Abort + AllocGlobal + Threads + Sync>(
     Ok(())
 }
 
-/// For each number below 10 appends a sample, and for each other one covers up to six diagonals. It compares the profile
-/// after each.
+/// For each number below 10 appends a sample, and for each other one covers up to six diagonals. It compares the
+/// profile after each.
 fn take_each<R: Abort + AllocGlobal + Threads + Sync>(
     rt: &R,
     anytime: &mut Anytime,

@@ -18,7 +18,7 @@ use Rattle.mp_defs.specs.NearestLaws.{nearest_by_choice}
 use Rattle.mp_partial.specs.Values.{merged_column}
 use Rattle.mp_stream.specs.Appended.{EntriesGrow, with_one}
 use Rattle.mp_tiles.specs.Among.{either_way}
-use Rattle.mp_anytime.specs.Covering.{is_covered}
+use Rattle.mp_results.specs.Covering.{is_covered}
 use Rattle.mp_anytime.specs.Scanning.{lie_along}
 use Rattle.mp_anytime.specs.Kept.{is_last_pair}
 

@@ -10,8 +10,8 @@ use Rattle.std.proofs.lemmas.List.{get_or-take, length-take, take_all, take-appe
 use Rattle.std.proofs.lemmas.List.Folds.{list_any-append}
 use Rattle.std.proofs.lemmas.List.FromFn.{filter_of_map_range_with_len_more}
 use Rattle.mp_defs.specs.Window.{excl}
-use Rattle.mp_anytime.specs.Reversal.{reversal, numbers}
-use Rattle.mp_anytime.specs.Covering.{by_reversal, is_covered, is_uncovered, uncovered}
+use Rattle.mp_results.specs.Reversal.{reversal, numbers}
+use Rattle.mp_results.specs.Covering.{by_reversal, is_covered, is_uncovered, uncovered}
 use Rattle.mp_anytime.specs.Kept.{IsDiagonal}
 use Rattle.mp_anytime.proofs.Digits.{reversal_back}
 

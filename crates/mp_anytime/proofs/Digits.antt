@@ -1,7 +1,7 @@
 -- The reversal of a reversal is the number itself.
 use Rattle.std.proofs.Common.{◌≡◌, ℕ, zero, suc, ◌+◌, ◌*◌, ◌/◌, ◌%◌, ◌^◌, ◌<◌, refl, ap, ◌∙◌, arith}
 use Rattle.std.proofs.Math.Nat.{pow-suc}
-use Rattle.mp_anytime.specs.Reversal.{reversed, reversal, numbers}
+use Rattle.mp_results.specs.Reversal.{reversed, reversal, numbers}
 
 pub reversed_none : (n : ℕ) → reversed 0 n ≡ 0
 unfolding reversed

@@ -15,9 +15,9 @@ use Rattle.mp_defs.specs.Window.{excl, is_allowed}
 use Rattle.mp_defs.specs.Profile.{entry, matrix_profile, windows_of}
 use Rattle.mp_defs.specs.NearestLaws.{nearest_by_choice}
 use Rattle.mp_tiles.specs.Among.{columns_value}
-use Rattle.mp_anytime.specs.Reversal.{numbers, reversal}
-use Rattle.mp_anytime.specs.Covering.{by_reversal, is_covered, is_uncovered, uncovered}
-use Rattle.mp_anytime.specs.LazyProfile.{is_allowed_along, lazy_profile}
+use Rattle.mp_results.specs.Reversal.{numbers, reversal}
+use Rattle.mp_results.specs.Covering.{by_reversal, is_covered, is_uncovered, uncovered}
+use Rattle.mp_results.specs.LazyProfile.{is_allowed_along, lazy_profile}
 use Rattle.mp_anytime.specs.Laws.{EntriesNeverRise, WholeIsTheProfile}
 use Rattle.mp_anytime.proofs.Digits.{reversal_back, reversal_small}
 use Rattle.mp_anytime.proofs.Choosing.{one_more}

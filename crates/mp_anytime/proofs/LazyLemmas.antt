@@ -15,8 +15,8 @@ use Rattle.mp_partial.specs.Values.{Column, Value, empty_columns, merged_column,
 use Rattle.mp_partial.specs.Values.{merged_below}
 use Rattle.mp_tiles.specs.Among.{columns_value}
 use Rattle.mp_tiles.specs.OfferingLaws.{and_either}
-use Rattle.mp_anytime.specs.Covering.{is_covered}
-use Rattle.mp_anytime.specs.LazyProfile.{is_allowed_along, lazy_profile}
+use Rattle.mp_results.specs.Covering.{is_covered}
+use Rattle.mp_results.specs.LazyProfile.{is_allowed_along, lazy_profile}
 use Rattle.mp_anytime.specs.Scanning.{lie_along, lie_apart}
 use Rattle.mp_anytime.specs.Kept.{IsDiagonal}
 

@@ -19,7 +19,7 @@ use Rattle.mp_sums.specs.SumLaws.{square_read}
 use Rattle.mp_scans.specs.Offering.{only}
 use Rattle.mp_tiles.specs.Scanning.{HasPlaces, IsScanned}
 use Rattle.mp_tiles.specs.OfferingLaws.{each_to_other}
-use Rattle.mp_anytime.specs.Covering.{is_covered}
+use Rattle.mp_results.specs.Covering.{is_covered}
 use Rattle.mp_anytime.specs.Kept.{OnlyReads, is_last_pair, square_at}
 use Rattle.mp_anytime.proofs.Distances.{number_same}
 

@@ -8,8 +8,8 @@ use Rattle.std.proofs.lemmas.Bool.{cases_eq}
 use Rattle.std.proofs.lemmas.Bool.Decides.{nat_tests}
 use Rattle.std.proofs.lemmas.List.Folds.{list_any-append}
 use Rattle.mp_defs.specs.Window.{excl}
-use Rattle.mp_anytime.specs.Reversal.{reversal, numbers}
-use Rattle.mp_anytime.specs.Covering.{advanced, by_reversal, is_covered, is_uncovered, uncovered}
+use Rattle.mp_results.specs.Reversal.{reversal, numbers}
+use Rattle.mp_results.specs.Covering.{advanced, by_reversal, is_covered, is_uncovered, uncovered}
 use Rattle.mp_anytime.specs.Laws.{CoversTheNext, IsNext}
 use Rattle.mp_anytime.proofs.Digits.{reversal_back, reversal_small}
 

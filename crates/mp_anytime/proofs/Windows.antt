@@ -22,8 +22,8 @@ use Rattle.mp_stream.specs.Appended.{EntriesGrow, with_one}
 use Rattle.mp_tiles.specs.Among.{columns_value, either_way}
 use Rattle.mp_tiles.specs.Scanning.{IsScanned}
 use Rattle.mp_tiles.specs.SideLaws.{profiles_are_of_both_sides}
-use Rattle.mp_anytime.specs.Covering.{is_covered}
-use Rattle.mp_anytime.specs.LazyProfile.{is_allowed_along, lazy_profile}
+use Rattle.mp_results.specs.Covering.{is_covered}
+use Rattle.mp_results.specs.LazyProfile.{is_allowed_along, lazy_profile}
 use Rattle.mp_anytime.specs.Scanning.{lie_along}
 use Rattle.mp_anytime.specs.Kept.{AreSums, AreWaiting, IsAlongCovered, IsDiagonal, IsOf, IsSumAt, is_last_pair}
 use Rattle.mp_anytime.specs.Kept.{IsListed, last_place, without_last}

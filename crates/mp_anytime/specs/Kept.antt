@@ -9,9 +9,9 @@ use Rattle.mp_defs.specs.Window.{excl, windows}
 use Rattle.mp_series.specs.Samples.{Counted}
 use Rattle.mp_partial.specs.Profiled.{Profiled}
 use Rattle.mp_sums.specs.Sums.{IsSum, numbers_of}
-use Rattle.mp_anytime.specs.Reversal.{reversal, numbers}
-use Rattle.mp_anytime.specs.Covering.{is_covered, is_uncovered}
-use Rattle.mp_anytime.specs.LazyProfile.{lazy_profile}
+use Rattle.mp_results.specs.Reversal.{reversal, numbers}
+use Rattle.mp_results.specs.Covering.{is_covered, is_uncovered}
+use Rattle.mp_results.specs.LazyProfile.{lazy_profile}
 use Rattle.mp_anytime.specs.declared.coverage.Coverage.{Coverage}
 
 -- by the reversal of each diagonal, whether that isn't covered

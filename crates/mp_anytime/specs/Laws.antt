@@ -3,9 +3,9 @@ use Rattle.std.specs.Prelude.{◌≡◌, ℕ, ◌+◌, ◌≤◌, true, false, L
 use Rattle.mp_nums.specs.Near.{nearer_of}
 use Rattle.mp_defs.specs.Series.{Series}
 use Rattle.mp_defs.specs.Profile.{entry, matrix_profile, windows_of}
-use Rattle.mp_anytime.specs.Reversal.{numbers, reversal}
-use Rattle.mp_anytime.specs.Covering.{advanced, is_uncovered, uncovered}
-use Rattle.mp_anytime.specs.LazyProfile.{is_allowed_along, lazy_profile}
+use Rattle.mp_results.specs.Reversal.{numbers, reversal}
+use Rattle.mp_results.specs.Covering.{advanced, is_uncovered, uncovered}
+use Rattle.mp_results.specs.LazyProfile.{is_allowed_along, lazy_profile}
 
 -- a diagonal isn't covered, and none that isn't has a lesser reversal
 pub record IsNext (m w : ℕ) (covered : List ℕ) (diagonal : ℕ) : Type 0 where

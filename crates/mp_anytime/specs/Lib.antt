@@ -1,6 +1,3 @@
-pub mod Reversal
-pub mod Covering
-pub mod LazyProfile
 pub mod Scanning
 pub mod Kept
 pub mod Diagonals

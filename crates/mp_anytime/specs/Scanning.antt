@@ -9,7 +9,7 @@ use Rattle.mp_defs.specs.Distance.{distance}
 use Rattle.mp_partial.specs.Profiled.{Profiled}
 use Rattle.mp_scans.specs.Offering.{only}
 use Rattle.mp_tiles.specs.Scanning.{HasPlaces, IsScanned}
-use Rattle.mp_anytime.specs.Covering.{is_covered}
+use Rattle.mp_results.specs.Covering.{is_covered}
 
 -- window j starts so far behind window i, which is before an end
 abbrev pub is_pair_before : ℕ → ℕ → ℕ → ℕ → Bool

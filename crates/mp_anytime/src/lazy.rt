@@ -7,8 +7,8 @@ ghost use Rattle.mp_defs.specs.Series.{series_of};
 ghost use Rattle.mp_defs.specs.Window.{windows as windows_in};
 ghost use Rattle.mp_series.specs.declared.limits.TheConstants.{MIN_WINDOW, MAX_WINDOW};
 ghost use Rattle.mp_partial.specs.declared.limits.TheConstants.{MAX_WORKERS};
-ghost use Rattle.mp_anytime.specs.Covering.{advanced, uncovered};
-ghost use Rattle.mp_anytime.specs.LazyProfile.{lazy_profile};
+ghost use Rattle.mp_results.specs.Covering.{advanced, uncovered};
+ghost use Rattle.mp_results.specs.LazyProfile.{lazy_profile};
 
 use crate::coverage::Coverage;
 use crate::diagonals::found_along;
@@ -57,7 +57,7 @@ pub struct Anytime {
 impl Model for Anytime {
     ghost use Rattle.std.specs.Prelude.{◌≤◌, min};
     ghost use Rattle.mp_defs.specs.Limits.{min_window, max_window};
-    ghost use Rattle.mp_anytime.specs.Covering.{Covering};
+    ghost use Rattle.mp_results.specs.Covering.{Covering};
     ghost use Rattle.mp_anytime.specs.Kept.{IsOf, room_of};
 
     ghost Value = { Covering };

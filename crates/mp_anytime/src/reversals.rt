@@ -1,7 +1,7 @@
 //! The reversal of a diagonal's number.
 
 ghost use Rattle.std.specs.Prelude.{◌≡◌, ◌<◌};
-ghost use Rattle.mp_anytime.specs.Reversal as specs;
+ghost use Rattle.mp_results.specs.Reversal as specs;
 
 /// How many binary digits a diagonal's number has.
 const DIGITS: u32 = 18;

@@ -2,8 +2,8 @@
 
 ghost use Rattle.std.specs.Prelude.{◌≡◌, ℕ, ◌+◌, ◌<◌, ◌≤◌, ◌==◌, [], ◌∷◌, ◌++◌, if◌then◌else◌};
 ghost use Rattle.std.specs.Prelude.{List, filter, take, length, slice_index_or, Bool, false, IfOk, OnOk};
-ghost use Rattle.mp_anytime.specs.Reversal.{reversal as reversal_of};
-ghost use Rattle.mp_anytime.specs.Covering.{by_reversal, is_covered, uncovered};
+ghost use Rattle.mp_results.specs.Reversal.{reversal as reversal_of};
+ghost use Rattle.mp_results.specs.Covering.{by_reversal, is_covered, uncovered};
 ghost use Rattle.mp_anytime.specs.Kept.{AreWaiting};
 
 use crate::reversals::{NUMBERS, reversal};

@@ -27,13 +27,9 @@ use Rattle.mp_replies.specs.Change.{extended, grown as added_to}
 use Rattle.mp_replies.specs.Command as asked
 use Rattle.mp_replies.specs.Conditions.{first_cause}
 use Rattle.mp_replies.specs.Line.{Asks}
-use Rattle.mp_replies.specs.State.{Files, State, Store, Closed, Open, Kept, channels_at, channels_in}
+use Rattle.mp_replies.specs.State.{Files, State, Store, Closed, Open, Kept, Lazy, channels_at, channels_in}
 use Rattle.mp_replies.specs.State.{samples_in, store_at}
-use Rattle.mp_stores.specs.StoreLaws.{last_as_before}
-use Rattle.mp_stores.specs.Stores as held
-use Rattle.mp_stores.specs.Stores.{Held, HasRoomIn, HaveRoom, HoldsAsBefore, channel_count, count_in, count_of}
-use Rattle.mp_stores.specs.Stores.{keep_of, lists_in, sample_count, streams_in}
-use Rattle.mp_stream.specs.Kept.{Keeping}
+use Rattle.mp_stores.specs.Stores.{lists_in}
 use Rattle.mp_requests.specs.declared.answers.Answer.TheVariants.{Accepted}
 use Rattle.mp_requests.specs.declared.reports.Report.TheVariants as report
 use Rattle.mp_commands.specs.declared.prepared.Prepared.{Prepared}
@@ -379,6 +375,10 @@ samples_grown (Kept keep series) rows zero long some = absurd (omega (arith, som
 samples_grown (Kept keep series) rows (suc count) long some =
     length-append series (column_at rows 0)
     ∙ ap (λ (n : ℕ). length series + n) (length-map rows (λ (values : Row). slice_index_or values 0 None))
+samples_grown (Lazy series covered) rows zero long some = absurd (omega (arith, some))
+samples_grown (Lazy series covered) rows (suc count) long some =
+    length-append series (column_at rows 0)
+    ∙ ap (λ (n : ℕ). length series + n) (length-map rows (λ (values : Row). slice_index_or values 0 None))
 
 pub appended : (state : State) (slot : ℕ) (items : List (List ℕ)) (files : Files) (added : List (List Sample))
     (samples : ℕ) (prepared : Prepared) → 0 < length (channels_at state.stores slot)
@@ -396,7 +396,7 @@ appended state slot items files added samples prepared some fine good is long an
     let channels = channels_at stores slot in
     let rows = rows_in (read_items state.mode.width state.scale (length channels) items) in
     let columns = columns_of (length channels) rows in
-    let behind : samples_in (channels_at (change.changed stores (change.AddSamples slot columns)) slot) ≡ samples =
+    let behind : samples_in (channels_at (change.changed state.window stores (change.AddSamples slot columns)) slot) ≡ samples =
     ap samples_in (channels_put stores slot (added_to (store_at stores slot) columns) (open_within stores slot _ fine))
     ∙ (samples_grown (store_at stores slot) rows (length channels) refl some
     ∙ (ap (λ (n : ℕ). samples_in channels + n) (good_rows state.mode.width state.scale (length channels) items good) ∙ sym long)) in
@@ -409,28 +409,3 @@ appended state slot items files added samples prepared some fine good is long an
 pub most_few : (keep : Option ℕ) → most_samples keep ≤ 4294967296
 most_few None = omega arith
 most_few (Some keep) = omega arith
-
-count_first : (added : List (List Sample)) (count : ℕ) → length added ≡ 1
-    → All (λ samples. length samples ≡ count) added → count_of added ≡ count
-count_first [] count one even = absurd (omega (arith, one))
-count_first (samples ∷ added) count one even =
-    All-head (λ (s : List Sample). length s ≡ count) samples added even
-
--- a slot that has so much room for as many samples of each channel
-pub room_in : (old new : Held) (added : List (List Sample)) (channels count : ℕ) → HoldsAsBefore old new
-    → channels ≡ channel_count old → 0 < channels → length added ≡ channels
-    → All (λ samples. length samples ≡ count) added → sample_count old + count ≤ most_samples (keep_of old)
-    → (length added ≡ length (streams_in new) → All (λ samples. length samples ≡ count) added
-    → count_in (streams_in old) + count ≤ max_samples → HaveRoom (streams_in new) added)
-    → HasRoomIn new added
-room_in held.Closed new added channels count same are some long even fits room = absurd (omega (arith, are, some))
-room_in (held.Open old) held.Closed added channels count same are some long even fits room = absurd same
-room_in (held.Open old) (held.Open new) added channels count same are some long even fits room =
-    let more = (last_as_before old new same).count in room (omega (arith, long, are, more)) even fits
-room_in (held.Open old) (held.Kept new) added channels count same are some long even fits room = absurd same
-room_in (held.Kept old) held.Closed added channels count same are some long even fits room = absurd same
-room_in (held.Kept old) (held.Open new) added channels count same are some long even fits room = absurd same
-room_in (held.Kept old) (held.Kept new) added channels count same are some long even fits room =
-    let one = long ∙ are in
-    let before = ap (λ (k : Keeping). k.count) same in
-    record { one = one; fits = omega (arith, fits, before, count_first added count one even) }

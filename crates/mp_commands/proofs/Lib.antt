@@ -1,7 +1,9 @@
+pub mod AdvanceLemmas
 pub mod AppendLemmas
 pub mod ChannelLemmas
 pub mod EndLemmas
 pub mod FileLemmas
+pub mod LazyLemmas
 pub mod LoadLemmas
 pub mod OpenLemmas
 pub mod PreparingLemmas

@@ -20,7 +20,7 @@ use Rattle.mp_replies.specs.declared.causes.Cause.TheVariants as cause
 use Rattle.mp_replies.specs.Command.{LoadReport}
 use Rattle.mp_replies.specs.Change as change
 use Rattle.mp_replies.specs.Command as asked
-use Rattle.mp_replies.specs.Conditions.{Condition, first_cause, kept_slot, when}
+use Rattle.mp_replies.specs.Conditions.{Condition, first_cause, kept_slot, lazy_slot, when}
 use Rattle.mp_replies.specs.LimitLaws.{all_long}
 use Rattle.mp_replies.specs.Limits.{max_channels, max_file}
 use Rattle.mp_replies.specs.Line.{Asks}
@@ -47,7 +47,7 @@ none_by : (holds : Bool) (word : Cause) (others more : List Condition)
 none_by true word others more h rest = absurd (cc h)
 none_by false word others more h rest = rest h
 
-first_behind : (conditions more : List Condition) → first_cause conditions ≡ None
+pub first_behind : (conditions more : List Condition) → first_cause conditions ≡ None
     → first_cause (conditions ++ more) ≡ first_cause more
 first_behind [] more h = refl
 first_behind (condition ∷ others) more h =
@@ -60,7 +60,7 @@ some_by : (holds : Bool) (word cause : Cause) (others more : List Condition)
 some_by true word cause others more h rest = h
 some_by false word cause others more h rest = rest h
 
-first_before : (conditions more : List Condition) (cause : Cause) → first_cause conditions ≡ Some cause
+pub first_before : (conditions more : List Condition) (cause : Cause) → first_cause conditions ≡ Some cause
     → first_cause (conditions ++ more) ≡ Some cause
 first_before [] more cause h = absurd (cc h)
 first_before (condition ∷ others) more cause h =
@@ -71,8 +71,9 @@ load_within : (stores : List Store) (slot : ℕ) (cols : List ℕ) → first_cau
     → slot < length stores
 load_within stores slot cols h =
     open_within stores slot
-    (first_cause (kept_slot stores slot ∷ when (not (length cols == length (channels_at stores slot))) cause.Channel
-    ∷ [])) h
+    (first_cause
+    (kept_slot stores slot ∷ lazy_slot stores slot
+    ∷ when (not (length cols == length (channels_at stores slot))) cause.Channel ∷ [])) h
 
 -- ---- refusals
 
@@ -218,7 +219,7 @@ can_put_table m slot cols bundle channels within some few t items window =
       };
     }
 
-samples_first : (bundle : List (List Sample)) (first : List Sample) → slice_get bundle 0 ≡ Some first
+pub samples_first : (bundle : List (List Sample)) (first : List Sample) → slice_get bundle 0 ≡ Some first
     → samples_in (map series_of bundle) ≡ length first
 samples_first [] first h = absurd (cc h)
 samples_first (samples ∷ bundle) first h =

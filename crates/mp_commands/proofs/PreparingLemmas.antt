@@ -30,7 +30,7 @@ use Rattle.mp_commands.specs.declared.prepared.Change.{Change}
 use Rattle.mp_commands.specs.declared.prepared.Change.TheVariants.{Keep}
 use Rattle.mp_commands.specs.declared.prepared.Prepared.{Prepared}
 use Rattle.mp_commands.specs.Preparing.{AddsAsAsked, CanMake, IsPrepared, IsPreparedBySome, IsReady, IsTaken}
-use Rattle.mp_commands.specs.Preparing.{changed_by, puts}
+use Rattle.mp_commands.specs.Preparing.{changed_by, covers, puts}
 use Rattle.mp_commands.proofs.EndLemmas.{ends_by}
 use Rattle.mp_commands.proofs.FileLemmas.{no_file}
 
@@ -71,7 +71,9 @@ keep_in state files (Faulty cause) h = refl
 keep_in state files (Asks (asked.OpenAnew slot channels)) h = absurd h
 keep_in state files (Asks (asked.KeepLast slot keep)) h = absurd h
 keep_in state files (Asks (asked.Load slot file columns header)) h = absurd h
+keep_in state files (Asks (asked.LoadLazy slot file column header)) h = absurd h
 keep_in state files (Asks (asked.Append slot items)) h = absurd h
+keep_in state files (Asks (asked.Advance slot count)) h = absurd h
 keep_in state files (Asks other) h = keep_by other (first_cause (conditions state files other))
 
 compared_keeps : (by : Comparison) (a b : Ref) → AsksForReport (Asks (compared_by by a b))
@@ -86,6 +88,7 @@ none_in : (state : State) (what : Asked) → AsksForReport what → fetches_by s
 none_in state Nothing h = refl
 none_in state (Faulty cause) h = refl
 none_in state (Asks (asked.Load slot file columns header)) h = absurd h
+none_in state (Asks (asked.LoadLazy slot file column header)) h = absurd h
 none_in state (Asks other) h = refl
 
 -- none of them needs a file
@@ -103,9 +106,9 @@ prepared_report state files request prepared answer is same kept = record {
 -- what a report names is still there where only reads and room were changed
 named_lasts : (old new : Stored) (at : Ref) → StandAsBefore old new → IsNamed old at → IsNamed new at
 named_lasts old new at last there =
-    let count = (slot_lasts old new at.slot last).channels in
+    let same = slot_lasts old new at.slot last in
     let inside = there.channel in
-    record { slot = there.slot; channel = omega (arith, inside, count) }
+    record { slot = there.slot; channel = omega (arith, inside, same.channels); whole = same.lazy ∙ there.whole }
 
 report_lasts : (old new : Stored) (report : reports.Report) → StandAsBefore old new → AreNamed old report
     → AreNamed new report
@@ -120,6 +123,8 @@ report_lasts old new (report.Entry at start) last there =
           omega (arith, last.window_is, ap length same, before);
       live = λ kept is. there.live kept (slot.kept kept is);
     }
+report_lasts old new (report.Partial slot) last there =
+    record { within = there.within; lazy = (slot_lasts old new slot last).lazy ∙ there.lazy }
 report_lasts old new other last there = tt
 
 pub names_last : (old new : Stored) (answer : Answer) → StandAsBefore old new → NamesChannels old answer
@@ -135,6 +140,10 @@ can_keep held ours same = subst (λ c. CanMake held c) (sym same) tt
 
 pub keep_adds : (what : Asked) (ours : Change) → ours ≡ Keep → AddsAsAsked what ours
 keep_adds what ours same = subst (λ c. AddsAsAsked what c) (sym same) tt
+
+pub keep_covers : (ours : Change) (slot : ℕ) (advanced : Bool) → ours ≡ Keep → covers ours slot ≡ true
+    → advanced ≡ true
+keep_covers ours slot advanced same cover = absurd (cc (ap (λ c. covers c slot) same, cover))
 
 pub keep_puts : (ours : Change) (slot : ℕ) (renewed : Bool) → ours ≡ Keep → puts ours slot ≡ true → renewed ≡ true
 keep_puts ours slot renewed same put = absurd (cc (ap (λ c. puts c slot) same, put))

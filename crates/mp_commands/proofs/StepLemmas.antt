@@ -42,7 +42,8 @@ pub prepared_accepted : (state : State) (files : Files) (command : Command) (rep
     (prepared : Prepared)
     → first_cause (conditions state files command) ≡ None → is_last command ≡ false
     → prepared.answer ≡ answers.Accepted report
-    → report_in state report ≡ report_by (after_by state (IsAccepted command (change_by state files command))) command
+    → report_in state report
+    ≡ report_by state (after_by state (IsAccepted command (change_by state files command))) command
     → changed_by prepared.change ≡ change_by state files command → IsPrepared state files (Asks command) prepared
 prepared_accepted state files command report prepared h last answer is put = record {
   answer_is = rw answer (answer_accepted state files command report h last is);

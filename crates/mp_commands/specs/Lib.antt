@@ -1,4 +1,5 @@
 pub mod Commands
+pub mod Advancing
 pub mod Reads
 pub mod Preparing
 pub mod Fetching

@@ -19,11 +19,13 @@ use Rattle.mp_outside.specs.declared.shelves.Shelf as shelves
 use Rattle.mp_stores.specs.Stores.{Stored, AreEven, CanOpen, HasRoomIn, StandFor, lists_in, series_in, slot_at}
 use Rattle.mp_requests.specs.declared.context.Context.{Context}
 use Rattle.mp_requests.specs.Answering.{IsAnswer, IsUnrefused, state_over}
-use Rattle.mp_requests.specs.Requests.{NamesChannels, is_accepted, is_ended, kind_by, mode_asked, mode_named}
+use Rattle.mp_results.specs.Covering.{Covering}
+use Rattle.mp_requests.specs.Requests.{IsLazySlot, NamesChannels, is_accepted, is_ended, kind_by, mode_asked, mode_named}
 use Rattle.mp_commands.specs.declared.prepared.Change.{Change}
-use Rattle.mp_commands.specs.declared.prepared.Change.TheVariants.{Keep, PutChannels, PutKept, AddSamples}
+use Rattle.mp_commands.specs.declared.prepared.Change.TheVariants.{Keep, PutChannels, PutKept, PutLazy}
+use Rattle.mp_commands.specs.declared.prepared.Change.TheVariants.{AddSamples, Advance}
 use Rattle.mp_commands.specs.declared.prepared.Prepared.{Prepared}
-use Rattle.mp_commands.specs.Reads.{renews}
+use Rattle.mp_commands.specs.Reads.{advances, renews}
 
 -- where a line asks for a file, the shelf tells these files
 abbrev pub ToldFor : Option Files → State → Asked → Files → Type 0
@@ -35,7 +37,9 @@ abbrev pub changed_by : Change → change.Change
 changed_by Keep = change.Keep
 changed_by (PutChannels slot channels) = change.PutChannels slot (series_in channels.items)
 changed_by (PutKept slot kept) = change.PutKept slot kept.keep
+changed_by (PutLazy slot part) = change.PutLazy slot (series_of part.items)
 changed_by (AddSamples slot added) = change.AddSamples slot (map series_of (lists_in added.items))
+changed_by (Advance slot count) = change.CoverNext slot count
 
 -- what was prepared for a line: its answer, and its change
 pub record IsPrepared (state : State) (files : Files) (asked : Asked) (prepared : Prepared) : Type 0 where
@@ -47,20 +51,35 @@ abbrev pub puts : Change → ℕ → Bool
 puts Keep slot = false
 puts (PutChannels at channels) slot = slot == at
 puts (PutKept at kept) slot = slot == at
+puts (PutLazy at part) slot = slot == at
 puts (AddSamples at added) slot = false
+puts (Advance at count) slot = false
 
 -- whether it adds samples to a slot
 abbrev pub adds : Change → ℕ → Bool
 adds Keep slot = false
 adds (PutChannels at channels) slot = false
 adds (PutKept at kept) slot = false
+adds (PutLazy at part) slot = false
 adds (AddSamples at added) slot = slot == at
+adds (Advance at count) slot = false
+
+-- whether it covers diagonals of a slot
+abbrev pub covers : Change → ℕ → Bool
+covers Keep slot = false
+covers (PutChannels at channels) slot = false
+covers (PutKept at kept) slot = false
+covers (PutLazy at part) slot = false
+covers (AddSamples at added) slot = false
+covers (Advance at count) slot = slot == at
 
 -- samples are added by an append alone, as many to each channel as it has items
 abbrev pub AddsAsAsked : Asked → Change → Type 0
 AddsAsAsked line Keep = Unit {0}
 AddsAsAsked line (PutChannels slot channels) = Unit {0}
 AddsAsAsked line (PutKept slot kept) = Unit {0}
+AddsAsAsked line (PutLazy slot part) = Unit {0}
+AddsAsAsked line (Advance slot count) = Unit {0}
 AddsAsAsked (Asks (asked.Append at items)) (AddSamples slot added) =
     (slot ≡ at) × All (λ samples. length samples ≡ length items) (lists_in added.items)
 AddsAsAsked other (AddSamples slot added) = ⊥
@@ -99,18 +118,26 @@ pub record CanPutKept (m slot : ℕ) (kept : Keeping) : Type 0 where
   pub empty : StandsFor [] kept
   pub unread : kept.reads ≡ 0
 
+-- a series whose profile is made in parts, of which nothing is covered, that can stand in a slot
+pub record CanPutLazy (m slot : ℕ) (part : Covering) : Type 0 where
+  pub within : slot < slot_count
+  pub window : part.m ≡ m
+  pub uncovered : part.covered ≡ []
+
 -- as many samples for each channel, for which there is room
 pub record CanAdd (held : Stored) (slot : ℕ) (added : List (List Sample)) : Type 0 where
   pub within : slot < slot_count
   pub room : HasRoomIn (slot_at held slot) added
   pub even : AreEven added
 
--- the change needs no memory
+-- the change can be made. It needs no memory but for that of an advance
 abbrev pub CanMake : Stored → Change → Type 0
 CanMake held Keep = Unit {0}
 CanMake held (PutChannels slot channels) = CanPut held.m slot channels.items
 CanMake held (PutKept slot kept) = CanPutKept held.m slot kept
+CanMake held (PutLazy slot part) = CanPutLazy held.m slot part
 CanMake held (AddSamples slot added) = CanAdd held slot (lists_in added.items)
+CanMake held (Advance slot count) = IsLazySlot held slot
 
 -- ---- a line
 
@@ -131,13 +158,14 @@ pub record IsPreparedBySome (context : Context) (what : Asked) (held : Stored) (
   pub is : (stores : List Store) → StandFor held stores
       → IsPrepared (state_over context held stores) files what prepared
 
--- Its change can be made in these slots, puts channels where the line asks for it alone, and is none where the line
--- isn't accepted. Its answer names channels of theirs, ends the run where the line asks for that, and names a mode
--- where it accepts one that the line asks for
+-- Its change can be made in these slots, puts channels and covers diagonals where the line asks for it alone, and is
+-- none where the line isn't accepted. Its answer names channels of theirs, ends the run where the line asks for that,
+-- and names a mode where it accepts one that the line asks for
 pub record IsReady (what : Asked) (held : Stored) (prepared : Prepared) : Type 0 where
   pub can : CanMake held prepared.change
   pub kept : KeepsUnlessAccepted prepared
   pub renewed : (slot : ℕ) → puts prepared.change slot ≡ true → renews what slot ≡ true
+  pub advanced : (slot : ℕ) → covers prepared.change slot ≡ true → advances what slot ≡ true
   pub adds : AddsAsAsked what prepared.change
   pub names : NamesChannels held prepared.answer
   pub ends : is_ended (kind_by prepared.answer) ≡ is_end what

@@ -69,6 +69,8 @@ fn load_cause(stores: &Stores, slot: u64, names: Columns<'_>) -> Option<Cause>
         Some(Cause::Slot)
     } else if stores.is_kept(slot) {
         Some(Cause::Kept)
+    } else if stores.is_lazy(slot) {
+        Some(Cause::Lazy)
     } else if names.count() == count {
         None
     } else {
@@ -77,7 +79,7 @@ fn load_cause(stores: &Stores, slot: u64, names: Columns<'_>) -> Option<Cause>
 }
 
 /// The bytes of a file, or the word by which a load of it is refused.
-fn fetch_file<H: Shelf>(
+pub(crate) fn fetch_file<H: Shelf>(
     alloc: Global,
     name: &[u8],
     shelf: &mut H,
@@ -147,7 +149,7 @@ fn prepare_table<R: Threads + Sync, G: Gate>(
 }
 
 /// Why a table is refused, none where there was no memory.
-fn table_cause(fault: TableFault) -> Option<Cause>
+pub(crate) fn table_cause(fault: TableFault) -> Option<Cause>
     ensures { result ≡ option_map cause_by (told fault) }
 {
     match fault {

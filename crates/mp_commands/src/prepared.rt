@@ -2,13 +2,15 @@
 
 ghost use Rattle.std.specs.Prelude.{◌≡◌};
 
+use mp_anytime::Anytime;
 use mp_nums::Sample;
 use mp_replies::Cause;
 use mp_requests::Answer;
 use mp_stores::Channel;
 use mp_stream::Kept;
 
-/// What an accepted line changes in the slots. All memory for it is there.
+/// What an accepted line changes in the slots. All memory for it is there but for that of an advance, which leaves the
+/// slots as they are where it finds none.
 #[derive(Debug, Drop)]
 pub enum Change {
     Keep,
@@ -16,8 +18,12 @@ pub enum Change {
     PutChannels { slot: u64, channels: Vec<Channel> },
     /// A channel without a sample, of which the last ones will be kept, in place of what stood in a slot.
     PutKept { slot: u64, kept: Kept },
+    /// A series whose profile is made in parts, of which nothing is covered, in place of what stood in a slot.
+    PutLazy { slot: u64, part: Anytime },
     /// Samples behind those of each channel of a slot.
     AddSamples { slot: u64, added: Vec<Vec<Sample>> },
+    /// So many more diagonals of a lazy slot covered. It takes memory of its own.
+    Advance { slot: u64, count: u64 },
 }
 
 /// The answer to a line, and its change.

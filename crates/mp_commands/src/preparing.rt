@@ -9,8 +9,10 @@ ghost use Rattle.mp_commands.specs.Commands.{changed_in};
 ghost use Rattle.mp_commands.specs.Preparing.{IsAsked, IsPreparedBySome, IsReady, IsTaken, NeedsFile};
 ghost use Rattle.mp_stores.specs.Stores.{StandAsBefore};
 
+use crate::advance_command::prepare_advance;
 use crate::append_command::prepare_append;
 use crate::keep_command::prepare_keep;
+use crate::lazy_command::prepare_lazy;
 use crate::load_command::prepare_load;
 use crate::open_command::prepare_open;
 use crate::prepared::Prepared;
@@ -23,7 +25,8 @@ use mp_stores::Stores;
 use std::thread::Threads;
 
 /// Takes all that a line needs, its report included, before anything is changed but reads and room: the answer, and the
-/// change, for which all memory is then there. Want of memory comes only where nothing refuses the line without a file.
+/// change, for which all memory is then there, but for that of an advance. Want of memory comes only where nothing
+/// refuses the line without a file.
 pub fn prepare<R: Threads + Sync, H: Shelf, G: Gate>(
     rt: &R,
     stores: &mut Stores,
@@ -104,7 +107,9 @@ fn prepare_change<R: Threads + Sync, H: Shelf, G: Gate>(
         ChangeRequest::Open(opening) => prepare_open(rt, stores, context, opening),
         ChangeRequest::Keep(keeping) => prepare_keep(stores, context, keeping),
         ChangeRequest::Load(load) => prepare_load(rt, stores, context, load, shelf, gate),
+        ChangeRequest::Lazy(load) => prepare_lazy(stores, context, load, shelf),
         ChangeRequest::Append(more) => prepare_append(stores, context, more),
+        ChangeRequest::Advance(advance) => prepare_advance(stores, context, advance),
     }
 }
 

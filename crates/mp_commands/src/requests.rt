@@ -20,7 +20,9 @@ pub(crate) enum ChangeRequest<'a> {
     Open(Opening),
     Keep(Keeping),
     Load(Load<'a>),
+    Lazy(LazyLoad<'a>),
     Append(Appending<'a>),
+    Advance(Advance),
 }
 
 /// So many empty channels for a slot.
@@ -45,6 +47,22 @@ pub(crate) struct Load<'a> {
     pub(crate) file: &'a [u8],
     pub(crate) columns: Columns<'a>,
     pub(crate) header: bool,
+}
+
+/// A column of a file for a slot, whose profile is made in parts.
+#[derive(Clone, Copy, Debug)]
+pub(crate) struct LazyLoad<'a> {
+    pub(crate) slot: u64,
+    pub(crate) file: &'a [u8],
+    pub(crate) column: u32,
+    pub(crate) header: bool,
+}
+
+/// So many more diagonals of a slot.
+#[derive(Clone, Copy, Debug)]
+pub(crate) struct Advance {
+    pub(crate) slot: u64,
+    pub(crate) count: u64,
 }
 
 /// Items for a slot.
@@ -83,6 +101,20 @@ impl<'a> Request<'a> {
                 columns,
                 header,
             })),
+            Command::Lazy {
+                slot,
+                file,
+                column,
+                header,
+            } => Request::Change(ChangeRequest::Lazy(LazyLoad {
+                slot,
+                file,
+                column,
+                header,
+            })),
+            Command::Advance { slot, count } => {
+                Request::Change(ChangeRequest::Advance(Advance { slot, count }))
+            }
             Command::Append { slot, items } => {
                 Request::Change(ChangeRequest::Append(Appending { slot, items }))
             }

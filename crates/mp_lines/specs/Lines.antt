@@ -11,8 +11,8 @@ use Rattle.mp_replies.specs.Numbers.{columns, refs}
 use Rattle.mp_replies.specs.SessionCommand.{mode_of}
 use Rattle.mp_replies.specs.Shapes.{Shape, by_shape}
 use Rattle.mp_lines.specs.declared.commands.Command.{Command}
-use Rattle.mp_lines.specs.declared.commands.Command.TheVariants.{Blank, Session, Open, Keep, Load, Append, Window}
-use Rattle.mp_lines.specs.declared.commands.Command.TheVariants.{Profile, Entry, End}
+use Rattle.mp_lines.specs.declared.commands.Command.TheVariants.{Blank, Session, Open, Keep, Load, Lazy, Append}
+use Rattle.mp_lines.specs.declared.commands.Command.TheVariants.{Advance, Partial, Window, Profile, Entry, End}
 use Rattle.mp_lines.specs.declared.commands.Command.TheVariants.{Join, Multi, Nearest, Pan, Match, Motifs}
 use Rattle.mp_lines.specs.declared.commands.Command.TheVariants.{Discords, Chain, Chains, Segments, Mpdist}
 use Rattle.mp_lines.specs.declared.commands.Command.TheVariants.{Consensus}
@@ -32,7 +32,10 @@ asked_by (Session version wide json) = Asks (asked.Session (mode_of version wide
 asked_by (Open slot channels) = Asks (asked.OpenAnew slot channels)
 asked_by (Keep slot keep) = Asks (asked.KeepLast slot keep)
 asked_by (Load slot file cols header) = Asks (asked.Load slot file.now (unwrap_or (columns cols.field.now) []) header)
+asked_by (Lazy slot file column header) = Asks (asked.LoadLazy slot file.now column header)
 asked_by (Append slot items) = Asks (asked.Append slot (fields_in items.now))
+asked_by (Advance slot count) = Asks (asked.Advance slot count)
+asked_by (Partial slot) = Asks (asked.Partial slot)
 asked_by (Window at start) = Asks (asked.Window at start)
 asked_by (Profile at) = Asks (asked.Profile at)
 asked_by (Entry at start) = Asks (asked.Entry at start)

@@ -10,9 +10,9 @@ ghost use Rattle.mp_lines.specs.Lines.{read_as};
 use crate::numbers::Columns;
 use crate::ref_lists::Refs;
 use crate::shapes::{
-    append, consensus, keep, load, matches, motifs, no_field, one_ref, ref_and_count,
-    ref_and_lengths, ref_and_rank_count, ref_and_start, segments, session, slot_and_number,
-    two_refs,
+    append, consensus, keep, lazy, load, matches, motifs, no_field, one_ref, one_slot,
+    ref_and_count, ref_and_lengths, ref_and_rank_count, ref_and_start, segments, session,
+    slot_and_count, slot_and_number, two_refs,
 };
 use mp_bytes::{Fields, same_text, without_cr};
 use mp_replies::Ref;
@@ -50,10 +50,27 @@ pub enum Command<'a> {
         columns: Columns<'a>,
         header: bool,
     },
+    /// Put this column of a file into a slot, with the first record passed over where there is a header. Its profile is
+    /// made in parts.
+    Lazy {
+        slot: u64,
+        file: &'a [u8],
+        column: u32,
+        header: bool,
+    },
     /// Add the items, in order.
     Append {
         slot: u64,
         items: &'a [u8],
+    },
+    /// Cover so many more diagonals of a slot whose profile is made in parts.
+    Advance {
+        slot: u64,
+        count: u64,
+    },
+    /// Report the profile of the diagonals that are covered.
+    Partial {
+        slot: u64,
     },
     /// Report the samples of the window that starts there.
     Window {
@@ -192,8 +209,16 @@ fn parse_command<'a>(
         keep(fields, version)
     } else if same_text(word, b"load") {
         load(fields)
+    } else if same_text(word, b"lazy") {
+        lazy(fields)
     } else if same_text(word, b"append") {
         append(fields)
+    } else if same_text(word, b"advance") {
+        let (slot, count) = slot_and_count(fields)?;
+        Ok(Command::Advance { slot, count })
+    } else if same_text(word, b"partial") {
+        let slot = one_slot(fields)?;
+        Ok(Command::Partial { slot })
     } else if same_text(word, b"window") {
         let (at, start) = ref_and_start(fields)?;
         Ok(Command::Window { at, start })

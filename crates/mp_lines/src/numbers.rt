@@ -29,7 +29,7 @@ use std::alloc::Global;
 /// The most digits of a number, leading zeros counted.
 const MAX_DIGITS: usize = 39;
 
-/// The most windows that are asked for, and the most neighbours.
+/// The most windows or diagonals that are asked for, and the most neighbours.
 const MAX_COUNT: u64 = 262_144;
 
 /// The most motifs, and the most matches of one.
@@ -97,7 +97,7 @@ fn read_small(field: &[u8], most: u64) -> Option<u32>
     }
 }
 
-/// How many windows are asked for.
+/// How many windows or diagonals are asked for.
 pub(crate) fn read_count(field: &[u8]) -> Option<u64>
     ensures { result ≡ count_of field.now }
 {
@@ -195,7 +195,8 @@ fn behind(field: &[u8], at: usize) -> &[u8]
     &field[at + 1..]
 }
 
-fn read_column(text: &[u8]) -> Option<u32>
+/// A column.
+pub(crate) fn read_column(text: &[u8]) -> Option<u32>
     ensures { result ≡ column text.now }
 {
     read_small(text, MAX_COLUMN)

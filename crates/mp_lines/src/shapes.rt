@@ -5,6 +5,7 @@ ghost use Rattle.mp_bytes.specs.Fields.{fields_in};
 ghost use Rattle.mp_replies.specs.AppendCommand.{append_by, append_shape};
 ghost use Rattle.mp_replies.specs.Commands.{keep_form};
 ghost use Rattle.mp_replies.specs.ConsensusCommand.{consensus_by, consensus_shape};
+ghost use Rattle.mp_replies.specs.LazyCommand.{lazy_by, lazy_shape};
 ghost use Rattle.mp_replies.specs.Line.{asks};
 ghost use Rattle.mp_replies.specs.LoadCommand.{header_of, load_by, load_shape};
 ghost use Rattle.mp_replies.specs.MatchCommand.{match_by, match_shape};
@@ -18,8 +19,8 @@ ghost use Rattle.mp_lines.specs.Lines.{IsMadeBy, IsReadBy, read_as};
 
 use crate::commands::{Command, LineFault};
 use crate::numbers::{
-    Columns, read_count, read_factor, read_few, read_kept, read_lengths, read_neighbours,
-    read_rank_count, read_ref, read_squared, read_u64,
+    Columns, read_column, read_count, read_factor, read_few, read_kept, read_lengths,
+    read_neighbours, read_rank_count, read_ref, read_squared, read_u64,
 };
 use crate::ref_lists::{Refs, is_right_count};
 use crate::texts::{five_texts, one_text, six_texts, three_texts, two_texts};
@@ -93,6 +94,24 @@ pub(crate) fn ref_and_lengths(fields: Fields<'_>) -> Result<(Ref, (u32, u32)), L
     let (at, lo, hi) = three_texts(fields).ok_or(LineFault::Fields)?;
     read_ref(at)
         .zip(read_lengths(lo, hi))
+        .ok_or(LineFault::Number)
+}
+
+/// `S`: a slot.
+pub(crate) fn one_slot(fields: Fields<'_>) -> Result<u64, LineFault>
+    ensures { IsReadBy shape.one_slot (fields_in fields.entry.text.now) result }
+{
+    let slot = one_text(fields).ok_or(LineFault::Fields)?;
+    read_u64(slot).ok_or(LineFault::Number)
+}
+
+/// `S K`: a slot, and how many diagonals are asked for.
+pub(crate) fn slot_and_count(fields: Fields<'_>) -> Result<(u64, u64), LineFault>
+    ensures { IsReadBy shape.slot_and_count (fields_in fields.entry.text.now) result }
+{
+    let (slot, count) = two_texts(fields).ok_or(LineFault::Fields)?;
+    read_u64(slot)
+        .zip(read_count(count))
         .ok_or(LineFault::Number)
 }
 
@@ -187,6 +206,24 @@ pub(crate) fn load(mut fields: Fields<'_>) -> Result<Command<'_>, LineFault>
         slot,
         file,
         columns,
+        header,
+    })
+}
+
+/// `lazy S FILE COL`, or with `header` behind.
+pub(crate) fn lazy(mut fields: Fields<'_>) -> Result<Command<'_>, LineFault>
+    ensures { IsMadeBy lazy_by lazy_shape (fields_in fields.entry.text.now) result }
+{
+    let slot = fields.next().ok_or(LineFault::Fields)?;
+    let file = fields.next().ok_or(LineFault::Fields)?;
+    let column = fields.next().ok_or(LineFault::Fields)?;
+    let header = read_header(fields).ok_or(LineFault::Fields)?;
+    let slot = read_u64(slot).ok_or(LineFault::Number)?;
+    let column = read_column(column).ok_or(LineFault::Number)?;
+    Ok(Command::Lazy {
+        slot,
+        file,
+        column,
         header,
     })
 }

@@ -6,8 +6,8 @@ ghost use Rattle.mp_defs.specs.Window.{windows};
 ghost use Rattle.mp_partial.specs.Values.{HasColumns, empty_column, merged_column, merged_columns};
 ghost use Rattle.mp_tiles.specs.Scanning.{taken};
 ghost use Rattle.mp_pan.specs.declared.limits.TheConstants.{MAX_LENGTHS, SPAN};
-ghost use Rattle.mp_pan.specs.Ranges.{AreForLengths, HaveTaken, best_at, found_value, from_to, lengths_value, near_slot};
-ghost use Rattle.mp_pan.specs.Ranges.{start_slot, unusual_at, window_of, has_extremes, no_extremes};
+ghost use Rattle.mp_pan.specs.Ranges.{AreForLengths, HaveTaken, best_at, found_value, from_to, lengths_value};
+ghost use Rattle.mp_pan.specs.Ranges.{near_slot, start_slot, unusual_at, window_of, has_extremes, no_extremes};
 ghost use Rattle.mp_pan.specs.RangeLaws.{extremes_merge};
 ghost use Rattle.mp_pan.specs.Spans.{ArePlaced};
 

@@ -36,7 +36,8 @@ fn offer_at_each(lengths: &Lengths, slots: &mut [Slot], row: usize, column: usiz
     requires small { dist + 1 < 2 ^ 110 }
     ensures { distance lengths.now.least (series_of lengths.now.samples.now) row (series_of lengths.now.samples.now)
         column ≡ Some dist
-        → slots.new ≡ all_put lengths.now.count lengths.now.least (series_of lengths.now.samples.now) row column slots.old }
+        → slots.new
+        ≡ all_put lengths.now.count lengths.now.least (series_of lengths.now.samples.now) row column slots.old }
 {
     let mut reached = Some(dist);
     for k in 0..lengths.count {
@@ -68,7 +69,8 @@ fn may_give_any(lengths: &Lengths, slots: &[Slot], row: usize, column: usize, di
 /// Which distances, at the least length, of windows from `first` on may still give a window something at any length at
 /// which it lacks no sample.
 fn limit_at_each(lengths: &Lengths, slots: &[Slot], window: u64, first: u64) -> Limit
-    ensures { (index dist : ℕ) → first ≤ index → IsBeyond result dist → keeps_at lengths.now slots.now window index dist }
+    ensures { (index dist : ℕ) → first ≤ index → IsBeyond result dist
+        → keeps_at lengths.now slots.now window index dist }
 {
     if window >= MAX_SAMPLES {
         return Limit::Every;

@@ -7,7 +7,7 @@ use Rattle.std.proofs.lemmas.List.{map-append, length-map}
 use Rattle.mp_defs.specs.Series.{Series}
 use Rattle.mp_text.specs.Rows.{Row, column_at, columns_of}
 use Rattle.mp_replies.specs.Change.{extended, grown}
-use Rattle.mp_replies.specs.State.{Store, Closed, Open, Kept, store_at, is_closed, keep_in, channels_in}
+use Rattle.mp_replies.specs.State.{Store, Closed, Open, Kept, Lazy, store_at, is_closed, keep_in, channels_in}
 use Rattle.mp_replies.specs.State.{samples_in}
 
 pub length-extended : (channels added : List Series) → length (extended channels added) ≡ length channels
@@ -66,6 +66,7 @@ pub open_with_channels : (store : Store) → 0 < length (channels_in store) → 
 open_with_channels Closed some = absurd (omega (arith, some))
 open_with_channels (Open channels) some = refl
 open_with_channels (Kept keep series) some = refl
+open_with_channels (Lazy series covered) some = refl
 
 -- the rows behind the samples of a slot
 pub store_with : Store → List Row → Store
@@ -82,12 +83,14 @@ unfolding store_with with_rows
 channels-store_with Closed rows = refl
 channels-store_with (Open channels) rows = refl
 channels-store_with (Kept keep series) rows = refl
+channels-store_with (Lazy series covered) rows = refl
 
 pub keep-store_with : (store : Store) (rows : List Row) → keep_in (store_with store rows) ≡ keep_in store
 unfolding store_with
 keep-store_with Closed rows = refl
 keep-store_with (Open channels) rows = refl
 keep-store_with (Kept keep series) rows = refl
+keep-store_with (Lazy series covered) rows = refl
 
 pub store_with-append : (store : Store) (rows more : List Row)
     → store_with (store_with store rows) more ≡ store_with store (rows ++ more)
@@ -96,6 +99,10 @@ store_with-append Closed rows more = refl
 store_with-append (Open channels) rows more = ap Open (with_rows-append channels rows more)
 store_with-append (Kept keep series) rows more =
     ap (Kept keep)
+    (append_assoc series (column_at rows 0) (column_at more 0)
+    ∙ ap (λ (s : Series). series ++ s) (sym (column-append rows more 0)))
+store_with-append (Lazy series covered) rows more =
+    ap (λ (s : Series). Lazy s covered)
     (append_assoc series (column_at rows 0) (column_at more 0)
     ∙ ap (λ (s : Series). series ++ s) (sym (column-append rows more 0)))
 

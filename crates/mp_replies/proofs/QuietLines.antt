@@ -27,10 +27,11 @@ spoken : (last : Bool) (report : Report) → (if last then Ended report else Acc
 spoken true report h = cc
 spoken false report h = cc
 
-silent_passes : (later : State) (v : Verdict) → answer_by later v ≡ Silent → v ≡ Passes
-silent_passes later Passes h = refl
-silent_passes later (IsRefused cause) h = cc
-silent_passes later (IsAccepted command change) h = absurd (spoken (is_last command) (report_by later command) h)
+silent_passes : (state later : State) (v : Verdict) → answer_by state later v ≡ Silent → v ≡ Passes
+silent_passes state later Passes h = refl
+silent_passes state later (IsRefused cause) h = cc
+silent_passes state later (IsAccepted command change) h =
+    absurd (spoken (is_last command) (report_by state later command) h)
 
 judged : (command : Command) (o : Option Cause) (change : Change) → verdict_by command o change ≡ Passes → ⊥
 judged command None change h = cc
@@ -43,9 +44,9 @@ passes_nothing state files (Faulty cause) h = cc
 passes_nothing state files (Asks command) h =
     absurd (judged command (first_cause (conditions state files command)) (change_by state files command) h)
 
-nothing_is_silent : (later state : State) (files : Files) (asked : Asked) → asked ≡ Nothing
-    → answer_by later (verdict_of state files asked) ≡ Silent
-nothing_is_silent later state files asked h = rw h refl
+nothing_is_silent : (state later : State) (files : Files) (asked : Asked) → asked ≡ Nothing
+    → answer_by state later (verdict_of state files asked) ≡ Silent
+nothing_is_silent state later files asked h = rw h refl
 
 -- ---- what asks for nothing, by the fields of a line
 
@@ -124,8 +125,8 @@ quiet_lines state line files =
     let later = after state line files in (
       λ silent. within (length line) _ _ (line_asks state.mode.version line)
           (ap is_nothing
-          (passes_nothing state files asked (silent_passes later (verdict_of state files asked) silent))),
+          (passes_nothing state files asked (silent_passes state later (verdict_of state files asked) silent))),
       λ quiet.
-          nothing_is_silent later state files asked
+          nothing_is_silent state later files asked
           (is_nothing_means asked (asks_within (length line) _ _ (line_asks state.mode.version line) quiet)),
     )

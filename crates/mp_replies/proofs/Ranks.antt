@@ -3,16 +3,24 @@ use Rattle.std.proofs.Common.{◌≡◌, ℕ, List, [], ◌∷◌, ◌++◌, lit
 use Rattle.std.specs.Prelude.{Bool, ◌&&◌, nat_lt, Option, Some, None}
 use Rattle.std.proofs.lemmas.Bool.Decides.{nat_tests}
 use Rattle.mp_replies.specs.State.{State}
-use Rattle.mp_replies.specs.Command.{Load}
+use Rattle.mp_replies.specs.Command.{Load, LoadLazy}
 use Rattle.mp_replies.specs.Conditions.{Condition}
+use Rattle.mp_replies.specs.LazyCommand.{lazy_conditions, lazy_file_conditions}
 use Rattle.mp_replies.specs.LoadCommand.{file_in, file_conditions, load_conditions}
 use Rattle.mp_replies.specs.Laws.{StandInOrder, WordsStandInOrder, rank}
 use Rattle.mp_replies.specs.Step.{conditions}
 
 loaded : (state : State) (slot : ℕ) (columns : List ℕ) (header : Bool) (file : Option (List ℕ))
-    → StandInOrder (load_conditions state.stores slot columns ++ file_conditions state.mode.width state.scale columns header file)
-loaded state slot columns header None = (lit< tt, (lit< tt, (lit< tt, tt)))
-loaded state slot columns header (Some bytes) = (lit< tt, (lit< tt, (lit< tt, (lit< tt, (lit< tt, tt)))))
+    → StandInOrder
+    (load_conditions state.stores slot columns
+    ++ file_conditions state.mode.width state.scale columns header file)
+loaded state slot columns header None = (lit< tt, (lit< tt, (lit< tt, (lit< tt, tt))))
+loaded state slot columns header (Some bytes) = (lit< tt, (lit< tt, (lit< tt, (lit< tt, (lit< tt, (lit< tt, tt))))))
+
+loaded_lazy : (state : State) (slot column : ℕ) (header : Bool) (file : Option (List ℕ))
+    → StandInOrder (lazy_conditions slot ++ lazy_file_conditions state.mode.width state.scale column header file)
+loaded_lazy state slot column header None = (lit< tt, tt)
+loaded_lazy state slot column header (Some bytes) = (lit< tt, (lit< tt, (lit< tt, tt)))
 
 -- whether each word stands before the next
 abbrev in_order : List Condition → Bool
@@ -37,4 +45,5 @@ ordered (first ∷ next ∷ others) e =
 -- they are told by their words alone, so that a command needs no line of its own here
 pub ranks : WordsStandInOrder
 ranks state files (Load slot file columns header) = loaded state slot columns header (file_in files file)
+ranks state files (LoadLazy slot file column header) = loaded_lazy state slot column header (file_in files file)
 ranks state files other = ordered (conditions state files other) refl

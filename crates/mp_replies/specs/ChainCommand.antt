@@ -3,13 +3,13 @@ use Rattle.std.specs.Prelude.{ℕ, List, [], ◌∷◌, ◌++◌, length, codes,
 use Rattle.mp_results.specs.Chains.{chain_from}
 use Rattle.mp_defs.specs.Profile.{Columns, matrix_profile}
 use Rattle.mp_replies.specs.Command.{Report, ChainReport}
-use Rattle.mp_replies.specs.Conditions.{Condition, no_slot, kept_slot, no_channel, no_window}
+use Rattle.mp_replies.specs.Conditions.{Condition, no_window, ref_conditions}
 use Rattle.mp_replies.specs.declared.refs.Ref.{Ref}
 use Rattle.mp_replies.specs.State.{State, Store, series_at}
 
 abbrev pub chain_conditions : ℕ → List Store → Ref → ℕ → List Condition
 chain_conditions m stores at start =
-    no_slot stores at.slot ∷ kept_slot stores at.slot ∷ no_channel stores at ∷ no_window m stores at start ∷ []
+    ref_conditions stores at ++ no_window m stores at start ∷ []
 
 -- ---- the report
 

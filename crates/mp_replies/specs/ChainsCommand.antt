@@ -3,12 +3,12 @@ use Rattle.std.specs.Prelude.{ℕ, List, [], ◌∷◌, ◌++◌, length, codes,
 use Rattle.mp_results.specs.Chains.{chains_of, longest_of}
 use Rattle.mp_defs.specs.Profile.{Columns, matrix_profile}
 use Rattle.mp_replies.specs.Command.{Report, ChainsReport}
-use Rattle.mp_replies.specs.Conditions.{Condition, no_slot, kept_slot, no_channel}
+use Rattle.mp_replies.specs.Conditions.{Condition, ref_conditions}
 use Rattle.mp_replies.specs.declared.refs.Ref.{Ref}
 use Rattle.mp_replies.specs.State.{State, Store, series_at}
 
 abbrev pub chains_conditions : List Store → Ref → List Condition
-chains_conditions stores at = no_slot stores at.slot ∷ kept_slot stores at.slot ∷ no_channel stores at ∷ []
+chains_conditions stores at = ref_conditions stores at
 
 -- ---- the report
 

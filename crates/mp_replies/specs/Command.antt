@@ -20,8 +20,14 @@ pub data Command : Type 0 where
   KeepLast : (slot keep : ℕ) → Command
   -- put these columns of a file into a slot
   Load : (slot : ℕ) (file : List ℕ) (columns : List ℕ) (header : Bool) → Command
+  -- put this column of a file into a slot, whose profile is made in parts
+  LoadLazy : (slot : ℕ) (file : List ℕ) (column : ℕ) (header : Bool) → Command
   -- add the items, in order
   Append : (slot : ℕ) (items : List (List ℕ)) → Command
+  -- cover so many more diagonals of a slot
+  Advance : (slot count : ℕ) → Command
+  -- report the profile of the diagonals of a slot that are covered
+  Partial : (slot : ℕ) → Command
   -- report the samples of a window
   Window : (at : Ref) (start : ℕ) → Command
   -- report the profile
@@ -61,7 +67,12 @@ pub data Report : Type 0 where
   OpenReport : (samples : ℕ) → Report
   KeepReport : (samples : ℕ) → Report
   LoadReport : (samples : ℕ) → Report
+  LazyReport : (samples : ℕ) → Report
   AppendReport : (samples : ℕ) → Report
+  -- how many diagonals it covered, and how many are left
+  AdvanceReport : (done left : ℕ) → Report
+  -- the columns of the diagonals that are covered, and how many are left
+  PartialReport : (columns : Columns) (left : ℕ) → Report
   -- the samples of the window at a start, and how many of their digits stand behind the point
   WindowReport : (start : ℕ) (samples : Series) (scale : ℕ) → Report
   ProfileReport : (columns : Columns) → Report

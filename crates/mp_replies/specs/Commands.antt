@@ -3,24 +3,28 @@ use Rattle.std.specs.Prelude.{ℕ, nat_le, List, [], ◌∷◌, codes, if◌then
 use Rattle.mp_replies.specs.declared.causes.Cause.{Cause}
 use Rattle.mp_replies.specs.declared.causes.Cause.TheVariants.{Unknown}
 use Rattle.mp_replies.specs.Change.{Change, Keep}
-use Rattle.mp_replies.specs.Command.{Command, Session, OpenAnew, KeepLast, Load, Append, Window, Profile, Entry, Join}
-use Rattle.mp_replies.specs.Command.{Multi, Nearest, Pan, Match, Motifs, Discords, Chain, Chains, Segments}
-use Rattle.mp_replies.specs.Command.{Mpdist, Consensus, End}
-use Rattle.mp_replies.specs.Command.{Report, SessionReport, OpenReport, KeepReport, LoadReport, AppendReport}
+use Rattle.mp_replies.specs.Command.{Command, Session, OpenAnew, KeepLast, Load, LoadLazy, Append, Advance, Partial}
+use Rattle.mp_replies.specs.Command.{Window, Profile, Entry, Join, Multi, Nearest, Pan, Match, Motifs}
+use Rattle.mp_replies.specs.Command.{Discords, Chain, Chains, Segments, Mpdist, Consensus, End}
+use Rattle.mp_replies.specs.Command.{Report, SessionReport, OpenReport, KeepReport, LoadReport, LazyReport}
+use Rattle.mp_replies.specs.Command.{AppendReport, AdvanceReport, PartialReport}
 use Rattle.mp_replies.specs.Command.{WindowReport, ProfileReport, LiveProfileReport, EntryReport, JoinReport}
 use Rattle.mp_replies.specs.Command.{MpdistReport, MultiReport, NearestReport, PanReport, MatchReport}
 use Rattle.mp_replies.specs.Command.{MotifsReport, DiscordsReport, ChainReport, ChainsReport, SegmentsReport}
 use Rattle.mp_replies.specs.Command.{ConsensusReport, EndReport}
 use Rattle.mp_replies.specs.Conditions.{Condition}
 use Rattle.mp_replies.specs.Shapes.{Shape, by_shape, no_field, one_ref, two_refs, ref_and_start, ref_and_count}
-use Rattle.mp_replies.specs.Shapes.{slot_and_number}
+use Rattle.mp_replies.specs.Shapes.{one_slot, slot_and_count, slot_and_number}
 use Rattle.mp_replies.specs.State.{Files, State, second_version, channels_at, samples_in}
 use Rattle.mp_replies.specs.Text.{ok_text}
 use Rattle.mp_replies.specs.SessionCommand.{session_of, session_conditions}
 use Rattle.mp_replies.specs.OpenCommand.{open_conditions, open_change}
 use Rattle.mp_replies.specs.KeepCommand.{keep_shape, keep_by, keep_conditions, keep_change}
 use Rattle.mp_replies.specs.LoadCommand.{load_shape, load_by, load_conditions, file_conditions, file_in, load_change}
+use Rattle.mp_replies.specs.LazyCommand.{lazy_shape, lazy_by, lazy_conditions, lazy_file_conditions, lazy_change}
 use Rattle.mp_replies.specs.AppendCommand.{append_shape, append_by, append_conditions, append_change}
+use Rattle.mp_replies.specs.AdvanceCommand.{advance_conditions, advance_change, advance_report, advance_text}
+use Rattle.mp_replies.specs.PartialCommand.{partial_conditions, partial_report, partial_text}
 use Rattle.mp_replies.specs.WindowCommand.{window_conditions, window_report, window_text}
 use Rattle.mp_replies.specs.ProfileCommand.{profile_conditions, profile_report, profile_text, live_profile_text}
 use Rattle.mp_replies.specs.EntryCommand.{entry_conditions, entry_report, entry_text}
@@ -76,7 +80,10 @@ forms version =
     ∷ row (codes "open") slot_and_number (λ (slot, channels). OpenAnew slot channels)
     ∷ keep_form version
     ∷ row (codes "load") load_shape load_by
+    ∷ row (codes "lazy") lazy_shape lazy_by
     ∷ row (codes "append") append_shape append_by
+    ∷ row (codes "advance") slot_and_count (λ (slot, count). Advance slot count)
+    ∷ row (codes "partial") one_slot Partial
     ∷ row (codes "window") ref_and_start (λ (at, start). Window at start)
     ∷ row (codes "profile") one_ref Profile
     ∷ row (codes "entry") ref_and_start (λ (at, start). Entry at start)
@@ -105,16 +112,16 @@ pub record Meaning : Type 0 where
   pub file_conditions : State → Files → List Condition
   -- what it changes where nothing refuses it
   pub change : State → Files → Change
-  -- what is reported of it, from the state behind it
-  pub report : State → Report
+  -- what is reported of it, from the state before it and the one behind it
+  pub report : State → State → Report
 
--- a command that changes nothing
+-- a command that changes nothing. Its report is of the state behind it
 abbrev reporting : (State → List Condition) → (State → Report) → Meaning
 reporting conditions report = record {
   conditions = conditions;
   file_conditions = λ state files. [];
   change = λ state files. Keep;
-  report = report;
+  report = λ before behind. report behind;
 }
 
 -- a command that changes a slot and reads no file
@@ -123,7 +130,7 @@ changing conditions change report = record {
   conditions = conditions;
   file_conditions = λ state files. [];
   change = λ state files. change state;
-  report = report;
+  report = λ before behind. report behind;
 }
 
 -- the number of samples in each channel of a slot
@@ -142,12 +149,27 @@ meaning (Load slot file columns header) = record {
   conditions = λ state. load_conditions state.stores slot columns;
   file_conditions = λ state files. file_conditions state.mode.width state.scale columns header (file_in files file);
   change = λ state files. load_change state.mode.width state.scale files slot file columns header;
-  report = λ state. LoadReport (samples_at state slot);
+  report = λ before behind. LoadReport (samples_at behind slot);
+}
+meaning (LoadLazy slot file column header) = record {
+  conditions = λ state. lazy_conditions slot;
+  file_conditions = λ state files.
+      lazy_file_conditions state.mode.width state.scale column header (file_in files file);
+  change = λ state files. lazy_change state.mode.width state.scale files slot file column header;
+  report = λ before behind. LazyReport (samples_at behind slot);
 }
 meaning (Append slot items) =
     changing (λ state. append_conditions state.mode.width state.scale state.stores slot items)
     (λ state. append_change state.mode.width state.scale state.stores slot items)
     (λ state. AppendReport (samples_at state slot))
+meaning (Advance slot count) = record {
+  conditions = λ state. advance_conditions state.stores slot;
+  file_conditions = λ state files. [];
+  change = λ state files. advance_change slot count;
+  report = λ before behind. advance_report before behind slot;
+}
+meaning (Partial slot) =
+    reporting (λ state. partial_conditions state.stores slot) (λ state. partial_report state slot)
 meaning (Window at start) =
     reporting (λ state. window_conditions state.window state.stores at start) (λ state. window_report state at start)
 meaning (Profile at) = reporting (λ state. profile_conditions state.stores at) (λ state. profile_report state at)
@@ -182,7 +204,10 @@ report_text line SessionReport = ok_text line None
 report_text line (OpenReport samples) = ok_text line (Some samples)
 report_text line (KeepReport samples) = ok_text line (Some samples)
 report_text line (LoadReport samples) = ok_text line (Some samples)
+report_text line (LazyReport samples) = ok_text line (Some samples)
 report_text line (AppendReport samples) = ok_text line (Some samples)
+report_text line (AdvanceReport done left) = advance_text line done left
+report_text line (PartialReport columns left) = partial_text line columns left
 report_text line (WindowReport start samples scale) = window_text line start samples scale
 report_text line (ProfileReport columns) = profile_text line columns
 report_text line (LiveProfileReport first columns) = live_profile_text line first columns

@@ -6,7 +6,7 @@ use Rattle.mp_nums.specs.declared.nearest.Near.{Near}
 use Rattle.mp_results.specs.Consensus.{Central, centre_of}
 use Rattle.mp_replies.specs.Command.{Report, ConsensusReport}
 use Rattle.mp_replies.specs.Command.{Command, Consensus}
-use Rattle.mp_replies.specs.Conditions.{Condition, no_slots, kept_slots, no_channels}
+use Rattle.mp_replies.specs.Conditions.{Condition, refs_conditions}
 use Rattle.mp_replies.specs.Limits.{min_refs, max_refs}
 use Rattle.mp_replies.specs.Numbers.{refs}
 use Rattle.mp_replies.specs.Shapes.{Shape}
@@ -25,7 +25,7 @@ abbrev pub consensus_by : List Ref → Command
 consensus_by list = Consensus list
 
 abbrev pub consensus_conditions : List Store → List Ref → List Condition
-consensus_conditions stores list = no_slots stores list ∷ kept_slots stores list ∷ no_channels stores list ∷ []
+consensus_conditions stores list = refs_conditions stores list
 
 -- ---- the report
 

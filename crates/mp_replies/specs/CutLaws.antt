@@ -45,7 +45,7 @@ after_cut state files line = ap (after_by state) (verdict_cut state files line)
 pub answer_cut : (state : State) (files : Files) (line : List ℕ)
     → answer state (cut line) files ≡ answer state line files
 unfolding answer after
-answer_cut state files line = ap (λ (v : Verdict). answer_by (after_by state v) v) (verdict_cut state files line)
+answer_cut state files line = ap (λ (v : Verdict). answer_by state (after_by state v) v) (verdict_cut state files line)
 
 pub reply_cut : (state : State) (files : Files) (line : List ℕ) → reply state (cut line) files ≡ reply state line files
 unfolding reply

@@ -8,13 +8,13 @@ use Rattle.mp_results.specs.Discords.{discords}
 use Rattle.mp_defs.specs.Band.{first_kept}
 use Rattle.mp_replies.specs.Band.{live_profile}
 use Rattle.mp_replies.specs.Command.{Report, DiscordsReport}
-use Rattle.mp_replies.specs.Conditions.{Condition, no_slot, no_channel}
+use Rattle.mp_replies.specs.Conditions.{Condition, no_slot, lazy_slot, no_channel}
 use Rattle.mp_replies.specs.declared.refs.Ref.{Ref}
 use Rattle.mp_replies.specs.State.{State, Store, keep_at, series_at}
 use Rattle.mp_replies.specs.Text.{near_text}
 
 abbrev pub discords_conditions : List Store → Ref → List Condition
-discords_conditions stores at = no_slot stores at.slot ∷ no_channel stores at ∷ []
+discords_conditions stores at = no_slot stores at.slot ∷ lazy_slot stores at.slot ∷ no_channel stores at ∷ []
 
 -- ---- the report
 

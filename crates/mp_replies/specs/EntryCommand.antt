@@ -9,7 +9,7 @@ use Rattle.mp_replies.specs.declared.causes.Cause.TheVariants.{Index}
 use Rattle.mp_defs.specs.Band.{is_allowed_in}
 use Rattle.mp_replies.specs.Band.{is_dropped}
 use Rattle.mp_replies.specs.Command.{Report, EntryReport}
-use Rattle.mp_replies.specs.Conditions.{Condition, when, no_slot, no_channel}
+use Rattle.mp_replies.specs.Conditions.{Condition, when, no_slot, lazy_slot, no_channel}
 use Rattle.mp_replies.specs.declared.refs.Ref.{Ref}
 use Rattle.mp_replies.specs.State.{State, Store, keep_at, series_at}
 use Rattle.mp_replies.specs.Text.{row_text}
@@ -24,7 +24,7 @@ no_entry m stores at start = when (is_absent (keep_at stores at.slot) m (series_
 
 abbrev pub entry_conditions : ℕ → List Store → Ref → ℕ → List Condition
 entry_conditions m stores at start =
-    no_slot stores at.slot ∷ no_channel stores at ∷ no_entry m stores at start ∷ []
+    no_slot stores at.slot ∷ lazy_slot stores at.slot ∷ no_channel stores at ∷ no_entry m stores at start ∷ []
 
 -- ---- the report
 

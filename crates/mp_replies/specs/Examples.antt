@@ -10,13 +10,13 @@ use Rattle.mp_bytes.specs.Fields.{fields}
 use Rattle.mp_bytes.specs.Lines.{lines, ended_lines}
 use Rattle.mp_replies.specs.AppendCommand.{item_of}
 use Rattle.mp_replies.specs.declared.refs.Ref.{Ref}
-use Rattle.mp_replies.specs.Command.{Session, OpenAnew, KeepLast, Load, Append, Profile, End}
-use Rattle.mp_replies.specs.Command.{Join, Multi, Nearest, Pan, Match, Motifs, Discords, Chain, Chains, Segments}
-use Rattle.mp_replies.specs.Command.{Mpdist, Consensus}
+use Rattle.mp_replies.specs.Command.{Session, OpenAnew, KeepLast, Load, LoadLazy, Append, Advance, Partial}
+use Rattle.mp_replies.specs.Command.{Profile, Join, Multi, Nearest, Pan, Match, Motifs, Discords, Chain, Chains}
+use Rattle.mp_replies.specs.Command.{Segments, Mpdist, Consensus, End}
 use Rattle.mp_replies.specs.Conditions.{first_cause}
-use Rattle.mp_replies.specs.Json.{json_line, chain_data, chains_data, consensus_data, discords_data, entry_data}
-use Rattle.mp_replies.specs.Json.{match_data, motifs_data, mpdist_data, nearest_data, ok_data, pan_data}
-use Rattle.mp_replies.specs.Json.{profile_data}
+use Rattle.mp_replies.specs.Json.{json_line, advance_data, chain_data, chains_data, consensus_data, discords_data}
+use Rattle.mp_replies.specs.Json.{entry_data, match_data, motifs_data, mpdist_data, nearest_data, ok_data, pan_data}
+use Rattle.mp_replies.specs.Json.{partial_data, profile_data}
 use Rattle.mp_replies.specs.Json.{refused_data, segments_data, slots_data, window_data}
 use Rattle.mp_replies.specs.Line.{Asked, Nothing, Asks, Faulty, asked_of}
 use Rattle.mp_replies.specs.LoadCommand.{file_conditions, file_in, table_in}
@@ -24,7 +24,7 @@ use Rattle.mp_replies.specs.MotifsCommand.{motif_query}
 use Rattle.mp_replies.specs.Words.{Setup, job, session_job}
 use Rattle.mp_replies.specs.SessionCommand.{mode_of}
 use Rattle.mp_replies.specs.State.{Files, State, opening, first_mode, first_version, second_version, Closed, Open}
-use Rattle.mp_replies.specs.State.{Kept}
+use Rattle.mp_replies.specs.State.{Kept, Lazy}
 use Rattle.mp_replies.specs.Step.{cause}
 use Rattle.mp_replies.specs.Output.{output}
 
@@ -137,6 +137,19 @@ pub record AskedLines : Type 0 where
   pub empty_column : asked (codes "load 1 day.csv 1,,2") ≡ Faulty cause.Number
   pub many_columns : asked (codes "load 1 day.csv 1,2,3,4,5,6,7,8,9") ≡ Faulty cause.Number
   pub great_column : asked (codes "load 1 day.csv 65536") ≡ Faulty cause.Number
+  pub lazy : asked (codes "lazy 1 day.csv 2") ≡ Asks (LoadLazy 1 (codes "day.csv") 2 false)
+  pub lazy_header : asked (codes "lazy 1 day.csv 2 header") ≡ Asks (LoadLazy 1 (codes "day.csv") 2 true)
+  pub lazy_head : asked (codes "lazy 1 day.csv 2 head") ≡ Faulty cause.Fields
+  pub lazy_alone : asked (codes "lazy 1 day.csv") ≡ Faulty cause.Fields
+  pub lazy_columns : asked (codes "lazy 1 day.csv 1,2") ≡ Faulty cause.Number
+  pub lazy_great : asked (codes "lazy 1 day.csv 65536") ≡ Faulty cause.Number
+  pub advance : asked (codes "advance 1 262144") ≡ Asks (Advance 1 262144)
+  pub advance_none : asked (codes "advance 1 0") ≡ Faulty cause.Number
+  pub advance_more : asked (codes "advance 1 262145") ≡ Faulty cause.Number
+  pub advance_ref : asked (codes "advance 1.0 1") ≡ Faulty cause.Number
+  pub partial : asked (codes "partial 1") ≡ Asks (Partial 1)
+  pub partial_ref : asked (codes "partial 1.0") ≡ Faulty cause.Number
+  pub partial_alone : asked (codes "partial") ≡ Faulty cause.Fields
   pub slot_alone : asked (codes "profile 7") ≡ Asks (Profile record { slot = 7; channel = 0 })
   pub one_channel : asked (codes "profile 7.1") ≡ Asks (Profile record { slot = 7; channel = 1 })
   pub no_channel : asked (codes "profile 7.") ≡ Faulty cause.Number
@@ -206,6 +219,18 @@ kept_session_of a =
       stores = Kept 5 a ∷ replicate 7 Closed;
     }
 
+-- a session whose slot 0 has this series, and a profile of it in parts
+abbrev pub lazy_session_of : Series → State
+lazy_session_of a =
+    record {
+      window = 3;
+      scale = 0;
+      mode = first_mode;
+      lines = 1;
+      begun = true;
+      stores = Lazy a [] ∷ replicate 7 Closed;
+    }
+
 -- one more sample than a series can have
 abbrev pub FullSeriesIsRefused : Type 0
 FullSeriesIsRefused =
@@ -216,6 +241,12 @@ abbrev pub FullKeptSeriesIsRefused : Type 0
 FullKeptSeriesIsRefused =
     (a : Series) (files : Files)
     → length a ≡ 4294967296 → cause (kept_session_of a) (codes "append 0 1") files ≡ Some cause.Full
+
+-- also where its profile is made in parts
+abbrev pub FullLazySeriesIsRefused : Type 0
+FullLazySeriesIsRefused =
+    (a : Series) (files : Files)
+    → length a ≡ 262144 → cause (lazy_session_of a) (codes "append 0 1") files ≡ Some cause.Full
 
 abbrev pub words : List (List ℕ)
 words = codes "--window" ∷ codes "3" ∷ []
@@ -273,6 +304,28 @@ KeptRefusalsOutput =
     ≡ codes "ok 1\nok 2 0\nrefused 3 slot\nrefused 4 number\nrefused 5 channel\nrefused 6 index\nrefused 7 slot\n"
     ++ codes "refused 8 kept\nrefused 9 kept\nrefused 10 sample 1\nok 11 4\nrefused 12 index\nentry 13 1 - - - -\n"
     ++ codes "refused 14 index\nok 15 0\nprofile 16 0\n"
+
+-- a profile in parts: its diagonals are covered by the reversals of their numbers, and an append brings a pair to each
+-- that is covered
+abbrev pub LazyOutput : Type 0
+LazyOutput =
+    (files : Files) → file_in files (codes "s.csv") ≡ Some (codes "1\n2\n3\n1\n2\n3\n")
+    → output words files
+    (codes "lazy 1 s.csv 0\npartial 1\nadvance 1 1\npartial 1\nappend 1 1\npartial 1\nadvance 1 9\npartial 1\n"
+    ++ codes "profile 1\nadvance 0 1\n")
+    ≡ codes "ok 1 6\npartial 2 4 2\n0 - - - -\n1 - - - -\n2 - - - -\n3 - - - -\n"
+    ++ codes "advance 3 1 1\npartial 4 4 1\n0 6 2 - 2\n1 6 3 - 3\n2 6 0 0 -\n3 6 1 1 -\nok 5 7\n"
+    ++ codes "partial 6 5 2\n0 6 2 - 2\n1 6 3 - 3\n2 6 0 0 4\n3 6 1 1 -\n4 6 2 2 -\n"
+    ++ codes "advance 7 2 0\npartial 8 5 0\n0 0 3 - 3\n1 0 4 - 4\n2 6 0 0 4\n3 0 0 0 -\n4 0 1 1 -\n"
+    ++ codes "refused 9 lazy\nrefused 10 lazy\n"
+
+-- `lazy` stands behind `slot` and `kept`
+abbrev pub LazyRefusalsOutput : Type 0
+LazyRefusalsOutput =
+    (files : Files) → output words files
+    (codes "session 2\nkeep 1 3\nadvance 1 1\npartial 1\npartial 0\nadvance 2 1\npartial 9\nlazy 8 none 0\n")
+    ≡ codes "ok 1\nok 2 0\nrefused 3 kept\nrefused 4 kept\nrefused 5 lazy\nrefused 6 slot\nrefused 7 slot\n"
+    ++ codes "refused 8 slot\n"
 
 -- version 1 has no kept slots
 abbrev pub FirstVersionOutput : Type 0
@@ -437,6 +490,15 @@ pub record SpelledReports : Type 0 where
       ≡ codes "{\"kind\":\"profile\",\"line\":4,\"windows\":[{\"dist\":\"6\",\"index\":0,\"left\":0,"
       ++ codes "\"right\":null,\"start\":2},{\"dist\":null,\"index\":null,\"left\":null,\"right\":null,"
       ++ codes "\"start\":3}]}\n"
+  pub advance : json_line (advance_data 3 1 2)
+      ≡ codes "{\"done\":1,\"kind\":\"advance\",\"left\":2,\"line\":3}\n"
+  pub partial : json_line (partial_data 4 record {
+    all = Some (near_at 2 6) ∷ [];
+    left = None ∷ [];
+    right = Some (near_at 2 6) ∷ [];
+  } 1)
+      ≡ codes "{\"kind\":\"partial\",\"left\":1,\"line\":4,\"windows\":[{\"dist\":\"6\",\"index\":2,"
+      ++ codes "\"left\":null,\"right\":2,\"start\":0}]}\n"
   pub no_windows : json_line (profile_data 1 0 record { all = []; left = []; right = [] })
       ≡ codes "{\"kind\":\"profile\",\"line\":1,\"windows\":[]}\n"
   pub join : json_line (slots_data (codes "join") 4 (Some (near_at 0 3) ∷ None ∷ []))

@@ -3,15 +3,13 @@ use Rattle.std.specs.Prelude.{ℕ, List, [], ◌∷◌, ◌++◌, codes, Option}
 use Rattle.mp_nums.specs.declared.nearest.Near.{Near}
 use Rattle.mp_defs.specs.Profile.{ab_join}
 use Rattle.mp_replies.specs.Command.{Report, JoinReport}
-use Rattle.mp_replies.specs.Conditions.{Condition, no_slots, kept_slots, no_channels}
+use Rattle.mp_replies.specs.Conditions.{Condition, refs_conditions}
 use Rattle.mp_replies.specs.declared.refs.Ref.{Ref}
 use Rattle.mp_replies.specs.State.{State, Store, series_at}
 use Rattle.mp_replies.specs.Text.{column_text}
 
 abbrev pub join_conditions : List Store → Ref → Ref → List Condition
-join_conditions stores a b =
-    let both = a ∷ b ∷ [] in
-    no_slots stores both ∷ kept_slots stores both ∷ no_channels stores both ∷ []
+join_conditions stores a b = refs_conditions stores (a ∷ b ∷ [])
 
 -- ---- the report
 

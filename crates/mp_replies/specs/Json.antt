@@ -17,7 +17,8 @@ use Rattle.mp_results.specs.Consensus.{Central}
 use Rattle.mp_results.specs.Curve.{whole}
 use Rattle.mp_results.specs.Motifs.{Repeated}
 use Rattle.mp_replies.specs.declared.causes.Cause.{Cause}
-use Rattle.mp_replies.specs.Command.{Report, SessionReport, OpenReport, KeepReport, LoadReport, AppendReport}
+use Rattle.mp_replies.specs.Command.{Report, SessionReport, OpenReport, KeepReport, LoadReport, LazyReport}
+use Rattle.mp_replies.specs.Command.{AppendReport, AdvanceReport, PartialReport}
 use Rattle.mp_replies.specs.Command.{WindowReport, ProfileReport, LiveProfileReport, EntryReport, JoinReport}
 use Rattle.mp_replies.specs.Command.{MpdistReport, MultiReport, NearestReport, PanReport, MatchReport}
 use Rattle.mp_replies.specs.Command.{MotifsReport, DiscordsReport, ChainReport, ChainsReport, SegmentsReport}
@@ -181,6 +182,15 @@ abbrev pub profile_data : ℕ → ℕ → Columns → Data
 profile_data line first columns =
     report_object (codes "profile") line ((codes "windows", rows_array first columns) ∷ [])
 
+abbrev pub advance_data : ℕ → ℕ → ℕ → Data
+advance_data line done left =
+    report_object (codes "advance") line ((codes "done", number_of done) ∷ (codes "left", number_of left) ∷ [])
+
+abbrev pub partial_data : ℕ → Columns → ℕ → Data
+partial_data line columns left =
+    report_object (codes "partial") line
+    ((codes "left", number_of left) ∷ (codes "windows", rows_array 0 columns) ∷ [])
+
 abbrev pub entry_data : ℕ → ℕ → Option Near → Option Near → Option Near → Data
 entry_data line start all left right =
     report_object (codes "entry") line ((codes "window", row_object start all left right) ∷ [])
@@ -232,7 +242,10 @@ report_data line SessionReport = ok_data line None
 report_data line (OpenReport samples) = ok_data line (Some samples)
 report_data line (KeepReport samples) = ok_data line (Some samples)
 report_data line (LoadReport samples) = ok_data line (Some samples)
+report_data line (LazyReport samples) = ok_data line (Some samples)
 report_data line (AppendReport samples) = ok_data line (Some samples)
+report_data line (AdvanceReport done left) = advance_data line done left
+report_data line (PartialReport columns left) = partial_data line columns left
 report_data line (WindowReport start samples scale) = window_data line start samples scale
 report_data line (ProfileReport columns) = profile_data line 0 columns
 report_data line (LiveProfileReport first columns) = profile_data line first columns

@@ -14,8 +14,8 @@ use Rattle.mp_replies.specs.Words.{Job}
 use Rattle.mp_replies.specs.State.{Files, State, channels_at, first_version, second_version}
 use Rattle.mp_replies.specs.Answer.{Silent, Refused, Ended}
 use Rattle.mp_replies.specs.Command.{Report}
-use Rattle.mp_replies.specs.Command.{Command, Session, KeepLast, Load, Append, Nearest, Pan, Match, Motifs}
-use Rattle.mp_replies.specs.Command.{Discords, Segments, Consensus}
+use Rattle.mp_replies.specs.Command.{Command, Session, KeepLast, Load, LoadLazy, Append, Advance, Nearest, Pan}
+use Rattle.mp_replies.specs.Command.{Match, Motifs, Discords, Segments, Consensus}
 use Rattle.mp_replies.specs.Limits.{max_channels, max_column, max_count, max_factor, max_lengths, max_motifs, max_ranks}
 use Rattle.mp_replies.specs.Limits.{max_refs}
 use Rattle.mp_replies.specs.Limits.{max_square, min_refs}
@@ -92,15 +92,16 @@ rank words.Fields = 3
 rank words.Number = 4
 rank words.Slot = 5
 rank words.Kept = 6
-rank words.Channel = 7
-rank (words.Sample number) = 8
-rank words.Full = 9
-rank words.File = 10
-rank words.FileSize = 11
-rank (words.Record number) = 12
-rank words.Rows = 13
-rank words.Index = 14
-rank words.Missing = 15
+rank words.Lazy = 7
+rank words.Channel = 8
+rank (words.Sample number) = 9
+rank words.Full = 10
+rank words.File = 11
+rank words.FileSize = 12
+rank (words.Record number) = 13
+rank words.Rows = 14
+rank words.Index = 15
+rank words.Missing = 16
 
 -- the word of each stands before that of the next
 abbrev pub StandInOrder : List Condition → Type 0
@@ -194,6 +195,8 @@ abbrev pub IsWithin : Command → Type 0
 IsWithin (Session mode) = (first_version ≤ mode.version) × (mode.version ≤ second_version)
 IsWithin (KeepLast slot keep) = (min_window ≤ keep) × (keep ≤ max_samples)
 IsWithin (Load slot file cols header) = AreColumns cols
+IsWithin (LoadLazy slot file column header) = column ≤ max_column
+IsWithin (Advance slot count) = IsCount max_count count
 IsWithin (Nearest at k) = IsCount max_ranks k
 IsWithin (Pan at lo hi) = AreLengths lo hi
 IsWithin (Match at query start radius max) = (radius ≤ max_square) × IsCount max_count max

@@ -15,9 +15,12 @@ pub mod SessionCommand
 pub mod OpenCommand
 pub mod KeepCommand
 pub mod LoadCommand
+pub mod LazyCommand
 pub mod AppendCommand
+pub mod AdvanceCommand
 pub mod WindowCommand
 pub mod ProfileCommand
+pub mod PartialCommand
 pub mod EntryCommand
 pub mod JoinCommand
 pub mod MultiCommand

@@ -16,10 +16,11 @@ use Rattle.mp_defs.specs.Limits.{max_samples, min_window}
 use Rattle.mp_replies.specs.declared.causes.Cause.{Cause}
 use Rattle.mp_replies.specs.declared.causes.Cause.TheVariants as cause
 use Rattle.mp_replies.specs.declared.refs.Ref.{Ref}
-use Rattle.mp_replies.specs.Command.{Command, Session, Pan, End}
+use Rattle.mp_replies.specs.Command.{Command, Session, Advance, Pan, End}
 use Rattle.mp_replies.specs.ConsensusCommand.{consensus_fits, consensus_shape}
 use Rattle.mp_replies.specs.Limits.{max_channels, max_column, max_count, max_digits, max_factor, max_motifs, max_ranks}
 use Rattle.mp_replies.specs.Limits.{max_refs, max_square, min_refs}
+use Rattle.mp_replies.specs.LazyCommand.{lazy_by, lazy_shape}
 use Rattle.mp_replies.specs.LoadCommand.{header_of, load_shape}
 use Rattle.mp_replies.specs.Line.{Nothing, Asks, Faulty, asked_in, asked_of, asks, command_in}
 use Rattle.mp_replies.specs.Commands.{Form, forms, made, row, since}
@@ -35,7 +36,7 @@ use Rattle.mp_replies.specs.PanCommand.{are_lengths, lengths, lengths_by, pan_sh
 use Rattle.mp_replies.specs.SegmentsCommand.{segments_shape}
 use Rattle.mp_replies.specs.SessionCommand.{is_named, mode_of, session_of, session_with, words_of}
 use Rattle.mp_replies.specs.State.{first_version, second_version}
-use Rattle.mp_replies.specs.Shapes.{Shape, by_shape, last, no_field, ref_and_count, ◌&◌}
+use Rattle.mp_replies.specs.Shapes.{Shape, by_shape, last, no_field, ref_and_count, slot_and_count, ◌&◌}
 use Rattle.mp_replies.specs.Laws.{AreColumns, AreLengths, IsCount, IsMotifQuery, IsWithin, LimitsAreKept}
 
 -- ---- numbers
@@ -270,6 +271,17 @@ load_gives =
     (λ fields found e.
     (and_gives columns header_of AreColumns (λ _. Unit {0}) columns_give (λ text a is. tt) fields found e).0))
 
+lazy_gives : Gives lazy_shape.read (λ found. found.1.1.0 ≤ max_column)
+lazy_gives =
+    behind number (Some & column & header_of) (λ found. found.1.0 ≤ max_column)
+    (behind Some (column & header_of) (λ found. found.0 ≤ max_column)
+    (λ fields found e.
+    (and_gives column header_of (λ n. n ≤ max_column) (λ _. Unit {0}) (at_most max_digits max_column)
+    (λ text a is. tt) fields found e).0))
+
+advance_gives : Gives slot_and_count.read (λ found. IsCount max_count found.1)
+advance_gives = behind number (last count) (IsCount max_count) (last_gives count (IsCount max_count) counts)
+
 -- ---- the forms
 
 pub record KeepsLimits (form : Form) : Type 0 where
@@ -374,6 +386,13 @@ keep_within : (found : ℕ × ℕ) → (min_window ≤ found.1) × (found.1 ≤ 
     → IsWithin (keep_by found)
 keep_within (slot, keep) h = h
 
+lazy_within : (found : ℕ × (List ℕ × (ℕ × Bool))) → found.1.1.0 ≤ max_column → IsWithin (lazy_by found)
+lazy_within (slot, (file, (column, header))) h = h
+
+advance_within : (found : ℕ × ℕ) → IsCount max_count found.1
+    → IsWithin ((λ (p : ℕ × ℕ). Advance p.0 p.1) found)
+advance_within (slot, most) h = h
+
 pan_within : (found : Ref × (ℕ × ℕ)) → AreLengths found.1.0 found.1.1
     → IsWithin ((λ (p : Ref × (ℕ × ℕ)). Pan p.0 p.1.0 p.1.1) found)
 pan_within (at, (lo, hi)) h = h
@@ -385,7 +404,11 @@ forms_within version =
     and since_within second_version version (row (codes "keep") keep_shape keep_by)
     (row_within (codes "keep") keep_shape _ (λ fields found fits is. keep_within found (keep_gives fields found is)))
     and row_within (codes "load") load_shape _ (λ fields found fits is. load_gives fields found is)
+    and row_within (codes "lazy") lazy_shape _ (λ fields found fits is. lazy_within found (lazy_gives fields found is))
     and free (codes "append") _ _ (λ _. tt)
+    and row_within (codes "advance") slot_and_count _
+    (λ fields found fits is. advance_within found (advance_gives fields found is))
+    and free (codes "partial") _ _ (λ _. tt)
     and free (codes "window") _ _ (λ _. tt)
     and free (codes "profile") _ _ (λ _. tt)
     and free (codes "entry") _ _ (λ _. tt)

@@ -10,7 +10,7 @@ use Rattle.mp_text.specs.Table.{Fault, BadField, NoField, TooManyRows, data_reco
 use Rattle.mp_replies.specs.declared.causes.Cause.TheVariants.{Channel, File, FileSize, Record, Rows}
 use Rattle.mp_replies.specs.Change.{Change, PutChannels}
 use Rattle.mp_replies.specs.Command.{Command, Load}
-use Rattle.mp_replies.specs.Conditions.{Condition, when, no_slot, kept_slot}
+use Rattle.mp_replies.specs.Conditions.{Condition, when, no_slot, kept_slot, lazy_slot}
 use Rattle.mp_replies.specs.Limits.{max_file}
 use Rattle.mp_replies.specs.Numbers.{number, columns}
 use Rattle.mp_replies.specs.Shapes.{Shape, ◌&◌}
@@ -69,6 +69,7 @@ abbrev pub load_conditions : List Store → ℕ → List ℕ → List Condition
 load_conditions stores slot cols =
     no_slot stores slot
     ∷ kept_slot stores slot
+    ∷ lazy_slot stores slot
     ∷ when (not (length cols == length (channels_at stores slot))) Channel
     ∷ []
 

@@ -8,7 +8,7 @@ use Rattle.mp_results.specs.Matches.{matches}
 use Rattle.mp_replies.specs.declared.causes.Cause.TheVariants.{Missing}
 use Rattle.mp_replies.specs.Command.{Report, MatchReport}
 use Rattle.mp_replies.specs.Command.{Command, Match}
-use Rattle.mp_replies.specs.Conditions.{Condition, when, no_slots, kept_slots, no_channels, no_window}
+use Rattle.mp_replies.specs.Conditions.{Condition, when, no_window, refs_conditions}
 use Rattle.mp_replies.specs.Numbers.{number, count, squared, ref}
 use Rattle.mp_replies.specs.Shapes.{Shape, of_length, last, ◌&◌}
 use Rattle.mp_replies.specs.declared.refs.Ref.{Ref}
@@ -25,10 +25,8 @@ match_by (at, (query, (start, (radius, max)))) = Match at query start radius max
 -- a window with a missing sample has no distance to any other
 abbrev pub match_conditions : ℕ → List Store → Ref → Ref → ℕ → List Condition
 match_conditions m stores at query start =
-    no_slots stores (at ∷ query ∷ [])
-    ∷ kept_slots stores (at ∷ query ∷ [])
-    ∷ no_channels stores (at ∷ query ∷ [])
-    ∷ no_window m stores query start
+    refs_conditions stores (at ∷ query ∷ [])
+    ++ no_window m stores query start
     ∷ when (not (is_free m (series_at stores query) start)) Missing
     ∷ []
 

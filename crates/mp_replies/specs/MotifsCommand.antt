@@ -3,7 +3,7 @@ use Rattle.std.specs.Prelude.{ℕ, List, [], ◌∷◌, ◌++◌, length, codes,
 use Rattle.mp_results.specs.Motifs.{MotifQuery, Repeated, motifs}
 use Rattle.mp_replies.specs.Command.{Report, MotifsReport}
 use Rattle.mp_replies.specs.Command.{Command, Motifs}
-use Rattle.mp_replies.specs.Conditions.{Condition, no_slot, kept_slot, no_channel}
+use Rattle.mp_replies.specs.Conditions.{Condition, ref_conditions}
 use Rattle.mp_replies.specs.Numbers.{few, squared, neighbours, ref}
 use Rattle.mp_replies.specs.Shapes.{Shape, of_length, last, ◌&◌}
 use Rattle.mp_replies.specs.declared.refs.Ref.{Ref}
@@ -22,7 +22,7 @@ motifs_by (at, (count, (cutoff, (radius, (neighbours, matches))))) =
     Motifs at (motif_query count cutoff radius neighbours matches)
 
 abbrev pub motifs_conditions : List Store → Ref → List Condition
-motifs_conditions stores at = no_slot stores at.slot ∷ kept_slot stores at.slot ∷ no_channel stores at ∷ []
+motifs_conditions stores at = ref_conditions stores at
 
 -- ---- the report
 

@@ -5,14 +5,12 @@ use Rattle.mp_defs.specs.Profile.{ab_join}
 use Rattle.mp_defs.specs.Series.{Series}
 use Rattle.mp_results.specs.Mpdist.{mpdist_of}
 use Rattle.mp_replies.specs.Command.{Report, MpdistReport}
-use Rattle.mp_replies.specs.Conditions.{Condition, no_slots, kept_slots, no_channels}
+use Rattle.mp_replies.specs.Conditions.{Condition, refs_conditions}
 use Rattle.mp_replies.specs.declared.refs.Ref.{Ref}
 use Rattle.mp_replies.specs.State.{State, Store, series_at}
 
 abbrev pub mpdist_conditions : List Store → Ref → Ref → List Condition
-mpdist_conditions stores a b =
-    let both = a ∷ b ∷ [] in
-    no_slots stores both ∷ kept_slots stores both ∷ no_channels stores both ∷ []
+mpdist_conditions stores a b = refs_conditions stores (a ∷ b ∷ [])
 
 -- ---- the report
 

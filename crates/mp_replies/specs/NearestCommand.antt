@@ -4,7 +4,7 @@ use Rattle.std.specs.List.{enumerate_from}
 use Rattle.mp_nums.specs.declared.nearest.Near.{Near}
 use Rattle.mp_results.specs.Ranks.{ranks_of}
 use Rattle.mp_replies.specs.Command.{Report, NearestReport}
-use Rattle.mp_replies.specs.Conditions.{Condition, no_slot, kept_slot, no_channel}
+use Rattle.mp_replies.specs.Conditions.{Condition, ref_conditions}
 use Rattle.mp_replies.specs.Numbers.{rank_count, ref}
 use Rattle.mp_replies.specs.Shapes.{Shape, of_length, last, ◌&◌}
 use Rattle.mp_replies.specs.declared.refs.Ref.{Ref}
@@ -15,7 +15,7 @@ abbrev pub nearest_shape : Shape (Ref × ℕ)
 nearest_shape = record { fits = of_length 2; read = ref & last rank_count }
 
 abbrev pub nearest_conditions : List Store → Ref → List Condition
-nearest_conditions stores at = no_slot stores at.slot ∷ kept_slot stores at.slot ∷ no_channel stores at ∷ []
+nearest_conditions stores at = ref_conditions stores at
 
 -- ---- the report
 

@@ -7,7 +7,7 @@ use Rattle.mp_nums.specs.declared.finds.Pair.{Pair}
 use Rattle.mp_defs.specs.Limits.{max_window, min_window}
 use Rattle.mp_results.specs.Pan.{pan_of}
 use Rattle.mp_replies.specs.Command.{Report, PanReport}
-use Rattle.mp_replies.specs.Conditions.{Condition, no_slot, kept_slot, no_channel}
+use Rattle.mp_replies.specs.Conditions.{Condition, ref_conditions}
 use Rattle.mp_replies.specs.Limits.{max_lengths}
 use Rattle.mp_replies.specs.Numbers.{number, ref}
 use Rattle.mp_replies.specs.Shapes.{Shape, of_length, last, ◌&◌}
@@ -33,7 +33,7 @@ abbrev pub pan_shape : Shape (Ref × (ℕ × ℕ))
 pan_shape = record { fits = of_length 3; read = ref & lengths }
 
 abbrev pub pan_conditions : List Store → Ref → List Condition
-pan_conditions stores at = no_slot stores at.slot ∷ kept_slot stores at.slot ∷ no_channel stores at ∷ []
+pan_conditions stores at = ref_conditions stores at
 
 -- ---- the report
 

@@ -7,13 +7,13 @@ use Rattle.mp_defs.specs.Series.{Series}
 use Rattle.mp_defs.specs.Band.{first_kept}
 use Rattle.mp_replies.specs.Band.{live_profile}
 use Rattle.mp_replies.specs.Command.{Report, ProfileReport, LiveProfileReport}
-use Rattle.mp_replies.specs.Conditions.{Condition, no_slot, no_channel}
+use Rattle.mp_replies.specs.Conditions.{Condition, no_slot, lazy_slot, no_channel}
 use Rattle.mp_replies.specs.declared.refs.Ref.{Ref}
 use Rattle.mp_replies.specs.State.{State, Store, keep_at, series_at}
 use Rattle.mp_replies.specs.Text.{row_text}
 
 abbrev pub profile_conditions : List Store → Ref → List Condition
-profile_conditions stores at = no_slot stores at.slot ∷ no_channel stores at ∷ []
+profile_conditions stores at = no_slot stores at.slot ∷ lazy_slot stores at.slot ∷ no_channel stores at ∷ []
 
 -- ---- the report
 

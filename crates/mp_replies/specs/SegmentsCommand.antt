@@ -8,7 +8,7 @@ use Rattle.mp_results.specs.Regimes.{regimes_in}
 use Rattle.mp_defs.specs.Profile.{matrix_profile}
 use Rattle.mp_replies.specs.Command.{Report, SegmentsReport}
 use Rattle.mp_replies.specs.Command.{Command, Segments}
-use Rattle.mp_replies.specs.Conditions.{Condition, no_slot, kept_slot, no_channel}
+use Rattle.mp_replies.specs.Conditions.{Condition, ref_conditions}
 use Rattle.mp_replies.specs.Numbers.{count, factor, ref}
 use Rattle.mp_replies.specs.Shapes.{Shape, of_length, last, ◌&◌}
 use Rattle.mp_replies.specs.declared.refs.Ref.{Ref}
@@ -21,7 +21,7 @@ abbrev pub segments_by : Ref × (ℕ × ℕ) → Command
 segments_by (at, (most, lengths)) = Segments at most lengths
 
 abbrev pub segments_conditions : List Store → Ref → List Condition
-segments_conditions stores at = no_slot stores at.slot ∷ kept_slot stores at.slot ∷ no_channel stores at ∷ []
+segments_conditions stores at = ref_conditions stores at
 
 -- ---- the report
 

@@ -54,5 +54,11 @@ ref_and_start = record { fits = of_length 2; read = ref & last number }
 abbrev pub ref_and_count : Shape (Ref × ℕ)
 ref_and_count = record { fits = of_length 2; read = ref & last count }
 
+abbrev pub one_slot : Shape ℕ
+one_slot = record { fits = of_length 1; read = last number }
+
+abbrev pub slot_and_count : Shape (ℕ × ℕ)
+slot_and_count = record { fits = of_length 2; read = number & last count }
+
 abbrev pub slot_and_number : Shape (ℕ × ℕ)
 slot_and_number = record { fits = of_length 2; read = number & last number }

@@ -14,12 +14,15 @@ use Rattle.mp_replies.specs.declared.refs.Ref.{Ref}
 abbrev pub Files : Type 0
 Files = FinMap (slice_cmp nat_cmp) (List ℕ)
 
--- a slot of the session: closed, or channels of equal length, or one channel of which the last samples are kept
+-- a slot of the session: closed, or channels of equal length, or one channel of which the last samples are kept, or one
+-- whose profile is made in parts
 pub data Store : Type 0 where
   Closed : Store
   Open : (channels : List Series) → Store
   -- how many samples are kept, and all samples that were ever appended
   Kept : (keep : ℕ) (series : Series) → Store
+  -- the samples, and the diagonals that are covered, in the order in which they were
+  Lazy : (series : Series) (covered : List ℕ) → Store
 
 pub record State : Type 0 where
   pub window : ℕ
@@ -67,20 +70,40 @@ abbrev pub is_closed : Store → Bool
 is_closed Closed = true
 is_closed (Open channels) = false
 is_closed (Kept keep series) = false
+is_closed (Lazy series covered) = false
 
 -- how many samples of a slot are kept, none where all are
 abbrev pub keep_in : Store → Option ℕ
 keep_in Closed = None
 keep_in (Open channels) = None
 keep_in (Kept keep series) = Some keep
+keep_in (Lazy series covered) = None
 
 abbrev pub keep_at : List Store → ℕ → Option ℕ
 keep_at stores slot = keep_in (store_at stores slot)
+
+-- whether its profile is made in parts
+abbrev pub is_lazy : Store → Bool
+is_lazy Closed = false
+is_lazy (Open channels) = false
+is_lazy (Kept keep series) = false
+is_lazy (Lazy series covered) = true
+
+-- the diagonals that are covered, none where its profile isn't made in parts
+abbrev pub covered_in : Store → List ℕ
+covered_in Closed = []
+covered_in (Open channels) = []
+covered_in (Kept keep series) = []
+covered_in (Lazy series covered) = covered
+
+abbrev pub covered_at : List Store → ℕ → List ℕ
+covered_at stores slot = covered_in (store_at stores slot)
 
 abbrev pub channels_in : Store → List Series
 channels_in Closed = []
 channels_in (Open channels) = channels
 channels_in (Kept keep series) = series ∷ []
+channels_in (Lazy series covered) = series ∷ []
 
 abbrev pub channels_at : List Store → ℕ → List Series
 channels_at stores slot = channels_in (store_at stores slot)

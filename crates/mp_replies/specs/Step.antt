@@ -3,9 +3,10 @@ use Rattle.std.specs.Prelude.{ℕ, ◌+◌, Bool, true, false, List, ◌++◌, i
 use Rattle.mp_replies.specs.declared.causes.Cause.{Cause}
 use Rattle.mp_replies.specs.State.{Files, State}
 use Rattle.mp_replies.specs.Change.{Change, Keep, changed}
-use Rattle.mp_replies.specs.Command.{Command, Load, End, Report}
+use Rattle.mp_replies.specs.Command.{Command, Load, LoadLazy, End, Report}
 use Rattle.mp_replies.specs.Commands.{meaning}
 use Rattle.mp_replies.specs.Conditions.{Condition, first_cause}
+use Rattle.mp_replies.specs.LazyCommand.{lazy_conditions}
 use Rattle.mp_replies.specs.LoadCommand.{load_conditions}
 use Rattle.mp_replies.specs.SessionCommand.{mode_behind}
 use Rattle.mp_replies.specs.Answer.{Answer}
@@ -23,8 +24,9 @@ conditions state files command = state_conditions state command ++ (meaning comm
 abbrev pub change_by : State → Files → Command → Change
 change_by state files command = (meaning command).change state files
 
-abbrev pub report_by : State → Command → Report
-report_by state command = (meaning command).report state
+-- from the state before it and the one behind it
+abbrev pub report_by : State → State → Command → Report
+report_by state later command = (meaning command).report state later
 
 -- whether no line behind an accepted command is run
 abbrev pub is_last : Command → Bool
@@ -76,14 +78,14 @@ after_by state (IsAccepted command change) =
       mode = mode_behind state.mode command;
       lines = state.lines + 1;
       begun = true;
-      stores = changed state.stores change;
+      stores = changed state.window state.stores change;
     }
 
-abbrev pub answer_by : State → Verdict → Answer
-answer_by later Passes = Silent
-answer_by later (IsRefused cause) = Refused cause
-answer_by later (IsAccepted command change) =
-    if is_last command then Ended (report_by later command) else Accepted (report_by later command)
+abbrev pub answer_by : State → State → Verdict → Answer
+answer_by state later Passes = Silent
+answer_by state later (IsRefused cause) = Refused cause
+answer_by state later (IsAccepted command change) =
+    if is_last command then Ended (report_by state later command) else Accepted (report_by state later command)
 
 -- why a line is refused, none where it isn't
 unfoldable pub cause : State → List ℕ → Files → Option Cause
@@ -95,14 +97,16 @@ after state line files = after_by state (verdict state line files)
 
 -- the answer to a line
 unfoldable pub answer : State → List ℕ → Files → Answer
-answer state line files = answer_by (after state line files) (verdict state line files)
+answer state line files = answer_by state (after state line files) (verdict state line files)
 
 -- ---- the lines that need a file
 
--- a file is fetched for a load alone, and only where nothing refuses it without the file
+-- a file is fetched for a load alone, whether the profile is made at once or in parts, and only where nothing refuses
+-- it without the file
 abbrev pub fetches_by : State → Asked → Bool
 fetches_by state (Asks (Load slot file columns header)) =
     is_none (first_cause (load_conditions state.stores slot columns))
+fetches_by state (Asks (LoadLazy slot file column header)) = is_none (first_cause (lazy_conditions slot))
 fetches_by state (Asks other) = false
 fetches_by state Nothing = false
 fetches_by state (Faulty cause) = false

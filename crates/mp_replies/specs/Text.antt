@@ -13,6 +13,7 @@ word_of cause.Fields = codes "fields"
 word_of cause.Number = codes "number"
 word_of cause.Slot = codes "slot"
 word_of cause.Kept = codes "kept"
+word_of cause.Lazy = codes "lazy"
 word_of cause.Channel = codes "channel"
 word_of (cause.Sample number) = codes "sample " ++ decimal number
 word_of cause.Full = codes "full"

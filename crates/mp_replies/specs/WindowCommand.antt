@@ -3,13 +3,13 @@ use Rattle.std.specs.Prelude.{ℕ, List, [], ◌∷◌, ◌++◌, take, drop, co
 use Rattle.mp_defs.specs.Series.{Series}
 use Rattle.mp_text.specs.SampleText.{sample_text}
 use Rattle.mp_replies.specs.Command.{Report, WindowReport}
-use Rattle.mp_replies.specs.Conditions.{Condition, no_slot, kept_slot, no_channel, no_window}
+use Rattle.mp_replies.specs.Conditions.{Condition, no_window, ref_conditions}
 use Rattle.mp_replies.specs.declared.refs.Ref.{Ref}
 use Rattle.mp_replies.specs.State.{State, Store, series_at}
 
 abbrev pub window_conditions : ℕ → List Store → Ref → ℕ → List Condition
 window_conditions m stores at start =
-    no_slot stores at.slot ∷ kept_slot stores at.slot ∷ no_channel stores at ∷ no_window m stores at start ∷ []
+    ref_conditions stores at ++ no_window m stores at start ∷ []
 
 -- ---- the report
 

@@ -15,6 +15,8 @@ pub enum Cause {
     Slot,
     /// The last samples of a slot are kept, and the command asks for more.
     Kept,
+    /// The profile of a slot is made in parts, and the command asks for the whole, or the other way round.
+    Lazy,
     /// A slot has no such channel, or another number of channels.
     Channel,
     /// The item of this number, counted from 1, is the first with a value that is no sample, or with another number of

@@ -9,6 +9,7 @@ ghost use Rattle.mp_replies.specs.Examples.{
   BadItemIsNamed,
   FullSeriesIsRefused,
   FullKeptSeriesIsRefused,
+  FullLazySeriesIsRefused,
   PlainOutput,
   ShortOutput,
   RefusedPieceOutput,
@@ -17,6 +18,8 @@ ghost use Rattle.mp_replies.specs.Examples.{
   RefusalsOutput,
   KeptOutput,
   KeptRefusalsOutput,
+  LazyOutput,
+  LazyRefusalsOutput,
   FirstVersionOutput,
   WideJsonOutput,
   WideOutput,
@@ -76,6 +79,11 @@ pub fn full_kept_series_is_refused()
     ensures { FullKeptSeriesIsRefused }
 {}
 
+/// A series with a profile in parts takes no more than other series.
+pub fn full_lazy_series_is_refused()
+    ensures { FullLazySeriesIsRefused }
+{}
+
 /// The profile of 1 2 3 1 2 3 at window length 3.
 pub fn plain_output()
     ensures { PlainOutput }
@@ -115,6 +123,16 @@ pub fn kept_output()
 /// Why lines on a slot of which the last samples are kept are refused, and `open` in its place.
 pub fn kept_refusals_output()
     ensures { KeptRefusalsOutput }
+{}
+
+/// A profile in parts, diagonal by diagonal.
+pub fn lazy_output()
+    ensures { LazyOutput }
+{}
+
+/// Why lines that ask for a profile in parts are refused on other slots.
+pub fn lazy_refusals_output()
+    ensures { LazyRefusalsOutput }
 {}
 
 /// A command of the second version in the first one.

@@ -13,11 +13,12 @@ mod refs;
 pub use causes::Cause;
 pub use examples::{
     asked_lines, bad_item_is_named, chain_output, consensus_output, end_output, entry_output,
-    first_version_output, full_kept_series_is_refused, full_series_is_refused, join_output,
-    json_output, kept_output, kept_refusals_output, lines_end_or_not, load_output, loaded_files,
-    made_output, multi_output, open_output, pan_output, pattern_output, plain_output,
-    refusals_output, refused_piece_output, scaled_output, segments_output, short_output,
-    spelled_items, spelled_reports, spelled_words, wide_json_output, wide_output,
+    first_version_output, full_kept_series_is_refused, full_lazy_series_is_refused,
+    full_series_is_refused, join_output, json_output, kept_output, kept_refusals_output,
+    lazy_output, lazy_refusals_output, lines_end_or_not, load_output, loaded_files, made_output,
+    multi_output, open_output, pan_output, pattern_output, plain_output, refusals_output,
+    refused_piece_output, scaled_output, segments_output, short_output, spelled_items,
+    spelled_reports, spelled_words, wide_json_output, wide_output,
 };
 pub use laws::{
     answers_refuse_by_cause, appends_add_up, bad_items_are_the_first, ends_are_answered,

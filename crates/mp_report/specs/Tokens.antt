@@ -23,6 +23,12 @@ abbrev pub kind_tokens : List ℕ → ℕ → List Token
 kind_tokens kind line =
     token.key (codes "kind") ∷ token.string kind ∷ token.key (codes "line") ∷ token.number (decimal line) ∷ []
 
+-- the same with how many diagonals are left
+abbrev pub part_tokens : List ℕ → ℕ → ℕ → List Token
+part_tokens kind line left =
+    token.key (codes "kind") ∷ token.string kind ∷ token.key (codes "left") ∷ token.number (decimal left)
+    ∷ token.key (codes "line") ∷ token.number (decimal line) ∷ []
+
 -- these tokens were written, behind the same text
 abbrev pub Adds : Written → Written → List Token → Type 0
 Adds old new tokens = (new.before ≡ old.before) × (new.tokens ≡ old.tokens ++ tokens)

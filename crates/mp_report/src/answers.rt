@@ -45,6 +45,7 @@ fn push_word(text: &mut Vec<u8>, cause: Cause) -> Result<(), Memory>
         Cause::Number => text.extend_from_slice(b"number")?,
         Cause::Slot => text.extend_from_slice(b"slot")?,
         Cause::Kept => text.extend_from_slice(b"kept")?,
+        Cause::Lazy => text.extend_from_slice(b"lazy")?,
         Cause::Channel => text.extend_from_slice(b"channel")?,
         Cause::Sample(number) => push_numbered(text, b"sample ", number)?,
         Cause::Full => text.extend_from_slice(b"full")?,

@@ -6,6 +6,7 @@ pub mod channels;
 mod lines;
 pub mod matches;
 pub mod pans;
+pub mod parts;
 pub mod profiles;
 pub mod ranks;
 pub mod segments;

@@ -9,6 +9,7 @@ pub mod json_lines;
 pub mod matches;
 mod numbers;
 pub mod pans;
+pub mod parts;
 pub mod profiles;
 pub mod ranks;
 pub mod segments;
@@ -23,6 +24,7 @@ pub use json_lines::chains::{chain_json, chains_json};
 pub use json_lines::channels::{consensus_json, mpdist_json};
 pub use json_lines::matches::{discords_json, match_json, motifs_json};
 pub use json_lines::pans::pan_json;
+pub use json_lines::parts::{advance_json, partial_json};
 pub use json_lines::profiles::{
     entry_json, kept_entry_json, kept_profile_json, profile_json, window_json,
 };
@@ -32,6 +34,7 @@ pub use json_lines::slots::slots_json;
 pub use matches::{discords_text, match_text, motifs_text};
 pub use mp_replies::Cause;
 pub use pans::pan_text;
+pub use parts::{advance_text, partial_text};
 pub use profiles::{entry_text, kept_entry_text, kept_profile_text, profile_text, window_text};
 pub use ranks::nearest_text;
 pub use segments::segments_text;

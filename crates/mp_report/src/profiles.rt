@@ -31,7 +31,7 @@ pub fn profile_text(alloc: Global, line: u64, profile: &Profile) -> Result<Text,
 }
 
 /// A line for each window.
-fn push_rows(text: &mut Vec<u8>, profile: &Profile) -> Result<(), Memory>
+pub(crate) fn push_rows(text: &mut Vec<u8>, profile: &Profile) -> Result<(), Memory>
     ensures { OnOk result (text.new.items ≡ text.old.items ++ rows_text (columns_in profile.now)) }
 {
     let (all, left, right) = (profile.all(), profile.left(), profile.right());

@@ -27,11 +27,11 @@ use Rattle.mp_requests.proofs.ColumnLemmas.{profile_stands}
 
 -- ---- an open slot
 
--- where all samples are kept, a channel that is named is there
+-- where all samples are kept, and the profile is made at once, a channel that is named is there
 pub open_channel : (held : Stored) (at : Ref) → keep_of (slot_at held at.slot) ≡ None → IsNamed held at
     → IsChannel held at
 open_channel held at all named =
-    let count = open_counted (slot_at held at.slot) all in
+    let count = open_counted (slot_at held at.slot) all named.whole in
     record { slot = named.slot; channel = omega (arith, named.channel, count) }
 
 pub open_stands : (held : Stored) (stores : List Store) (at : Ref) → keep_of (slot_at held at.slot) ≡ None
@@ -99,7 +99,7 @@ appended samples kept stands = length-map samples reading_of ∙ stands.count
 abbrev pub columns : (all left right : List (Option Near)) → Columns
 columns all left right = record { all = all; left = left; right = right }
 
-columns_same : (a b : Columns) → a.all ≡ b.all → a.left ≡ b.left → a.right ≡ b.right → a ≡ b
+pub columns_same : (a b : Columns) → a.all ≡ b.all → a.left ≡ b.left → a.right ≡ b.right → a ≡ b
 columns_same a b all left right =
     ap (λ (c : List (Option Near)). columns c a.left a.right) all
     ∙ (ap (λ (c : List (Option Near)). columns b.all c a.right) left

@@ -4,3 +4,4 @@ pub mod DiscordLemmas
 pub mod KeptLemmas
 pub mod ReportLemmas
 pub mod WrittenLemmas
+pub mod PartLemmas

@@ -21,7 +21,7 @@ use Rattle.mp_replies.specs.Line.{Asks, is_end}
 use Rattle.mp_replies.specs.Numbers.{ref, refs}
 use Rattle.mp_replies.specs.State.{Files, Store, series_at}
 use Rattle.mp_replies.specs.Step.{IsAccepted, after_by, change_by, conditions, is_last, report_by}
-use Rattle.mp_stores.specs.Stores.{Held, Closed, Open, Kept, AreChannels, IsChannel, StandFor, Stored}
+use Rattle.mp_stores.specs.Stores.{Held, Closed, Open, Kept, Lazy, AreChannels, IsChannel, StandFor, Stored}
 use Rattle.mp_stores.specs.Stores.{channel_count, channel_series, count_of, items_in, nothing, series_in, streams_at}
 use Rattle.mp_stores.specs.Stores.{streams_in}
 use Rattle.mp_stores.specs.StoreLaws.{series_in_channel, series_stands}
@@ -43,7 +43,8 @@ pub reported : {E : Type 0} (context : Context) (command : Command) (held : Stor
     → ((stores : List Store) (files : Files) → StandFor held stores
     → first_cause (conditions (state_over context held stores) files command) ≡ None)
     → ((stores : List Store) (files : Files) → StandFor held stores → (let state = state_over context held stores in
-    report_in state report ≡ report_by (after_by state (IsAccepted command (change_by state files command))) command))
+    report_in state report
+    ≡ report_by state (after_by state (IsAccepted command (change_by state files command))) command))
     → IsReported {E = E} context (Asks command) held (Ok (answers.Accepted report))
 reported context command held report names ends last mode fine is = record {
   told = record {
@@ -128,11 +129,12 @@ each_channel held slot within =
       channel = omega (arith, there, get_or-range_with_len 0 count k d there);
     })
 
--- where there are channels of which all samples are kept, they are all of the slot
+-- where a slot is open, its channels are all that it has
 pub some_counted : (held : Held) → 0 < length (streams_in held) → channel_count held ≡ length (streams_in held)
 some_counted Closed some = refl
 some_counted (Open channels) some = refl
 some_counted (Kept kept) some = absurd (omega (arith, some))
+some_counted (Lazy part) some = absurd (omega (arith, some))
 
 -- ---- their lengths
 

@@ -17,7 +17,8 @@ use Rattle.mp_requests.specs.Requests.{report_in}
 
 refused_by : (state : State) (command : Command) (why : Option Cause) (more : change.Change) (cause : Cause)
     → why ≡ Some cause
-    → replies.Refused cause ≡ answer_by (after_by state (verdict_by command why more)) (verdict_by command why more)
+    → replies.Refused cause
+    ≡ answer_by state (after_by state (verdict_by command why more)) (verdict_by command why more)
 refused_by state command None more cause h = absurd (cc h)
 refused_by state command (Some why) more cause h = let same : cause ≡ why = cc in ap replies.Refused same
 
@@ -35,16 +36,18 @@ accepted_by false ours theirs h is = ap replies.Accepted is
 
 accepted_at : (state : State) (command : Command) (why : Option Cause) (more : change.Change) (ours : Report)
     → why ≡ None → is_last command ≡ false
-    → ours ≡ report_by (after_by state (IsAccepted command more)) command
-    → replies.Accepted ours ≡ answer_by (after_by state (verdict_by command why more)) (verdict_by command why more)
+    → ours ≡ report_by state (after_by state (IsAccepted command more)) command
+    → replies.Accepted ours
+    ≡ answer_by state (after_by state (verdict_by command why more)) (verdict_by command why more)
 accepted_at state command (Some why) more ours h last is = absurd (cc h)
 accepted_at state command None more ours h last is =
-    accepted_by (is_last command) ours (report_by (after_by state (IsAccepted command more)) command) last is
+    accepted_by (is_last command) ours (report_by state (after_by state (IsAccepted command more)) command) last is
 
 -- a report, where no condition holds
 pub answer_accepted : (state : State) (files : Files) (command : Command) (report : reports.Report)
     → first_cause (conditions state files command) ≡ None → is_last command ≡ false
-    → report_in state report ≡ report_by (after_by state (IsAccepted command (change_by state files command))) command
+    → report_in state report
+    ≡ report_by state (after_by state (IsAccepted command (change_by state files command))) command
     → IsAnswer state files (Asks command) (answers.Accepted report)
 answer_accepted state files command report h last is =
     accepted_at state command (first_cause (conditions state files command)) (change_by state files command)

@@ -32,7 +32,8 @@ IsCause held conditions cause = (stores : List Store) → StandFor held stores �
 
 -- what the definitions answer
 abbrev pub answer_in : State → Files → Asked → replies.Answer
-answer_in state files asked = answer_by (after_by state (verdict_of state files asked)) (verdict_of state files asked)
+answer_in state files asked =
+    answer_by state (after_by state (verdict_of state files asked)) (verdict_of state files asked)
 
 -- the program's answer is theirs, in the state before the line. The state behind it has the same channels where the
 -- answer names one, since such a line changes none

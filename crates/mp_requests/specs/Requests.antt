@@ -6,18 +6,23 @@ use Rattle.mp_nums.specs.Listed.{Listed}
 use Rattle.mp_nums.specs.declared.nearest.Near.{Near}
 use Rattle.mp_defs.specs.Series.{Series, series_of}
 use Rattle.mp_defs.specs.Profile.{Columns, ab_join}
+use Rattle.mp_defs.specs.Window.{windows}
 use Rattle.mp_results.specs.Consensus.{central}
+use Rattle.mp_results.specs.Covering.{Covering, uncovered}
 use Rattle.mp_results.specs.Curve.{parts_of}
+use Rattle.mp_results.specs.LazyProfile.{lazy_profile}
 use Rattle.mp_results.specs.Motifs.{repeated_of}
 use Rattle.mp_replies.specs.Answer as replies
 use Rattle.mp_replies.specs.EntryCommand.{entry_report}
+use Rattle.mp_replies.specs.PartialCommand.{partial_report}
 use Rattle.mp_replies.specs.Limits.{slot_count}
 use Rattle.mp_replies.specs.MpdistCommand.{mpdist_between}
 use Rattle.mp_replies.specs.ProfileCommand.{profile_report}
 use Rattle.mp_replies.specs.State.{State}
 use Rattle.mp_replies.specs.declared.modes.Mode.{Mode}
 use Rattle.mp_replies.specs.declared.refs.Ref.{Ref}
-use Rattle.mp_stores.specs.Stores.{Kept, StandFor, Stored, channel_count, channel_series, keep_of, slot_at, streams_at}
+use Rattle.mp_stores.specs.Stores.{Kept, StandFor, Stored, channel_count, channel_series, is_lazy, keep_of, slot_at}
+use Rattle.mp_stores.specs.Stores.{streams_at}
 use Rattle.mp_defs.specs.Band.{first_kept, live_windows}
 use Rattle.mp_stream.specs.Kept.{Keeping}
 use Rattle.mp_requests.specs.declared.answers.Answer.{Answer}
@@ -41,8 +46,8 @@ use Rattle.mp_requests.specs.declared.requests.Lengths as lengths
 use Rattle.mp_requests.specs.declared.requests.Pattern as patterns
 use Rattle.mp_requests.specs.declared.requests.Repeats as repeats
 use Rattle.mp_requests.specs.declared.requests.ReportRequest.{ReportRequest}
-use Rattle.mp_requests.specs.declared.requests.ReportRequest.TheVariants.{Session, Window, Profile, Entry, Compare}
-use Rattle.mp_requests.specs.declared.requests.ReportRequest.TheVariants.{Multi, Nearest, Pan, Match, Motifs}
+use Rattle.mp_requests.specs.declared.requests.ReportRequest.TheVariants.{Session, Window, Profile, Entry, Partial}
+use Rattle.mp_requests.specs.declared.requests.ReportRequest.TheVariants.{Compare, Multi, Nearest, Pan, Match, Motifs}
 use Rattle.mp_requests.specs.declared.requests.ReportRequest.TheVariants.{Discords, Chain, Chains, Segments}
 use Rattle.mp_requests.specs.declared.requests.ReportRequest.TheVariants.{Consensus, End}
 
@@ -61,7 +66,9 @@ AsksForReport (Faulty cause) = ⊥
 AsksForReport (Asks (commands.OpenAnew slot channels)) = ⊥
 AsksForReport (Asks (commands.KeepLast slot keep)) = ⊥
 AsksForReport (Asks (commands.Load slot file cols header)) = ⊥
+AsksForReport (Asks (commands.LoadLazy slot file column header)) = ⊥
 AsksForReport (Asks (commands.Append slot items)) = ⊥
+AsksForReport (Asks (commands.Advance slot count)) = ⊥
 AsksForReport (Asks other) = Unit {0}
 
 abbrev pub asks_nearest : neighbours.Neighbours → Asked
@@ -90,6 +97,7 @@ reported_in (Session mode) = Asks (commands.Session mode)
 reported_in (Window at start) = Asks (commands.Window at start)
 reported_in (Profile at) = Asks (commands.Profile at)
 reported_in (Entry at start) = Asks (commands.Entry at start)
+reported_in (Partial slot) = Asks (commands.Partial slot)
 reported_in (Compare pair) = Asks (compared_by pair.by pair.a pair.b)
 reported_in (Multi slot k) = Asks (commands.Multi slot k)
 reported_in (Nearest sought) = asks_nearest sought
@@ -128,7 +136,9 @@ abbrev pub is_unread : Asked → Bool
 is_unread (Asks (commands.OpenAnew slot channels)) = false
 is_unread (Asks (commands.KeepLast slot keep)) = false
 is_unread (Asks (commands.Load slot file cols header)) = false
+is_unread (Asks (commands.LoadLazy slot file column header)) = false
 is_unread (Asks (commands.Append slot items)) = false
+is_unread (Asks (commands.Advance slot count)) = false
 is_unread (Asks (commands.Window at start)) = false
 is_unread (Asks (commands.Join a b)) = false
 is_unread (Asks (commands.Multi slot k)) = false
@@ -148,11 +158,14 @@ report_in state (report.Session mode) = commands.SessionReport
 report_in state (report.Open samples) = commands.OpenReport samples
 report_in state (report.Keep samples) = commands.KeepReport samples
 report_in state (report.Load samples) = commands.LoadReport samples
+report_in state (report.Lazy samples) = commands.LazyReport samples
 report_in state (report.Append samples) = commands.AppendReport samples
+report_in state (report.Advance done left) = commands.AdvanceReport done left
 report_in state (report.Window window) =
     commands.WindowReport window.start (series_of window.samples.items) window.scale
 report_in state (report.Profile at) = profile_report state at
 report_in state (report.Entry at start) = entry_report state at start
+report_in state (report.Partial slot) = partial_report state slot
 report_in state (report.Join slots) = commands.JoinReport slots.items
 report_in state (report.Mpdist dist) = commands.MpdistReport dist
 report_in state (report.Multi slots) = commands.MultiReport slots.items
@@ -175,15 +188,27 @@ abbrev pub compared_in : Comparison → ℕ → Series → Series → commands.R
 compared_in comparison.Join m a b = commands.JoinReport (ab_join m a b)
 compared_in comparison.Mpdist m a b = commands.MpdistReport (mpdist_between m a b)
 
--- there is such a channel, of which all samples are kept or the last ones
+-- there is such a channel, of which all samples are kept or the last ones, and whose profile is made at once
 pub record IsNamed (held : Stored) (at : Ref) : Type 0 where
   pub slot : at.slot < slot_count
   pub channel : at.channel < channel_count (slot_at held at.slot)
+  pub whole : is_lazy (slot_at held at.slot) ≡ false
+
+-- the profile of the slot is made in parts
+pub record IsLazySlot (held : Stored) (slot : ℕ) : Type 0 where
+  pub within : slot < slot_count
+  pub lazy : is_lazy (slot_at held slot) ≡ true
 
 -- a live window starts there
 pub record IsLive (kept : Keeping) (start : ℕ) : Type 0 where
   pub first : first_kept kept.keep kept.count ≤ start
   pub last : start < first_kept kept.keep kept.count + live_windows kept.keep kept.m kept.count
+
+-- what is reported of a profile in parts
+abbrev pub part_report : Covering → commands.Report
+part_report part =
+    commands.PartialReport (lazy_profile part.m part.covered (series_of part.items))
+    (length (uncovered part.m (windows (length part.items) part.m) part.covered))
 
 -- the columns of the live windows of a kept slot
 abbrev pub columns_kept : Keeping → Columns
@@ -207,6 +232,7 @@ pub record IsWindow (held : Stored) (at : Ref) (start : ℕ) : Type 0 where
 abbrev pub AreNamed : Stored → reports.Report → Type 0
 AreNamed held (report.Profile at) = IsNamed held at
 AreNamed held (report.Entry at start) = IsWindow held at start
+AreNamed held (report.Partial slot) = IsLazySlot held slot
 AreNamed held other = Unit {0}
 
 -- ---- answers

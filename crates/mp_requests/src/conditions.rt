@@ -1,27 +1,28 @@
 //! Why a report is refused.
 
-ghost use Rattle.std.specs.Prelude.{◌≡◌, ◌+◌, ◌≤◌, ◌<◌, List, ◌∷◌, [], All, length, IfNone};
+ghost use Rattle.std.specs.Prelude.{◌≡◌, ◌+◌, ◌≤◌, ◌<◌, List, ◌∷◌, ◌++◌, [], All, length, IfNone, None};
 ghost use Rattle.std.specs.Bool.{OnFalse};
-ghost use Rattle.mp_replies.specs.Conditions.{kept_slot, kept_slots, no_channel, no_channels, no_slot, no_slots};
-ghost use Rattle.mp_replies.specs.Conditions.{no_window, some_absent, some_closed, some_kept};
+ghost use Rattle.mp_replies.specs.Conditions.{kept_slot, lazy_slot, no_channel, no_lazy_slot, no_slot, no_window};
+ghost use Rattle.mp_replies.specs.Conditions.{ref_conditions, refs_conditions, some_absent, some_closed, some_kept};
+ghost use Rattle.mp_replies.specs.Conditions.{some_lazy};
 ghost use Rattle.mp_replies.specs.Band.{is_dropped as is_dropped_in};
 ghost use Rattle.mp_replies.specs.EntryCommand.{entry_conditions, is_absent as is_absent_in};
 ghost use Rattle.mp_replies.specs.MatchCommand.{match_conditions};
 ghost use Rattle.mp_replies.specs.MultiCommand.{multi_conditions};
 ghost use Rattle.mp_replies.specs.State.{Store, keep_at, series_at};
 ghost use Rattle.mp_requests.specs.Answering.{IsCause};
-ghost use Rattle.mp_requests.specs.Requests.{IsLive, IsNamed, IsWindow};
-ghost use Rattle.mp_stores.specs.Stores.{AreChannels, IsChannel, IsOpenSlot, StandFor, channel_series, streams_at};
+ghost use Rattle.mp_requests.specs.Requests.{IsLazySlot, IsLive, IsNamed, IsWindow};
+ghost use Rattle.mp_stores.specs.Stores.{AreChannels, IsChannel, IsOpenSlot, StandFor, channel_series, keep_of};
+ghost use Rattle.mp_stores.specs.Stores.{slot_at, streams_at};
 
 use mp_replies::{Cause, Ref};
 use mp_series::windows;
 use mp_stores::{SLOTS, Stores};
 use mp_stream::Kept;
 
-/// Why a ref names no channel of which all samples are kept, if it doesn't.
+/// Why a ref names no channel of an open slot, if it doesn't.
 pub(crate) fn ref_cause(stores: &Stores, at: Ref) -> Option<Cause>
-    ensures cause { IsCause stores.now
-        (λ stands. no_slot stands at.slot ∷ kept_slot stands at.slot ∷ no_channel stands at ∷ []) result }
+    ensures cause { IsCause stores.now (λ stands. ref_conditions stands at) result }
     ensures channel { IfNone result (IsChannel stores.now at) }
 {
     let count = stores.count(at.slot);
@@ -29,6 +30,8 @@ pub(crate) fn ref_cause(stores: &Stores, at: Ref) -> Option<Cause>
         Some(Cause::Slot)
     } else if stores.is_kept(at.slot) {
         Some(Cause::Kept)
+    } else if stores.is_lazy(at.slot) {
+        Some(Cause::Lazy)
     } else if count <= at.channel {
         Some(Cause::Channel)
     } else {
@@ -36,14 +39,17 @@ pub(crate) fn ref_cause(stores: &Stores, at: Ref) -> Option<Cause>
     }
 }
 
-/// Why a ref names no channel, if it doesn't. It may be that of a kept slot.
+/// Why a ref names no channel of an open or a kept slot, if it doesn't.
 pub(crate) fn any_ref_cause(stores: &Stores, at: Ref) -> Option<Cause>
-    ensures cause { IsCause stores.now (λ stands. no_slot stands at.slot ∷ no_channel stands at ∷ []) result }
+    ensures cause { IsCause stores.now
+        (λ stands. no_slot stands at.slot ∷ lazy_slot stands at.slot ∷ no_channel stands at ∷ []) result }
     ensures named { IfNone result (IsNamed stores.now at) }
 {
     let count = stores.count(at.slot);
     if count == 0 {
         Some(Cause::Slot)
+    } else if stores.is_lazy(at.slot) {
+        Some(Cause::Lazy)
     } else if count <= at.channel {
         Some(Cause::Channel)
     } else {
@@ -51,11 +57,27 @@ pub(crate) fn any_ref_cause(stores: &Stores, at: Ref) -> Option<Cause>
     }
 }
 
-/// Why some refs name no channels of which all samples are kept, if they don't: one of them a closed slot, or else one
-/// of them a kept slot, or else one of them no channel of its slot.
-pub(crate) fn refs_cause(stores: &Stores, refs: &[Ref]) -> Option<Cause>
+/// Why a slot isn't one whose profile is made in parts, if it isn't.
+pub fn part_cause(stores: &Stores, slot: u64) -> Option<Cause>
     ensures cause { IsCause stores.now
-        (λ stands. no_slots stands refs.now ∷ kept_slots stands refs.now ∷ no_channels stands refs.now ∷ []) result }
+        (λ stands. no_slot stands slot ∷ kept_slot stands slot ∷ no_lazy_slot stands slot ∷ []) result }
+    ensures lazy { IfNone result (IsLazySlot stores.now slot) }
+{
+    if stores.count(slot) == 0 {
+        Some(Cause::Slot)
+    } else if stores.is_kept(slot) {
+        Some(Cause::Kept)
+    } else if stores.is_lazy(slot) {
+        None
+    } else {
+        Some(Cause::Lazy)
+    }
+}
+
+/// Why some refs name no channels of open slots, if they don't: one of them a closed slot, or else one of them a kept
+/// slot, or else one of them a lazy slot, or else one of them no channel of its slot.
+pub(crate) fn refs_cause(stores: &Stores, refs: &[Ref]) -> Option<Cause>
+    ensures cause { IsCause stores.now (λ stands. refs_conditions stands refs.now) result }
     ensures channels { IfNone result (All (IsChannel stores.now) refs.now) }
 {
     if is_some_closed(stores, refs) {
@@ -63,6 +85,9 @@ pub(crate) fn refs_cause(stores: &Stores, refs: &[Ref]) -> Option<Cause>
     }
     if is_some_kept(stores, refs) {
         return Some(Cause::Kept);
+    }
+    if is_some_lazy(stores, refs) {
+        return Some(Cause::Lazy);
     }
     if is_some_absent(stores, refs) {
         return Some(Cause::Channel);
@@ -73,10 +98,24 @@ pub(crate) fn refs_cause(stores: &Stores, refs: &[Ref]) -> Option<Cause>
 /// Whether the slot of one of them is a kept one.
 fn is_some_kept(stores: &Stores, refs: &[Ref]) -> bool
     ensures kept { (stands : List Store) → StandFor stores.now stands → result ≡ some_kept stands refs.now }
-    ensures open { OnFalse result (All (IsOpenSlot stores.now) refs.now) }
+    ensures all { OnFalse result (All (λ at. keep_of (slot_at stores.now at.slot) ≡ None) refs.now) }
 {
     for at in refs {
         if stores.is_kept(at.slot) {
+            return true;
+        }
+    }
+    false
+}
+
+/// Whether the profile of the slot of one of them is made in parts.
+fn is_some_lazy(stores: &Stores, refs: &[Ref]) -> bool
+    ensures lazy { (stands : List Store) → StandFor stores.now stands → result ≡ some_lazy stands refs.now }
+    ensures open { OnFalse result (All (λ at. keep_of (slot_at stores.now at.slot) ≡ None) refs.now
+        → All (IsOpenSlot stores.now) refs.now) }
+{
+    for at in refs {
+        if stores.is_lazy(at.slot) {
             return true;
         }
     }
@@ -110,9 +149,8 @@ fn is_some_absent(stores: &Stores, refs: &[Ref]) -> bool
 
 /// Why a ref and a start name no window, if they don't.
 pub(crate) fn window_cause(stores: &Stores, at: Ref, start: u64) -> Option<Cause>
-    ensures cause { IsCause stores.now (λ stands.
-        no_slot stands at.slot ∷ kept_slot stands at.slot ∷ no_channel stands at
-        ∷ no_window stores.now.m stands at start ∷ []) result }
+    ensures cause { IsCause stores.now
+        (λ stands. ref_conditions stands at ++ no_window stores.now.m stands at start ∷ []) result }
     ensures channel { IfNone result (IsChannel stores.now at) }
     ensures window { IfNone result (start + stores.now.m ≤ length (channel_series stores.now at)) }
 {
@@ -195,6 +233,8 @@ pub(crate) fn multi_cause(stores: &Stores, slot: u64, k: u64) -> Option<Cause>
         Some(Cause::Slot)
     } else if stores.is_kept(slot) {
         Some(Cause::Kept)
+    } else if stores.is_lazy(slot) {
+        Some(Cause::Lazy)
     } else if (1..=count).contains(&k) {
         None
     } else {

@@ -10,6 +10,7 @@ mod reports;
 mod requests;
 
 pub use answers::{Answer, ReplyKind};
+pub use conditions::part_cause;
 pub use context::Context;
 pub use replies::{Reply, Stop};
 pub use reports::{Report, Segments, Window};

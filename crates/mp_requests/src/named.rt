@@ -4,21 +4,26 @@ ghost use Rattle.std.specs.Prelude.{◌≡◌, ◌<◌, ◌≤◌, List, length,
 ghost use Rattle.mp_nums.specs.declared.samples.Sample.{Sample};
 ghost use Rattle.mp_replies.specs.EntryCommand.{entry_in, entry_report};
 ghost use Rattle.mp_replies.specs.Command.{LiveProfileReport, ProfileReport};
+ghost use Rattle.mp_replies.specs.PartialCommand.{partial_report};
 ghost use Rattle.mp_replies.specs.ProfileCommand.{profile_report};
 ghost use Rattle.mp_replies.specs.Profiles.{columns_in};
 ghost use Rattle.mp_replies.specs.Report.{report_written};
 ghost use Rattle.mp_replies.specs.State.{State};
-ghost use Rattle.mp_requests.specs.Requests.{AreSlotsOf, IsLive, IsNamed, IsWindow, columns_kept, entry_kept};
+ghost use Rattle.mp_requests.specs.Requests.{AreSlotsOf, IsLazySlot, IsLive, IsNamed, IsWindow, columns_kept, entry_kept};
+ghost use Rattle.mp_requests.specs.Requests.{part_report};
 ghost use Rattle.mp_defs.specs.Limits.{max_appended};
 ghost use Rattle.mp_defs.specs.Band.{first_kept};
 ghost use Rattle.mp_stream.specs.Kept.{StandsFor};
 
+use mp_anytime::Anytime;
 use mp_nums::{Memory, Text};
 use mp_partial::Profile;
 use mp_replies::{Ref, ReportForm};
+use mp_report::json_lines::parts::partial_json;
 use mp_report::json_lines::profiles::{
     entry_json, kept_entry_json, kept_profile_json, profile_json,
 };
+use mp_report::parts::partial_text;
 use mp_report::profiles::{entry_text, kept_entry_text, kept_profile_text, profile_text};
 use mp_stores::{Stores, live_slots};
 use mp_stream::{Column, Kept};
@@ -129,5 +134,39 @@ fn live_window(
     match form {
         ReportForm::Text => kept_entry_text(alloc, line, start, all, left, right),
         ReportForm::Json => kept_entry_json(alloc, line, start, all, left, right),
+    }
+}
+
+/// The report of the profile of those diagonals of a slot that are covered, in this form.
+pub(crate) fn named_part(
+    alloc: Global,
+    form: ReportForm,
+    line: u64,
+    stores: &Stores,
+    slot: u64,
+) -> Result<Text, Memory>
+    requires { IsLazySlot stores.now slot }
+    ensures { (state : State) → AreSlotsOf state stores.now
+        → IfOk result (λ text. text.items ≡ report_written form line (partial_report state slot)) }
+{
+    match stores.lazy(slot) {
+        Some(part) => profile_in_part(alloc, form, line, part),
+        None => unreachable!(),
+    }
+}
+
+/// The report of a profile in parts.
+fn profile_in_part(
+    alloc: Global,
+    form: ReportForm,
+    line: u64,
+    part: &Anytime,
+) -> Result<Text, Memory>
+    ensures { IfOk result (λ text. text.items ≡ report_written form line (part_report part.now)) }
+{
+    let left = part.left();
+    match form {
+        ReportForm::Text => partial_text(alloc, line, part.profile(), left),
+        ReportForm::Json => partial_json(alloc, line, part.profile(), left),
     }
 }

@@ -3,7 +3,7 @@
 ghost use Rattle.std.specs.Prelude.{◌<◌, ◌≤◌, All, length};
 ghost use Rattle.mp_replies.specs.Limits.{max_scale};
 
-use crate::named::{named_entry, named_profile};
+use crate::named::{named_entry, named_part, named_profile};
 use mp_chains::longest;
 use mp_nums::{
     Centre, Discord, Memory, Motif, NearList, PanRow, Places, Ratio, Sample, Slots, Sq, Text,
@@ -17,12 +17,14 @@ use mp_report::json_lines::chains::{chain_json, chains_json};
 use mp_report::json_lines::channels::{consensus_json, mpdist_json};
 use mp_report::json_lines::matches::{discords_json, match_json, motifs_json};
 use mp_report::json_lines::pans::pan_json;
+use mp_report::json_lines::parts::advance_json;
 use mp_report::json_lines::profiles::window_json;
 use mp_report::json_lines::ranks::nearest_json;
 use mp_report::json_lines::segments::segments_json;
 use mp_report::json_lines::slots::slots_json;
 use mp_report::matches::{discords_text, match_text, motifs_text};
 use mp_report::pans::pan_text;
+use mp_report::parts::advance_text;
 use mp_report::profiles::window_text;
 use mp_report::ranks::nearest_text;
 use mp_report::segments::segments_text;
@@ -40,12 +42,17 @@ pub enum Report {
     Open { samples: u64 },
     Keep { samples: u64 },
     Load { samples: u64 },
+    Lazy { samples: u64 },
     Append { samples: u64 },
+    /// How many diagonals it covers, and how many are left.
+    Advance { done: u64, left: u64 },
     Window(Window),
     /// The profile of this channel, which its slot keeps, or that of the live windows of a kept slot.
     Profile(Ref),
     /// The entry in it of the window that starts there.
     Entry { at: Ref, start: u64 },
+    /// The profile of the diagonals of this slot that are covered.
+    Partial { slot: u64 },
     /// For each window its nearest one in the other series.
     Join(Slots),
     Mpdist(Option<Sq>),
@@ -118,7 +125,9 @@ impl Report {
             Report::Open { samples }
             | Report::Keep { samples }
             | Report::Load { samples }
+            | Report::Lazy { samples }
             | Report::Append { samples } => ok_text(alloc, line, Some(*samples)),
+            Report::Advance { done, left } => advance_text(alloc, line, *done, *left),
             Report::Window(window) => {
                 let samples = window.samples.as_slice();
                 window_text(alloc, line, window.start, samples, window.scale)
@@ -132,6 +141,7 @@ impl Report {
                 *at,
                 *start,
             ),
+            Report::Partial { slot } => named_part(alloc, ReportForm::Text, line, stores, *slot),
             Report::Join(slots) => slots_text(alloc, line, SlotsName::Join, slots.as_slice()),
             Report::Mpdist(dist) => mpdist_text(alloc, line, *dist),
             Report::Multi(slots) => slots_text(alloc, line, SlotsName::Multi, slots.as_slice()),
@@ -152,6 +162,7 @@ impl Report {
             Report::Consensus(centre) => consensus_text(alloc, line, centre.as_ref()),
         }
     }
+
     /// Its JSON line.
     fn json(&self, alloc: Global, line: u64, stores: &Stores) -> Result<Text, Memory>
         requires { AreNamed stores.now self.now }
@@ -163,7 +174,9 @@ impl Report {
             Report::Open { samples }
             | Report::Keep { samples }
             | Report::Load { samples }
+            | Report::Lazy { samples }
             | Report::Append { samples } => ok_json(alloc, line, Some(*samples)),
+            Report::Advance { done, left } => advance_json(alloc, line, *done, *left),
             Report::Window(window) => {
                 let samples = window.samples.as_slice();
                 window_json(alloc, line, window.start, samples, window.scale)
@@ -177,6 +190,7 @@ impl Report {
                 *at,
                 *start,
             ),
+            Report::Partial { slot } => named_part(alloc, ReportForm::Json, line, stores, *slot),
             Report::Join(slots) => slots_json(alloc, line, SlotsName::Join, slots.as_slice()),
             Report::Mpdist(dist) => mpdist_json(alloc, line, *dist),
             Report::Multi(slots) => slots_json(alloc, line, SlotsName::Multi, slots.as_slice()),

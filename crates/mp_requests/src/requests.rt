@@ -13,6 +13,7 @@ mod motifs_command;
 mod multi_command;
 mod nearest_command;
 mod pan_command;
+mod partial_command;
 mod profile_command;
 mod segments_command;
 mod session_command;
@@ -27,6 +28,7 @@ use self::motifs_command::report_motifs;
 use self::multi_command::report_multi;
 use self::nearest_command::report_nearest;
 use self::pan_command::report_pan;
+use self::partial_command::report_partial;
 use self::profile_command::{report_entry, report_profile};
 use self::segments_command::report_segments;
 use self::session_command::{mode_of, report_session};
@@ -48,6 +50,7 @@ pub enum ReportRequest<'a> {
     Window { at: Ref, start: u64 },
     Profile { at: Ref },
     Entry { at: Ref, start: u64 },
+    Partial { slot: u64 },
     Compare(Pair),
     Multi { slot: u64, k: u64 },
     Nearest(Neighbours),
@@ -162,6 +165,7 @@ impl<'a> ReportRequest<'a> {
             Command::Window { at, start } => ReportRequest::Window { at, start },
             Command::Profile { at } => ReportRequest::Profile { at },
             Command::Entry { at, start } => ReportRequest::Entry { at, start },
+            Command::Partial { slot } => ReportRequest::Partial { slot },
             Command::Join { a, b } => {
                 let by = Comparison::Join;
                 ReportRequest::Compare(Pair { a, b, by })
@@ -213,7 +217,9 @@ impl<'a> ReportRequest<'a> {
             | Command::Open { .. }
             | Command::Keep { .. }
             | Command::Load { .. }
-            | Command::Append { .. } => unreachable!(),
+            | Command::Lazy { .. }
+            | Command::Append { .. }
+            | Command::Advance { .. } => unreachable!(),
         }
     }
 
@@ -233,6 +239,7 @@ impl<'a> ReportRequest<'a> {
             ReportRequest::Window { at, start } => report_window(stores, context, at, start),
             ReportRequest::Profile { at } => Ok(report_profile(stores, context, at)),
             ReportRequest::Entry { at, start } => Ok(report_entry(stores, context, at, start)),
+            ReportRequest::Partial { slot } => Ok(report_partial(stores, context, slot)),
             ReportRequest::Compare(pair) => report_comparison(rt, stores, context, pair, gate),
             ReportRequest::Multi { slot, k } => report_multi(rt, stores, context, slot, k, gate),
             ReportRequest::Nearest(sought) => report_nearest(rt, stores, context, sought, gate),

@@ -16,3 +16,6 @@ pub mod Rising
 pub mod Multi
 pub mod Consensus
 pub mod Generator
+pub mod Reversal
+pub mod Covering
+pub mod LazyProfile

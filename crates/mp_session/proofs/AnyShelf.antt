@@ -14,6 +14,7 @@ use Rattle.mp_replies.specs.Change.{Change, changed}
 use Rattle.mp_replies.specs.Command as asked
 use Rattle.mp_replies.specs.Command.{Command}
 use Rattle.mp_replies.specs.Conditions.{Condition, first_cause}
+use Rattle.mp_replies.specs.LazyCommand.{lazy_conditions}
 use Rattle.mp_replies.specs.Line.{Asked, Asks, asked_of}
 use Rattle.mp_replies.specs.LoadCommand.{file_conditions, file_in, load_conditions}
 use Rattle.mp_replies.specs.Output.{reply}
@@ -29,10 +30,10 @@ use Rattle.mp_session.proofs.StepLemmas.{accepted_by, mode_by}
 
 -- ---- a line that isn't accepted
 
-counted_by : (state later : State) (v : Verdict) → is_accepted (kind_of (answer_by later v)) ≡ false
+counted_by : (state later : State) (v : Verdict) → is_accepted (kind_of (answer_by state later v)) ≡ false
     → after_by state v ≡ counted state
 counted_by state later (IsAccepted command change) h =
-    absurd (cc (accepted_by (is_last command) (report_by later command), h))
+    absurd (cc (accepted_by (is_last command) (report_by state later command), h))
 counted_by state later other h = refl
 
 unaccepted_after : (state : State) (line : List ℕ) (files : Files)
@@ -52,21 +53,23 @@ other_store (s ∷ stores) (suc at) (suc slot) store apart =
     let rest : (slot == at) ≡ false = grind (arith, nat_tests) in other_store stores at slot store rest
 
 others_stay : (state : State) (files : Files) (command : Command) (slot : ℕ) → changes (Asks command) slot ≡ false
-    → store_at (changed state.stores (change_by state files command)) slot ≡ store_at state.stores slot
+    → store_at (changed state.window state.stores (change_by state files command)) slot ≡ store_at state.stores slot
 others_stay state files (asked.OpenAnew at channels) slot apart = other_store state.stores at slot _ apart
 others_stay state files (asked.KeepLast at keep) slot apart = other_store state.stores at slot _ apart
 others_stay state files (asked.Load at file columns header) slot apart = other_store state.stores at slot _ apart
+others_stay state files (asked.LoadLazy at file column header) slot apart = other_store state.stores at slot _ apart
 others_stay state files (asked.Append at items) slot apart = other_store state.stores at slot _ apart
+others_stay state files (asked.Advance at count) slot apart = other_store state.stores at slot _ apart
 others_stay state files other slot apart = refl
 
 accepted_where : (state later : State) (new : SessionParts) (command : Command) (why : Option Cause) (change : Change)
     → ((slot : ℕ) → changes (Asks command) slot ≡ false
-    → store_at (changed state.stores change) slot ≡ store_at state.stores slot)
-    → is_accepted (kind_of (answer_by later (verdict_by command why change))) ≡ true
+    → store_at (changed state.window state.stores change) slot ≡ store_at state.stores slot)
+    → is_accepted (kind_of (answer_by state later (verdict_by command why change))) ≡ true
     → StandsFor new (after_by state (verdict_by command why change)) → WasAccepted (Asks command) state new
 accepted_where state later new command (Some why) change stay h stands = absurd (cc h)
 accepted_where state later new command None change stay h stands =
-    let stores = changed state.stores change in
+    let stores = changed state.window state.stores change in
     record {
       stores = stores;
       stands = subst (λ (mode : Mode).
@@ -77,7 +80,7 @@ accepted_where state later new command None change stay h stands =
     }
 
 accepted_of : (state later : State) (new : SessionParts) (files : Files) (what : Asked)
-    → is_accepted (kind_of (answer_by later (verdict_of state files what))) ≡ true
+    → is_accepted (kind_of (answer_by state later (verdict_of state files what))) ≡ true
     → StandsFor new (after_by state (verdict_of state files what)) → WasAccepted what state new
 accepted_of state later new files (Asks command) h stands =
     accepted_where state later new command (first_cause (conditions state files command))
@@ -94,7 +97,7 @@ was_accepted state new line files h stands =
 -- ---- a load that is refused by its file
 
 abbrev answer_in : State → Verdict → replies.Answer
-answer_in state v = answer_by (after_by state v) v
+answer_in state v = answer_by state (after_by state v) v
 
 abbrev written_in : State → ℕ → Verdict → List ℕ
 written_in state line v = written_of (after_by state v).mode.form line (answer_in state v)
@@ -124,25 +127,39 @@ behind : (conditions more : List Condition) → is_none (first_cause conditions)
 behind [] more h = refl
 behind (condition ∷ others) more h = behind_by condition.holds condition.word others more h (behind others more)
 
-refused_where : (state : State) (slot line : ℕ) (file cols : List ℕ) (header : Bool) (why : Option Cause)
-    (change : Change) (text : List ℕ) → ((cause : Cause) → why ≡ Some cause → IsOfFile cause)
-    → kinds.Refused ≡ kind_of (answer_in state (verdict_by (asked.Load slot file cols header) why change))
-    → text ≡ written_in state line (verdict_by (asked.Load slot file cols header) why change)
-    → IsFileRefused state.mode.form line text
-refused_where state slot line file cols header (Some cause) change text of kind is =
+refused_where : (state : State) (line : ℕ) (command : Command) (why : Option Cause) (change : Change) (text : List ℕ)
+    → is_last command ≡ false → ((cause : Cause) → why ≡ Some cause → IsOfFile cause)
+    → kinds.Refused ≡ kind_of (answer_in state (verdict_by command why change))
+    → text ≡ written_in state line (verdict_by command why change) → IsFileRefused state.mode.form line text
+refused_where state line command (Some cause) change text last of kind is =
     record { cause = cause; of_file = of cause refl; text_is = is }
-refused_where state slot line file cols header None change text of kind is = absurd (cc kind)
+refused_where state line command None change text last of kind is =
+    let later = after_by state (IsAccepted command change) in
+    let accepted : kind_of (answer_by state later (IsAccepted command change)) ≡ kinds.Accepted =
+    ap (λ (b : Bool).
+    kind_of
+    (if b then replies.Ended (report_by state later command) else replies.Accepted (report_by state later command)))
+    last in
+    absurd (cc (kind ∙ accepted))
 
 refused_of : (state : State) (files : Files) (what : Asked) (line : ℕ) (text : List ℕ)
     → fetches_by state what ≡ true → kinds.Refused ≡ kind_of (answer_in state (verdict_of state files what))
     → text ≡ written_in state line (verdict_of state files what) → IsFileRefused state.mode.form line text
 refused_of state files (Asks (asked.Load slot file cols header)) line text asks kind is =
-    refused_where state slot line file cols header
+    refused_where state line (asked.Load slot file cols header)
     (first_cause (conditions state files (asked.Load slot file cols header)))
-    (change_by state files (asked.Load slot file cols header)) text
+    (change_by state files (asked.Load slot file cols header)) text refl
     (λ cause h. of_file state.mode.width state.scale cols header (file_in files file) cause
     (sym (behind (load_conditions state.stores slot cols)
     (file_conditions state.mode.width state.scale cols header (file_in files file)) asks) ∙ h))
+    kind is
+refused_of state files (Asks (asked.LoadLazy slot file column header)) line text asks kind is =
+    refused_where state line (asked.LoadLazy slot file column header)
+    (first_cause (conditions state files (asked.LoadLazy slot file column header)))
+    (change_by state files (asked.LoadLazy slot file column header)) text refl
+    (λ cause h. of_file state.mode.width state.scale (column ∷ []) header (file_in files file) cause
+    (sym (behind (lazy_conditions slot)
+    (file_conditions state.mode.width state.scale (column ∷ []) header (file_in files file)) asks) ∙ h))
     kind is
 refused_of state files other line text asks kind is = absurd (cc asks)
 

@@ -18,11 +18,13 @@ use Rattle.mp_requests.specs.declared.replies.Reply.{Reply}
 use Rattle.mp_requests.specs.Requests.{is_accepted, is_unread, kind_by}
 use Rattle.mp_requests.specs.Reads.{AreUnread, IsKept, WereRead, most_lent}
 use Rattle.mp_commands.specs.declared.prepared.Change.{Change}
-use Rattle.mp_commands.specs.declared.prepared.Change.TheVariants.{Keep, PutChannels, PutKept, AddSamples}
+use Rattle.mp_commands.specs.declared.prepared.Change.TheVariants.{Keep, PutChannels, PutKept, PutLazy}
+use Rattle.mp_commands.specs.declared.prepared.Change.TheVariants.{AddSamples, Advance}
 use Rattle.mp_commands.specs.declared.prepared.Prepared.{Prepared}
-use Rattle.mp_commands.specs.Preparing.{AddsAsAsked, IsReady, adds, puts}
-use Rattle.mp_commands.specs.Reads.{append_reads, most_added, most_reads, reads_for_items, renews}
-use Rattle.mp_session.specs.Sessions.{AddsEach, WereReadBy}
+use Rattle.mp_commands.specs.Preparing.{AddsAsAsked, IsReady, adds, covers, puts}
+use Rattle.mp_commands.specs.Reads.{advances, append_reads, most_added, most_reads, reads_for_items, renews}
+use Rattle.mp_results.specs.Covering.{Covering}
+use Rattle.mp_session.specs.Sessions.{AddsEach, CoversMore, WereReadBy}
 
 -- ---- samples for each channel
 
@@ -46,6 +48,9 @@ add_reads_in m (held.Open (channel ∷ others)) count added room each =
 add_reads_in m (held.Kept kept) count added room each =
     let same : count_of added ≡ count = count_is added count (omega (arith, room.one)) each in
     ap (λ (c : ℕ). c * (4 * (kept.keep + m))) same
+add_reads_in m (held.Lazy part) count added room each =
+    let same : count_of added ≡ count = count_is added count (omega (arith, room.one)) each in
+    ap (λ (c : ℕ). c * (4 * (length part.covered + m))) same
 
 pub add_reads : (stored : Stored) (slot count : ℕ) (added : List (List Sample))
     → HasRoomIn (slot_at stored slot) added → All (λ samples. length samples ≡ count) added
@@ -58,16 +63,24 @@ reads_same_in : (m count : ℕ) (old new : Held) → HoldsAsBefore old new
 reads_same_in m count held.Closed held.Closed same = refl
 reads_same_in m count held.Closed (held.Open new) same = absurd same
 reads_same_in m count held.Closed (held.Kept new) same = absurd same
+reads_same_in m count held.Closed (held.Lazy new) same = absurd same
 reads_same_in m count (held.Open old) held.Closed same = absurd same
 reads_same_in m count (held.Open old) (held.Open new) same =
     let last = last_as_before old new same in
     ap (λ (k : ℕ). k * (count * (4 * (windows (count_in new + count) m + m)))) last.count
     ∙ ap (λ (k : ℕ). length old * (count * (4 * (windows (k + count) m + m)))) (ap count_of last.items)
 reads_same_in m count (held.Open old) (held.Kept new) same = absurd same
+reads_same_in m count (held.Open old) (held.Lazy new) same = absurd same
 reads_same_in m count (held.Kept old) held.Closed same = absurd same
 reads_same_in m count (held.Kept old) (held.Open new) same = absurd same
 reads_same_in m count (held.Kept old) (held.Kept new) same =
     ap (λ (h : Held). reads_for_items m h count) (ap held.Kept same)
+reads_same_in m count (held.Kept old) (held.Lazy new) same = absurd same
+reads_same_in m count (held.Lazy old) held.Closed same = absurd same
+reads_same_in m count (held.Lazy old) (held.Open new) same = absurd same
+reads_same_in m count (held.Lazy old) (held.Kept new) same = absurd same
+reads_same_in m count (held.Lazy old) (held.Lazy new) same =
+    ap (λ (part : Covering). count * (4 * (length part.covered + m))) same
 
 -- an append reads as much where the slots hold what they held
 append_reads_same : (old new : Stored) → StandAsBefore old new → (slot count : ℕ)
@@ -85,6 +98,8 @@ pub adds_as_asked : (old mid new : Stored) (asked : Asked) (change : Change) (sl
 adds_as_asked old mid new asked Keep slot is adding added same = absurd (cc adding)
 adds_as_asked old mid new asked (PutChannels at channels) slot is adding added same = absurd (cc adding)
 adds_as_asked old mid new asked (PutKept at kept) slot is adding added same = absurd (cc adding)
+adds_as_asked old mid new asked (PutLazy at part) slot is adding added same = absurd (cc adding)
+adds_as_asked old mid new asked (Advance at count) slot is adding added same = absurd (cc adding)
 adds_as_asked old mid new (Asks (asked.Append at items)) (AddSamples to more) slot is adding added same =
     let here : slot ≡ to = grind (arith, nat_tests) in
     let named : to ≡ at = is.0 in
@@ -120,11 +135,17 @@ renews_none (Asks (asked.OpenAnew at channels)) slot is = cc
 renews_none (Asks (asked.KeepLast at keep)) slot is = cc
 renews_none other slot is = cc
 
+advances_none : (what : Asked) (slot : ℕ) → is_unread what ≡ true → advances what slot ≡ false
+advances_none (Asks (asked.Advance at count)) slot is = absurd (cc is)
+advances_none other slot is = refl
+
 adds_none : (what : Asked) (change : Change) (slot : ℕ) → AddsAsAsked what change → is_unread what ≡ true
     → adds change slot ≡ false
 adds_none what Keep slot asks is = refl
 adds_none what (PutChannels at channels) slot asks is = refl
 adds_none what (PutKept at kept) slot asks is = refl
+adds_none what (PutLazy at part) slot asks is = refl
+adds_none what (Advance at count) slot asks is = refl
 adds_none (Asks (asked.Append at items)) (AddSamples to more) slot asks is = absurd (cc is)
 adds_none other (AddSamples to more) slot asks is = absurd asks
 
@@ -140,16 +161,62 @@ not_put what change slot true keeps renewed leaves =
     let clash : true ≡ false = sym (renewed yes) ∙ leaves refl in absurd (cc clash))
     (λ (no : puts change slot ≡ false). no) (cases_Bool (puts change slot))
 
+-- diagonals are covered where the line asks for it alone
+not_covered : (what : Asked) (change : Change) (slot : ℕ) → (covers change slot ≡ true → advances what slot ≡ true)
+    → advances what slot ≡ false → covers change slot ≡ false
+not_covered what change slot asks none =
+    ⊎_elim (λ (yes : covers change slot ≡ true).
+    let clash : true ≡ false = sym (asks yes) ∙ none in absurd (cc clash))
+    (λ (no : covers change slot ≡ false). no) (cases_Bool (covers change slot))
+
+-- the one change that takes memory puts nothing and adds nothing
+covers_alone : (change : Change) (slot : ℕ) → CoversMore change → (puts change slot ≡ false) × (adds change slot ≡ false)
+covers_alone (Advance at count) slot covers = (refl, refl)
+covers_alone Keep slot covers = absurd covers
+covers_alone (PutChannels at channels) slot covers = absurd covers
+covers_alone (PutKept at kept) slot covers = absurd covers
+covers_alone (PutLazy at part) slot covers = absurd covers
+covers_alone (AddSamples at added) slot covers = absurd covers
+
 -- the run stopped at the line
 pub stopped_reads : {E : Type 0} (what : Asked) (old new : Stored) (result : Result Reply E) → is_err result ≡ true
     → WereRead (most_lent old what) old new → WereReadBy what old new result
 stopped_reads what old new (Ok answered) failed read = absurd (cc failed)
 stopped_reads what old new (Err stop) failed read = record {
-  most = λ slot leaves. omega (arith, read.within slot);
+  most = λ slot leaves none. omega (arith, read.within slot);
   rise = λ slot leaves. read.rise slot;
   unread = λ is slot. omega (arith, read.rise slot, read.within slot, lent_none old what slot is);
   unaccepted = tt;
 }
+
+-- it stopped at its change
+pub stopped_change : {E : Type 0} (what : Asked) (old mid new : Stored) (prepared : Prepared)
+    (result : Result Reply E) → is_err result ≡ true → IsReady what mid prepared → IsKept what old mid
+    → CoversMore prepared.change
+    → ((slot : ℕ) → puts prepared.change slot ≡ false → reads_at mid slot ≤ reads_at new slot)
+    → ((slot : ℕ) → puts prepared.change slot ≡ false → adds prepared.change slot ≡ false
+    → covers prepared.change slot ≡ false → reads_at new slot ≡ reads_at mid slot)
+    → WereReadBy what old new result
+stopped_change what old mid new prepared (Ok answered) failed ready kept alone rise rest = absurd (cc failed)
+stopped_change what old mid new prepared (Err stop) failed ready kept alone rise rest =
+    let same : (slot : ℕ) → advances what slot ≡ false → reads_at new slot ≡ reads_at mid slot =
+    λ slot none.
+    let apart = covers_alone prepared.change slot alone in
+    rest slot apart.0 apart.1 (not_covered what prepared.change slot (ready.advanced slot) none) in
+    record {
+      most = λ slot leaves none. omega (arith, same slot none, kept.read.within slot);
+      rise = λ slot leaves.
+          omega (arith, kept.read.rise slot, rise slot (covers_alone prepared.change slot alone).0);
+      unread = λ is slot.
+          omega (
+            arith,
+            same slot (advances_none what slot is),
+            kept.read.rise slot,
+            kept.read.within slot,
+            lent_none old what slot is,
+          );
+      unaccepted = tt;
+    }
 
 -- it was answered
 pub answered_reads : {E : Type 0} (what : Asked) (old mid new : Stored) (prepared : Prepared) (answered : Reply)
@@ -157,7 +224,7 @@ pub answered_reads : {E : Type 0} (what : Asked) (old mid new : Stored) (prepare
     → (is_accepted (kind_by prepared.answer) ≡ false → AreUnread old mid) → IsKept what old mid
     → ((slot : ℕ) → puts prepared.change slot ≡ false → reads_at mid slot ≤ reads_at new slot)
     → ((slot : ℕ) → puts prepared.change slot ≡ false → adds prepared.change slot ≡ false
-    → reads_at new slot ≡ reads_at mid slot)
+    → covers prepared.change slot ≡ false → reads_at new slot ≡ reads_at mid slot)
     → ((at count : ℕ) → AddsEach prepared.change at count
     → reads_at new at ≤ reads_at mid at + append_reads mid at count)
     → WereReadBy {E = E} what old new (Ok answered)
@@ -168,15 +235,18 @@ answered_reads {E} what old mid new prepared answered kind ready unread kept ris
     → puts prepared.change slot ≡ false =
     λ slot leaves. not_put what prepared.change slot (is_accepted answered.kind) keeps (ready.renewed slot) leaves in
     record {
-      most = λ slot leaves.
+      most = λ slot leaves none.
           most_is old mid new what prepared.change slot (stays slot leaves) ready.adds
-          (rest slot (stays slot leaves)) added kept;
+          (λ no. rest slot (stays slot leaves) no
+          (not_covered what prepared.change slot (ready.advanced slot) none)) added kept;
       rise = λ slot leaves. omega (arith, kept.read.rise slot, rise slot (stays slot leaves));
       unread = λ is slot.
           let here = rest slot (stays slot (λ accepted. renews_none what slot is))
-          (adds_none what prepared.change slot ready.adds is) in
+          (adds_none what prepared.change slot ready.adds is)
+          (not_covered what prepared.change slot (ready.advanced slot) (advances_none what slot is)) in
           omega (arith, here, kept.read.rise slot, kept.read.within slot, lent_none old what slot is);
       unaccepted = λ no slot.
           rest slot (ap (λ (c : Change). puts c slot) (keeps no)) (ap (λ (c : Change). adds c slot) (keeps no))
+          (ap (λ (c : Change). covers c slot) (keeps no))
           ∙ unread (ap is_accepted (sym kind) ∙ no) slot;
     }

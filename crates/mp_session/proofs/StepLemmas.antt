@@ -29,8 +29,8 @@ use Rattle.mp_requests.specs.declared.context.Context.{Context}
 use Rattle.mp_requests.specs.declared.replies.Reply.{Reply}
 use Rattle.mp_requests.specs.Answering.{state_over}
 use Rattle.mp_commands.specs.declared.prepared.Prepared.{Prepared}
-use Rattle.mp_commands.specs.Preparing.{IsPrepared, NeedsFile, ToldFor}
-use Rattle.mp_session.specs.Sessions.{AsksFile, HasCommitted, IsReplyBy, SessionParts, StandsFor}
+use Rattle.mp_commands.specs.Preparing.{IsPrepared, NeedsFile, ToldFor, changed_by}
+use Rattle.mp_session.specs.Sessions.{AsksFile, HasCommitted, HasStopped, IsReplyBy, SessionParts, StandsFor}
 
 -- ---- kinds
 
@@ -39,14 +39,15 @@ refused_by : (last : Bool) (report : Report)
 refused_by true report = refl
 refused_by false report = refl
 
-refused_in : (later : State) (v : Verdict) → is_refused (kind_of (answer_by later v)) ≡ is_some (cause_in v)
-refused_in later (IsAccepted command change) = refused_by (is_last command) (report_by later command)
-refused_in later other = refl
+refused_in : (state later : State) (v : Verdict)
+    → is_refused (kind_of (answer_by state later v)) ≡ is_some (cause_in v)
+refused_in state later (IsAccepted command change) = refused_by (is_last command) (report_by state later command)
+refused_in state later other = refl
 
 pub refused_kind : (state : State) (line : List ℕ) (files : Files)
     → is_refused (kind_of (answer state line files)) ≡ is_some (cause state line files)
 unfolding answer cause
-refused_kind state line files = refused_in (after state line files) (verdict state line files)
+refused_kind state line files = refused_in state (after state line files) (verdict state line files)
 
 -- ---- the state that a session stands for
 
@@ -90,6 +91,14 @@ stands_still old new state settings mode count same stores h = record {
   begun_is = h.begun_is ∙ sym same;
   stores_stand = stand_as_before old.stores new.stores state.stores stores h.stores_stand;
 }
+
+-- so does one that stopped at its change
+pub stops_still : (old mid new : SessionParts) (state : State) → mid.settings ≡ old.settings → mid.mode ≡ old.mode
+    → mid.lines ≡ old.lines → mid.begun ≡ old.begun → StandAsBefore old.stores mid.stores → HasStopped mid new
+    → StandsFor old state → StandsFor new state
+stops_still old mid new state settings mode count same stores stopped h =
+    stands_still mid new state stopped.settings_are stopped.mode_is stopped.lines_is stopped.begun_is
+    stopped.stores_stand (stands_still old mid state settings mode count same stores h)
 
 -- ---- what was prepared, in such a state
 
@@ -168,18 +177,18 @@ named_by said asked = if is_accepted (kind_of said) then mode_asked asked else N
 mode_after_by : (state : State) (command : Command) (why : Option Cause) (change : Change)
     → (after_by state (verdict_by command why change)).mode
     ≡ unwrap_or
-    (named_by (answer_by (after_by state (verdict_by command why change)) (verdict_by command why change))
+    (named_by (answer_by state (after_by state (verdict_by command why change)) (verdict_by command why change))
     (Asks command))
     state.mode
 mode_after_by state command (Some cause) change = refl
 mode_after_by state command None change =
     let later = after_by state (IsAccepted command change) in
-    rw (accepted_by (is_last command) (report_by later command)) (mode_by state.mode command)
+    rw (accepted_by (is_last command) (report_by state later command)) (mode_by state.mode command)
 
 mode_after : (state : State) (files : Files) (asked : Asked)
     → (after_by state (verdict_of state files asked)).mode
     ≡ unwrap_or
-    (named_by (answer_by (after_by state (verdict_of state files asked)) (verdict_of state files asked)) asked)
+    (named_by (answer_by state (after_by state (verdict_of state files asked)) (verdict_of state files asked)) asked)
     state.mode
 mode_after state files Nothing = refl
 mode_after state files (Faulty cause) = refl
@@ -191,8 +200,8 @@ record IsBehind (state later : State) (v : Verdict) : Type 0 where
   window_is : later.window ≡ state.window
   scale_is : later.scale ≡ state.scale
   lines_is : later.lines ≡ state.lines + 1
-  begun_is : later.begun ≡ (state.begun || is_accepted (kind_of (answer_by later v)))
-  stores_is : later.stores ≡ changed state.stores (change_in v)
+  begun_is : later.begun ≡ (state.begun || is_accepted (kind_of (answer_by state later v)))
+  stores_is : later.stores ≡ changed state.window state.stores (change_in v)
 
 behind : (state : State) (v : Verdict) → IsBehind state (after_by state v) v
 behind state (IsAccepted command change) =
@@ -201,7 +210,7 @@ behind state (IsAccepted command change) =
       window_is = refl;
       scale_is = refl;
       lines_is = refl;
-      begun_is = rw (accepted_by (is_last command) (report_by later command)) (sym (or-true state.begun));
+      begun_is = rw (accepted_by (is_last command) (report_by state later command)) (sym (or-true state.begun));
       stores_is = refl;
     }
 behind state other = record {
@@ -214,15 +223,16 @@ behind state other = record {
 
 -- the session that made the change stands for the state behind the line
 stands_by : (old new : SessionParts) (state : State) (files : Files) (asked : Asked) (prepared : Prepared)
-    → StandsFor old state → IsPrepared state files asked prepared → NamesMode asked prepared.answer
+    → old.stores.m ≡ old.settings.window → StandsFor old state → IsPrepared state files asked prepared
+    → NamesMode asked prepared.answer
     → HasCommitted old new prepared.change (is_accepted (kind_by prepared.answer))
     (unwrap_or (mode_named prepared.answer) old.mode)
     → StandsFor new (after_by state (verdict_of state files asked))
-stands_by old new state files asked prepared h step names made =
+stands_by old new state files asked prepared m h step names made =
     let v = verdict_of state files asked in
     let is = behind state v in
     let kind = kind_said state prepared.answer ∙ ap kind_of step.answer_is in
-    let named : mode_named prepared.answer ≡ named_by (answer_by (after_by state v) v) asked =
+    let named : mode_named prepared.answer ≡ named_by (answer_by state (after_by state v) v) asked =
     names ∙ ap (λ k. if is_accepted k then mode_asked asked else None) kind in
     record {
       window_is = is.window_is ∙ (h.window_is ∙ sym (ap (λ s. s.window) made.settings_are));
@@ -233,24 +243,28 @@ stands_by old new state files asked prepared h step names made =
           ∙ (ap (unwrap_or (mode_named prepared.answer)) h.mode_is ∙ sym made.mode_is));
       lines_is = is.lines_is ∙ (ap (λ n. n + 1) h.lines_is ∙ sym made.lines_is);
       begun_is = is.begun_is
-          ∙ (ap (λ b. b || is_accepted (kind_of (answer_by (after_by state v) v))) h.begun_is
+          ∙ (ap (λ b. b || is_accepted (kind_of (answer_by state (after_by state v) v))) h.begun_is
           ∙ (ap (λ k. old.begun || is_accepted k)
           (sym kind)
           ∙ sym made.begun_is));
       stores_stand =
-          subst (StandFor new.stores) (ap (changed state.stores) step.change_is ∙ sym is.stores_is)
+          let window : old.stores.m ≡ state.window = m ∙ sym h.window_is in
+          subst (StandFor new.stores)
+          (ap (λ (n : ℕ). changed n state.stores (changed_by prepared.change)) window
+          ∙ (ap (changed state.window state.stores) step.change_is ∙ sym is.stores_is))
           (made.stores_stand state.stores h.stores_stand);
     }
 
 pub stands_after : (old new : SessionParts) (state : State) (files : Files) (line : List ℕ) (prepared : Prepared)
-    → StandsFor old state → IsPrepared state files (asked_of state.mode.version line) prepared
+    → old.stores.m ≡ old.settings.window → StandsFor old state
+    → IsPrepared state files (asked_of state.mode.version line) prepared
     → NamesMode (asked_of state.mode.version line) prepared.answer
     → HasCommitted old new prepared.change (is_accepted (kind_by prepared.answer))
     (unwrap_or (mode_named prepared.answer) old.mode)
     → StandsFor new (after state line files)
 unfolding after verdict
-stands_after old new state files line prepared h step names made =
-    stands_by old new state files (asked_of state.mode.version line) prepared h step names made
+stands_after old new state files line prepared m h step names made =
+    stands_by old new state files (asked_of state.mode.version line) prepared m h step names made
 
 -- ---- what was prepared over the session
 
@@ -296,7 +310,7 @@ replied old new stores state files line prepared made accepted named mode m last
     let by_state = subst (λ (was : Mode). NamesMode (asked_of was.version line) prepared.answer) (sym h.mode_is) names in
     let behind_is : mode ≡ unwrap_or (mode_named prepared.answer) old.mode =
     mode_is ∙ ap (λ (n : Option Mode). unwrap_or n old.mode) is_named in
-    let after_is = stands_after mid new state files line prepared stands step by_state
+    let after_is = stands_after mid new state files line prepared (last.window_is ∙ m) stands step by_state
     (subst (λ (b : Bool).
     HasCommitted mid new prepared.change b (unwrap_or (mode_named prepared.answer) old.mode)) same
     (subst (HasCommitted mid new prepared.change accepted) behind_is committed)) in

@@ -6,21 +6,22 @@ use Rattle.mp_replies.specs.declared.causes.Cause.{Cause}
 use Rattle.mp_replies.specs.declared.causes.Cause.TheVariants.{File, FileSize, Record, Rows}
 use Rattle.mp_replies.specs.declared.modes.Mode.{Mode}
 use Rattle.mp_replies.specs.declared.modes.ReportForm.{ReportForm}
-use Rattle.mp_replies.specs.Command.{OpenAnew, KeepLast, Load, Append}
+use Rattle.mp_replies.specs.Command.{OpenAnew, KeepLast, Load, LoadLazy, Append, Advance}
 use Rattle.mp_replies.specs.Line.{Asked, Asks, asked_of}
 use Rattle.mp_replies.specs.Output.{reply}
 use Rattle.mp_replies.specs.State.{Files, State, Store, first_version, second_version, store_at}
 use Rattle.mp_replies.specs.Step.{after, answer, counted, fetches}
 use Rattle.mp_replies.specs.Report.{refusal_written}
 use Rattle.mp_replies.specs.Words.{Setup}
-use Rattle.mp_stores.specs.Stores.{StandChanged, StandFor, Stored, lists_in, reads_at}
+use Rattle.mp_stores.specs.Stores.{StandAsBefore, StandChanged, StandFor, Stored, lists_in, reads_at}
 use Rattle.mp_requests.specs.Requests.{is_accepted, is_unread, kind_of, mode_asked}
 use Rattle.mp_requests.specs.declared.answers.ReplyKind.TheVariants as kinds
 use Rattle.mp_requests.specs.Reads.{AreUnread}
 use Rattle.mp_requests.specs.declared.replies.Reply.{Reply}
-use Rattle.mp_commands.specs.Reads.{most_reads, renews}
+use Rattle.mp_commands.specs.Reads.{advances, most_reads, renews}
 use Rattle.mp_commands.specs.declared.prepared.Change.{Change}
-use Rattle.mp_commands.specs.declared.prepared.Change.TheVariants.{Keep, PutChannels, PutKept, AddSamples}
+use Rattle.mp_commands.specs.declared.prepared.Change.TheVariants.{Keep, PutChannels, PutKept, PutLazy}
+use Rattle.mp_commands.specs.declared.prepared.Change.TheVariants.{AddSamples, Advance as CoverMore}
 use Rattle.mp_commands.specs.Preparing.{changed_by}
 
 -- what is seen of a session
@@ -59,12 +60,27 @@ pub record HasCommitted (old new : SessionParts) (change : Change) (accepted : B
   pub begun_is : new.begun ≡ (old.begun || accepted)
   pub stores_stand : StandChanged (changed_by change) old.stores new.stores
 
+-- nothing was changed but reads and room
+pub record HasStopped (old new : SessionParts) : Type 0 where
+  pub settings_are : new.settings ≡ old.settings
+  pub mode_is : new.mode ≡ old.mode
+  pub lines_is : new.lines ≡ old.lines
+  pub begun_is : new.begun ≡ old.begun
+  pub stores_stand : StandAsBefore old.stores new.stores
+
+-- diagonals are covered, the one change that takes memory
+abbrev pub CoversMore : Change → Type 0
+CoversMore (CoverMore slot count) = Unit {0}
+CoversMore other = ⊥
+
 -- so many samples are added to each channel of this slot
 abbrev pub AddsEach : Change → ℕ → ℕ → Type 0
 AddsEach Keep slot count = ⊥
 AddsEach (PutChannels at channels) slot count = ⊥
 AddsEach (PutKept at kept) slot count = ⊥
+AddsEach (PutLazy at part) slot count = ⊥
 AddsEach (AddSamples at added) slot count = (at ≡ slot) × All (λ samples. length samples ≡ count) (lists_in added.items)
+AddsEach (CoverMore at more) slot count = ⊥
 
 -- ---- a reply
 
@@ -88,7 +104,9 @@ abbrev pub changes : Asked → ℕ → Bool
 changes (Asks (OpenAnew at channels)) slot = slot == at
 changes (Asks (KeepLast at keep)) slot = slot == at
 changes (Asks (Load at file columns header)) slot = slot == at
+changes (Asks (LoadLazy at file column header)) slot = slot == at
 changes (Asks (Append at items)) slot = slot == at
+changes (Asks (Advance at count)) slot = slot == at
 changes other slot = false
 
 -- the line was counted and a command accepted, the mode is the one that it asks for, if it asks for one, and no slot
@@ -119,7 +137,7 @@ pub record IsFileRefused (form : ReportForm) (line : ℕ) (text : List ℕ) : Ty
   pub text_is : text ≡ refusal_written form line cause
 
 -- what such an answer says in this state. A line that isn't accepted is counted and changes nothing else, and a load
--- that asks for its file is refused for that alone
+-- that asks for its file, whether its profile is made at once or in parts, is refused for that alone
 pub record IsReplyOverAny (state : State) (line : List ℕ) (new : SessionParts) (answered : Reply) : Type 0 where
   pub unaccepted : is_accepted answered.kind ≡ false → StandsFor new (counted state)
   pub accepted : is_accepted answered.kind ≡ true → WasAccepted (asked_of state.mode.version line) state new
@@ -138,10 +156,10 @@ pub record WasCounted {E : Type 0} (old new : SessionParts) (result : Result Rep
 abbrev pub LeavesChannels : {E : Type 0} → Asked → ℕ → Result Reply E → Type 0
 LeavesChannels what slot result = IfOk result (λ answered. is_accepted answered.kind ≡ true → renews what slot ≡ false)
 
--- How often a line read samples. Counts never fall but in a slot into which an accepted line puts channels, and nothing
--- is read by a line that isn't accepted.
+-- How often a line read samples. Counts never fall but in a slot into which an accepted line puts channels, nothing is
+-- read by a line that isn't accepted, and so many samples at the most by one that covers no diagonals of the slot.
 pub record WereReadBy {E : Type 0} (what : Asked) (old new : Stored) (result : Result Reply E) : Type 0 where
-  pub most : (slot : ℕ) → LeavesChannels what slot result
+  pub most : (slot : ℕ) → LeavesChannels what slot result → advances what slot ≡ false
       → reads_at new slot ≤ reads_at old slot + most_reads old what slot
   pub rise : (slot : ℕ) → LeavesChannels what slot result → reads_at old slot ≤ reads_at new slot
   pub unread : is_unread what ≡ true → AreUnread old new

@@ -1,6 +1,7 @@
 //! The session: lines in, reports out, and the call that serves an input from its first byte to its last.
 #![tactic(auto)]
 
+mod changes;
 mod halts;
 mod runs;
 mod sessions;

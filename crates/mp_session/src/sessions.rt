@@ -1,8 +1,9 @@
 //! A session: lines in, replies out.
 
-ghost use Rattle.std.specs.Prelude.{◌≡◌, ◌↔◌, ℕ, ◌+◌, ◌-◌, ◌^◌, ◌<◌, ◌≤◌, min, IfOk, OnErr, IsErrOf};
+ghost use Rattle.std.specs.Prelude.{◌≡◌, ◌↔◌, ℕ, ◌+◌, ◌-◌, ◌^◌, ◌<◌, ◌≤◌, min, IfOk, OnErr, OnOk, IsErrOf};
 ghost use Rattle.std.specs.Prelude.{IsNone, IfSome, false};
 
+use crate::changes::make_change;
 use mp_commands::{Change, Prepared, prepare};
 use mp_nums::{Memory, Width};
 use mp_outside::{Gate, Shelf};
@@ -57,11 +58,11 @@ impl Session {
     ghost use Rattle.mp_replies.specs.Line.{asked_of, ends};
     ghost use Rattle.mp_replies.specs.State.{Files, State, first_version, opening, second_version, store_at, Closed};
     ghost use Rattle.mp_requests.specs.Requests.{is_ended};
-    ghost use Rattle.mp_commands.specs.Preparing.{CanMake, IsAsked, ToldFor, adds, puts};
+    ghost use Rattle.mp_commands.specs.Preparing.{CanMake, IsAsked, ToldFor, adds, covers, puts};
     ghost use Rattle.mp_commands.specs.Reads.{append_reads};
     ghost use Rattle.mp_stores.specs.Stores.{reads_at};
-    ghost use Rattle.mp_session.specs.Sessions.{AddsEach, AsksFile, HasCommitted, IsReplyBy, IsReplyBySome};
-    ghost use Rattle.mp_session.specs.Sessions.{IsReplyOverAny, StandsFor, WasCounted, WereReadBy};
+    ghost use Rattle.mp_session.specs.Sessions.{AddsEach, AsksFile, CoversMore, HasCommitted, HasStopped, IsReplyBy};
+    ghost use Rattle.mp_session.specs.Sessions.{IsReplyBySome, IsReplyOverAny, StandsFor, WasCounted, WereReadBy};
 
     /// Slot 0 is open with one empty channel, all other slots are closed, and no line was run.
     pub fn new<R: Threads + Sync>(
@@ -84,8 +85,8 @@ impl Session {
     }
 
     /// Runs one line without its LF: answers it and makes its change. A line that is refused or quiet changes nothing
-    /// but the number of lines run, and reads no sample. A file is fetched by a `load` alone, once, and only where
-    /// nothing refuses the line without it.
+    /// but the number of lines run, and reads no sample. A file is fetched by a `load` or `lazy` alone, once, and only
+    /// where nothing refuses the line without it.
     ///
     /// All memory is taken before the first change, so that a run that stops at the line leaves the session as it
     /// was before, how often samples were read aside.
@@ -128,41 +129,56 @@ impl Session {
         let accepted = answer.kind().is_accepted();
         let mode = answer.mode().unwrap_or(self.mode);
         let reply = answer.reply(alloc, mode.form, self.lines + 1, &self.stores)?;
-        self.commit(change, accepted, mode);
+        self.commit(rt, alloc, gate, change, accepted, mode)?;
         Ok(reply)
     }
 
-    /// Counts the line and makes its change, for which all memory was taken. The mode is that of the next line.
-    fn commit(&mut self, change: Change, accepted: bool, mode: Mode)
+    /// Makes the change of the line, which takes memory only where it covers diagonals, and counts the line. The mode
+    /// is that of the next line.
+    fn commit<R: Threads + Sync, G: Gate>(
+        &mut self,
+        rt: &R,
+        alloc: Global,
+        gate: &G,
+        change: Change,
+        accepted: bool,
+        mode: Mode,
+    ) -> Result<(), Memory>
         requires lines { self.old.lines < 2 ^ 64 - 1 }
         requires can { CanMake self.old.stores change }
         requires first { first_version ≤ mode.version }
         requires last { mode.version ≤ second_version }
-        ensures committed { HasCommitted self.old self.new change accepted mode }
+        ensures committed { OnOk result (HasCommitted self.old self.new change accepted mode) }
+        ensures stopped { OnErr result (HasStopped self.old self.new) }
+        ensures only { OnErr result (CoversMore change) }
         ensures rise { (slot : ℕ) → puts change slot ≡ false
             → reads_at self.old.stores slot ≤ reads_at self.new.stores slot }
-        ensures rest { (slot : ℕ) → puts change slot ≡ false → adds change slot ≡ false
+        ensures rest { (slot : ℕ) → puts change slot ≡ false → adds change slot ≡ false → covers change slot ≡ false
             → reads_at self.new.stores slot ≡ reads_at self.old.stores slot }
         ensures added { (slot count : ℕ) → AddsEach change slot count
             → reads_at self.new.stores slot ≤ reads_at self.old.stores slot + append_reads self.old.stores slot count }
     {
+        make_change(
+            rt,
+            alloc,
+            &mut self.stores,
+            change,
+            self.settings.workers(),
+            gate,
+        )?;
         self.mode = mode;
         self.lines += 1;
         self.begun |= accepted;
-        match change {
-            Change::Keep => {}
-            Change::PutChannels { slot, channels } => self.stores.put(slot, channels),
-            Change::PutKept { slot, kept } => self.stores.put_kept(slot, kept),
-            Change::AddSamples { slot, added } => self.stores.add(slot, added.as_slice()),
-        }
+        Ok(())
     }
 
     /// How often samples of the slot were read, of all its channels together, `None` where the slot is closed.
     ///
-    /// A sample that is appended is compared with every window, from the samples that enter these and leave them. A
-    /// channel that is loaded begins with the reads of its first profile. A line that compares a channel with others
-    /// has its samples lent, so that each counts as read as often as there are samples, as for every pair of them. A
-    /// report of a profile reads none. The count stays at its greatest value.
+    /// A sample that is appended is compared with every window, or with those of the diagonals that are covered, from
+    /// the samples that enter these and leave them. A channel that is loaded begins with the reads of its first
+    /// profile. A line that compares a channel with others has its samples lent, so that each counts as read as often
+    /// as there are samples, as for every pair of them. A report of a profile reads none. The count stays at its
+    /// greatest value.
     pub fn reads(&self, slot: u64) -> Option<u128>
         ensures closed { (state : State) → StandsFor self.now state
             → IsNone result ↔ (store_at state.stores slot ≡ Closed) }

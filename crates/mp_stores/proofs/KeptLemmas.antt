@@ -30,7 +30,7 @@ none_appended kept = record {
   most_reads = omega arith;
 }
 
-reads_more : (n l more before reads now : ℕ) → l ≡ n + 1 → reads ≤ before + n * more → now ≤ reads + more
+pub reads_more : (n l more before reads now : ℕ) → l ≡ n + 1 → reads ≤ before + n * more → now ≤ reads + more
     → now ≤ before + l * more
 reads_more n l more before reads now one was is =
     let split = ap (λ (k : ℕ). k * more) one ∙ add-mul n 1 more in omega (arith, split, was, is)

@@ -3,3 +3,4 @@ pub mod CopyLemmas
 pub mod GroupLemmas
 pub mod KeptLemmas
 pub mod StoreLemmas
+pub mod PartLemmas

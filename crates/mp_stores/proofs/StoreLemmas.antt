@@ -2,7 +2,7 @@
 use Rattle.std.proofs.Common.{◌≡◌, ◌≢◌, ℕ, zero, suc, ◌+◌, ◌-◌, ◌*◌, ◌<◌, ◌≤◌, List, [], ◌∷◌, ◌++◌, length, get_or}
 use Rattle.std.proofs.Common.{set, map, refl, ap, ◌∙◌, sym, arith, subst, Vec, append_assoc, replicate, lit≤, ⊎_elim}
 use Rattle.std.specs.Prelude.{All, take, drop, slice_get, Option, Some, None, is_some, IfSome, IfNone}
-use Rattle.std.specs.Prelude.{false, Result, Ok, Err, IfOk}
+use Rattle.std.specs.Prelude.{false, Result, Ok, Err, IfOk, OnErr, OnOk}
 use Rattle.std.specs.List.{take-map, drop-map}
 use Rattle.std.specs.declared.alloc.Global.{Global}
 use Rattle.std.proofs.lemmas.Bool.{cases_eq}
@@ -16,19 +16,23 @@ use Rattle.std.proofs.Math.Seq.{map-set_same}
 use Rattle.mp_nums.specs.declared.samples.Sample.{Sample}
 use Rattle.mp_defs.specs.Limits.{max_samples, max_window, min_window}
 use Rattle.mp_defs.specs.Series.{Series, reading_of, series_of}
-use Rattle.mp_replies.specs.Change.{extended, grown as added_to}
+use Rattle.mp_replies.specs.AppendCommand.{most_samples}
+use Rattle.mp_replies.specs.Change.{CoverNext, covered_further, extended, grown as added_to}
+use Rattle.mp_results.specs.Covering.{Covering, advanced as advanced_of}
+use Rattle.mp_defs.specs.Window.{windows}
 use Rattle.mp_replies.specs.State as states
 use Rattle.mp_replies.specs.State.{Store, store_at}
 use Rattle.mp_stream.specs.Kept.{Keeping}
 use Rattle.mp_stream.specs.Streams.{Streamed}
 use Rattle.mp_stores.specs.declared.store.Store.{Store as Kept}
 use Rattle.mp_stores.specs.declared.store.Store.TheVariants as program
-use Rattle.mp_stores.specs.Channels.{HasGrownBy, HaveGrown, KeptHasGrown}
+use Rattle.mp_stores.specs.Channels.{HasAdvanced, HasGrownBy, HaveGrown, KeptHasGrown, PartHasGrown}
 use Rattle.mp_stores.specs.Seen.{held_of}
 use Rattle.mp_stores.specs.StoreLaws.{holds_still, last_as_before}
 use Rattle.mp_stores.specs.Stores as held
-use Rattle.mp_stores.specs.Stores.{Held, Closed, Open, AreAlike, AreChannels, AreEven, AreStores, CanAppend, CanKeep}
-use Rattle.mp_stores.specs.Stores.{CanOpen, HasRoomFor}
+use Rattle.mp_stores.specs.Stores.{Held, Closed, Open, Lazy, AreAlike, AreChannels, AreEven, AreStores, CanAppend}
+use Rattle.mp_stores.specs.Stores.{CanCover, CanExtend, CanKeep, CanOpen, HasRoomFor, HasSpare, channel_count}
+use Rattle.mp_stores.specs.Stores.{StandAsBefore, StandChanged, is_lazy, sample_count}
 use Rattle.mp_stores.specs.Stores.{HasRoomIn, HaveRoom, HaveWindow, HoldsAsBefore, IsHeld, IsOfSamples, RoomWasMade}
 use Rattle.mp_stores.specs.Stores.{StandFor, StandForStore, StandsForAll, added_reads, keep_of}
 use Rattle.mp_stores.specs.Stores.{Stored, WasRead, WasReadIn, count_in, count_of, items_in, lasting, lent_of}
@@ -117,6 +121,10 @@ held_as_before m (Open old) (Open new) same is =
       window = window_like m old new same is.window;
     }
 held_as_before m (held.Kept old) (held.Kept new) same is = subst (CanKeep m) (sym same) is
+held_as_before m (Lazy old) (Lazy new) same is = record {
+  window = ap (λ (part : Covering). part.m) same ∙ is.window;
+  few = subst (λ (part : Covering). length part.items ≤ max_samples) (sym same) is.few;
+}
 held_as_before m old new same is = absurd same
 
 -- the slots behind that
@@ -212,6 +220,12 @@ room_made store channels old new now here is same made =
     (subst (λ (cs : List Streamed). WasReadIn 0 (Open cs) (Open now)) is
     (subst (λ (cs : List Streamed). WasReadIn 0 (Open old) (Open cs)) (sym same) (room_made_open old new made)))
 
+-- how many samples the first list has
+first_count : (added : List (List Sample)) (more : ℕ) → 0 < length added
+    → All (λ samples. length samples ≡ more) added → count_of added ≡ more
+first_count [] more some lists = absurd (omega (arith, some))
+first_count (list ∷ added) more some lists = All-head (λ (s : List Sample). length s ≡ more) list added lists
+
 -- there is room in each channel for a list of so many samples
 room_each : (count more : ℕ) (held : List Streamed) (added : List (List Sample)) → length added ≡ length held
     → All (λ channel. more ≤ channel.spare) held
@@ -233,15 +247,17 @@ room_each count more (channel ∷ held) (list ∷ added) long spare even lists f
     )
 
 pub room_for : (m : ℕ) (held : Held) (added : List (List Sample)) (more : ℕ) → IsHeld m held
-    → All (λ channel. more ≤ channel.spare) (streams_in held)
-    → length added ≡ length (streams_in held) → All (λ samples. length samples ≡ more) added
-    → count_in (streams_in held) + more ≤ max_samples → HaveRoom (streams_in held) added
-room_for m Closed [] more is spare long lists fits = tt
-room_for m Closed (list ∷ added) more is spare long lists fits = absurd (omega (arith, long))
-room_for m (Open channels) added more is spare long lists fits =
+    → HasSpare more held → 0 < length added → length added ≡ channel_count held
+    → All (λ samples. length samples ≡ more) added → sample_count held + more ≤ most_samples (keep_of held)
+    → HasRoomIn held added
+room_for m Closed added more is spare some long lists fits = absurd (omega (arith, some, long))
+room_for m (Open channels) added more is spare some long lists fits =
     room_each (count_in channels) more channels added long spare is.alike.same lists fits
-room_for m (held.Kept kept) [] more is spare long lists fits = tt
-room_for m (held.Kept kept) (list ∷ added) more is spare long lists fits = absurd (omega (arith, long))
+room_for m (held.Kept kept) added more is spare some long lists fits =
+    record { one = long; fits = omega (arith, first_count added more some lists, fits) }
+room_for m (Lazy part) added more is spare some long lists fits =
+    let first = first_count added more some lists in
+    record { one = long; room = omega (arith, first, spare); fits = omega (arith, first, fits) }
 
 -- ---- samples were added
 
@@ -319,6 +335,7 @@ grown_stands : (old new : List Streamed) (added : List (List Sample)) → length
     → StandForStore (Open new) (added_to store (map series_of added))
 grown_stands old new added long grown states.Closed stands = absurd stands
 grown_stands old new added long grown (states.Kept keep series) stands = absurd stands
+grown_stands old new added long grown (states.Lazy series covered) stands = absurd stands
 grown_stands old new added long grown (states.Open series) stands =
     ap (λ (list : List Series). extended list (map series_of added)) (stands ∙ series_of_items old)
     ∙ (sym (map_extended (items_in old) added)
@@ -363,6 +380,33 @@ was_kept m old new (list ∷ []) can grown is =
     }
 was_kept m old new (list ∷ next ∷ added) can grown is = absurd (omega (arith, can.one))
 
+-- samples behind those of a series whose profile is made in parts
+part_grown : (old new : Covering) (list : List Sample) → PartHasGrown list old new → (store : Store)
+    → StandForStore (Lazy old) store → StandForStore (Lazy new) (added_to store (series_of list ∷ []))
+part_grown old new list grown store stands =
+    ap (λ (s : Store). added_to s (series_of list ∷ [])) stands
+    ∙ (ap (λ (s : Series). states.Lazy s old.covered)
+    (sym (map-append reading_of old.items list) ∙ ap series_of (sym grown.items_are))
+    ∙ ap (states.Lazy (series_of new.items)) (sym grown.covered_are))
+
+was_covered : (m : ℕ) (old new : Covering) (added : List (List Sample)) → CanExtend old added
+    → PartHasGrown (get_or added 0 []) old new → CanCover m old → WasExtended m added (Lazy old) (Lazy new)
+was_covered m old new [] can grown is = absurd (omega (arith, can.one))
+was_covered m old new (list ∷ []) can grown is = record {
+  is = record {
+    window = grown.window_is ∙ is.window;
+    few = omega (arith, ap length grown.items_are, length-append old.items list, can.fits);
+  };
+  risen = record {
+    rise = grown.rise;
+    most_reads =
+        subst (λ (n : ℕ). new.reads ≤ old.reads + length list * (4 * (length old.covered + n))) is.window
+        grown.most_reads;
+  };
+  stands = λ store stands. part_grown old new list grown store stands;
+}
+was_covered m old new (list ∷ next ∷ added) can grown is = absurd (omega (arith, can.one))
+
 was_extended : (m : ℕ) (old new : Held) (added : List (List Sample)) → HasGrownBy added old new
     → HasRoomIn old added → AreEven added → IsHeld m old → WasExtended m added old new
 was_extended m (Open old) (Open new) added grown room even is =
@@ -375,7 +419,41 @@ was_extended m (Open old) (Open new) added grown room even is =
       stands = grown_stands old new added long grown;
     }
 was_extended m (held.Kept old) (held.Kept new) added grown room even is = was_kept m old new added room grown is
+was_extended m (Lazy old) (Lazy new) added grown room even is = was_covered m old new added room grown is
 was_extended m old new added grown room even is = absurd grown
+
+-- ---- diagonals were covered
+
+-- what stands in a slot behind an advance may stand there, whatever came of it
+pub held_advanced : {T E : Type 0} (result : Result T E) (m count : ℕ) (old new : Held)
+    → OnOk result (HasAdvanced count old new) → OnErr result (HoldsAsBefore old new) → IsHeld m old → IsHeld m new
+held_advanced (Ok done) m count (Lazy old) (Lazy new) advanced as_before is = record {
+  window = advanced.window_is ∙ is.window;
+  few = subst (λ (items : List Sample). length items ≤ max_samples) (sym advanced.items_are) is.few;
+}
+held_advanced (Ok done) m count old new advanced as_before is = absurd advanced
+held_advanced (Err e) m count old new advanced as_before is = held_as_before m old new as_before is
+
+abbrev further : ℕ → ℕ → Series → List ℕ → List ℕ
+further m count series covered = advanced_of m (windows (length series) m) count covered
+
+-- it stands for the store that has them covered
+pub advanced_stands : (m count : ℕ) (old new : Held) → HasAdvanced count old new → IsHeld m old → (store : Store)
+    → StandForStore old store → StandForStore new (covered_further m count store)
+advanced_stands m count (Lazy old) (Lazy new) advanced is store stands =
+    let same : covered_further m count store
+    ≡ states.Lazy (series_of old.items) (further m count (series_of old.items) old.covered) =
+    ap (covered_further m count) stands in
+    let items : series_of old.items ≡ series_of new.items = ap series_of (sym advanced.items_are) in
+    let long : length (series_of old.items) ≡ length old.items = length-map old.items reading_of in
+    let covered : further m count (series_of old.items) old.covered ≡ new.covered =
+    ap (λ (n : ℕ). advanced_of m (windows n m) count old.covered) long
+    ∙ (ap (λ (k : ℕ). advanced_of k (windows (length old.items) k) count old.covered) (sym is.window)
+    ∙ sym advanced.covered_are) in
+    same
+    ∙ (ap (λ (s : Series). states.Lazy s (further m count (series_of old.items) old.covered)) items
+    ∙ ap (states.Lazy (series_of new.items)) covered)
+advanced_stands m count old new advanced is store stands = absurd advanced
 
 -- ---- another store stands there
 
@@ -455,6 +533,59 @@ module _ {m : ℕ} {stored : List Kept} {old : Stored} {slot : ℕ} {v : Kept} (
       was_extended old.m (slot_at old slot) (held_of w) added
       (subst (λ (h : Held). HasGrownBy added h (held_of w)) slot_seen grown) room even ((stores_seen all).each slot)
 
+-- what came of an advance in a slot
+pub record WasAdvanced {T E : Type 0} (result : Result T E) (count : ℕ) (old new : Stored) (slot : ℕ) : Type 0 where
+  pub are : AreStores new
+  pub ok : OnOk result (StandChanged (CoverNext slot count) old new)
+  pub err : OnErr result (StandAsBefore old new)
+  pub rise : reads_at old slot ≤ reads_at new slot
+  pub others : (other : ℕ) → other ≢ slot → slot_at new other ≡ slot_at old other
+
+on_ok : {T E P Q : Type 0} (result : Result T E) → OnOk result P → (P → Q) → OnOk result Q
+on_ok (Ok x) p f = f p
+on_ok (Err e) p f = tt
+
+on_err : {T E P Q : Type 0} (result : Result T E) → OnErr result P → (P → Q) → OnErr result Q
+on_err (Ok x) p f = tt
+on_err (Err e) p f = f p
+
+advanced_set : {T E : Type 0} (result : Result T E) (count : ℕ) (stored : Stored) (slot : ℕ) (new : Held)
+    → AreStores stored → slot < 8 → OnOk result (HasAdvanced count (slot_at stored slot) new)
+    → OnErr result (HoldsAsBefore (slot_at stored slot) new) → reads_of (slot_at stored slot) ≤ reads_of new
+    → WasAdvanced result count stored (with_slot stored slot new) slot
+advanced_set result count stored slot new are within advanced as_before rise =
+    let old = slot_at stored slot in
+    let here = slot_set stored slot new are within in
+    let is = held_advanced result stored.m count old new advanced as_before (are.each slot) in
+    record {
+      are = slots_set stored slot new are is;
+      ok =
+          on_ok result advanced (λ moved stores stand.
+          set_stand stored stores slot new (covered_further stored.m count (store_at stores slot)) stand
+          (advanced_stands stored.m count old new moved (are.each slot) (store_at stores slot) (stand.each slot)));
+      err = on_err result as_before (λ same. record {
+        window_is = refl;
+        as_many = length-set stored.slots slot new;
+        each = λ k. from_set HoldsAsBefore holds_still stored.slots slot k new same;
+      });
+      rise = subst (λ (h : Held). reads_of old ≤ reads_of h) (sym here) rise;
+      others = λ other apart. get_or-set_other stored.slots slot other new Closed apart;
+    }
+
+module _ {m : ℕ} {stored : List Kept} {old : Stored} {slot : ℕ} {v : Kept} (all : AreSeen m stored old slot)
+    (is : v ≡ get_or stored slot v) where
+  pub seen_advanced : {T E : Type 0} (result : Result T E) (count : ℕ) (w : Kept)
+      → OnOk result (HasAdvanced count (held_of v) (held_of w)) → OnErr result (HoldsAsBefore (held_of v) (held_of w))
+      → reads_of (held_of v) ≤ reads_of (held_of w)
+      → WasAdvanced result count old (view m (set stored slot w)) slot
+  seen_advanced result count w advanced as_before rise =
+      let here = slot_seen all is in
+      subst (λ (s : Stored). WasAdvanced result count old s slot) (set_seen all w)
+      (advanced_set result count old slot (held_of w) (stores_seen all) all.within
+      (subst (λ (h : Held). OnOk result (HasAdvanced count h (held_of w))) here advanced)
+      (subst (λ (h : Held). OnErr result (HoldsAsBefore h (held_of w))) here as_before)
+      (subst (λ (h : Held). reads_of h ≤ reads_of (held_of w)) here rise))
+
 -- ---- one channel
 
 -- its window length is that of all
@@ -462,6 +593,7 @@ pub window_in : (m : ℕ) (held : Held) (k : ℕ) → IsHeld m held → k < leng
     → (stream_in held k).m ≡ m
 window_in m Closed k is inside = absurd (omega (arith, inside))
 window_in m (held.Kept kept) k is inside = absurd (omega (arith, inside))
+window_in m (Lazy part) k is inside = absurd (omega (arith, inside))
 window_in m (Open channels) k is inside =
     All-get_or (λ (c : Streamed). c.m ≡ m) channels k nothing inside is.window
 
@@ -570,27 +702,28 @@ view_at_start m stored pushed first channel n all one open_is h =
 -- ---- the channels of a slot
 
 pub record AreIn (m : ℕ) (held : Held) (channels : List Streamed) : Type 0 where
-  pub closed : channels ≡ [] → keep_of held ≡ None → held ≡ Closed
+  pub closed : channels ≡ [] → keep_of held ≡ None → is_lazy held ≡ false → held ≡ Closed
   pub few : length channels ≤ 8
   pub alike : AreChannels channels
   pub window : HaveWindow m channels
 
-none_in : (m : ℕ) (held : Held) → (keep_of held ≡ None → held ≡ Closed) → AreIn m held []
+none_in : (m : ℕ) (held : Held) → (keep_of held ≡ None → is_lazy held ≡ false → held ≡ Closed) → AreIn m held []
 none_in m held closed = record {
-  closed = λ none all. closed all;
+  closed = λ none all whole. closed all whole;
   few = omega arith;
   alike = record { few = omega arith; same = All-nil (λ (samples : List Sample). length samples ≡ 0) };
   window = All-nil (λ (c : Streamed). c.m ≡ m);
 }
 
 pub are_in : (m : ℕ) (held : Held) → IsHeld m held → AreIn m held (streams_in held)
-are_in m Closed is = none_in m Closed (λ all. refl)
-are_in m (held.Kept kept) is = none_in m (held.Kept kept) (λ all. absurd (cc all))
+are_in m Closed is = none_in m Closed (λ all whole. refl)
+are_in m (held.Kept kept) is = none_in m (held.Kept kept) (λ all whole. absurd (cc all))
+are_in m (Lazy part) is = none_in m (Lazy part) (λ all whole. absurd (cc whole))
 are_in m (Open channels) is =
     let some = is.some in
     let few = is.alike.few in
     record {
-      closed = λ none all. absurd (omega (arith, some, ap length none));
+      closed = λ none all whole. absurd (omega (arith, some, ap length none));
       few = omega (arith, few, length-map channels (λ (c : Streamed). c.items));
       alike = is.alike;
       window = is.window;
@@ -598,7 +731,8 @@ are_in m (Open channels) is =
 
 pub record ChannelsSeen (old : Stored) (slot : ℕ) (channels : List Streamed) : Type 0 where
   pub are : channels ≡ streams_at old slot
-  pub closed : channels ≡ [] → keep_of (slot_at old slot) ≡ None → slot_at old slot ≡ Closed
+  pub closed : channels ≡ [] → keep_of (slot_at old slot) ≡ None → is_lazy (slot_at old slot) ≡ false
+      → slot_at old slot ≡ Closed
   pub few : length channels ≤ 8
   pub within : 0 < length channels → slot < 8
   pub alike : AreChannels channels
@@ -631,6 +765,19 @@ pub can_keep : {X : Type 0} (found : Option X) (seen : X → Keeping) (m : ℕ) 
 can_keep None seen m here is kept = tt
 can_keep (Some x) seen m here is kept = subst (IsHeld m) kept is
 
+-- and so can a series whose profile is made in parts
+pub can_cover : {X : Type 0} (found : Option X) (seen : X → Covering) (m : ℕ) (here : Held) → IsHeld m here
+    → IfSome found (λ x. here ≡ Lazy (seen x)) → IfSome found (λ x. CanCover m (seen x))
+can_cover None seen m here is lazy = tt
+can_cover (Some x) seen m here is lazy = subst (IsHeld m) lazy is
+
+-- whether a profile is made in parts there
+pub is_lazy_by : {X : Type 0} (found : Option X) (seen : X → Covering) (here : Held)
+    → IfSome found (λ x. here ≡ Lazy (seen x)) → IfNone found (is_lazy here ≡ false)
+    → is_some found ≡ is_lazy here
+is_lazy_by None seen here lazy none = sym none
+is_lazy_by (Some x) seen here lazy none = sym (ap is_lazy lazy)
+
 pub in_some : {X P : Type 0} (found : Option X) → P → IfSome found (λ x. P)
 in_some None p = tt
 in_some (Some x) p = p
@@ -651,6 +798,7 @@ pub of_samples : (m : ℕ) (here : Held) → IsHeld m here → IsOfSamples here
 of_samples m Closed is = tt
 of_samples m (Open channels) is = tt
 of_samples m (held.Kept kept) is = (is.samples, is.stands)
+of_samples m (Lazy part) is = tt
 
 -- samples for its one channel
 pub record IsOneList (added : List (Vec Sample Global)) (list : Vec Sample Global) : Type 0 where
@@ -677,6 +825,18 @@ pub kept_grown : (store : Kept) (kept new : Keeping) (added : List (List Sample)
 kept_grown store kept new added samples here first grown =
     subst (λ (s : Kept). HasGrownBy added (held_of s) (held.Kept new)) (sym here)
     (subst (λ (list : List Sample). KeptHasGrown list kept new) first grown)
+
+-- the same of a series whose profile is made in parts
+pub part_room : (store : Kept) (part : Covering) (added : List (List Sample)) → store ≡ program.Lazy part
+    → HasRoomIn (held_of store) added → CanExtend part added
+part_room store part added here room = subst (λ (s : Kept). HasRoomIn (held_of s) added) here room
+
+pub part_extended : (store : Kept) (part new : Covering) (added : List (List Sample)) (samples : List Sample)
+    → store ≡ program.Lazy part → samples ≡ get_or added 0 [] → PartHasGrown samples part new
+    → HasGrownBy added (held_of store) (Lazy new)
+part_extended store part new added samples here first grown =
+    subst (λ (s : Kept). HasGrownBy added (held_of s) (Lazy new)) (sym here)
+    (subst (λ (list : List Sample). PartHasGrown list part new) first grown)
 
 -- ---- the first channel
 

@@ -8,7 +8,8 @@ use Rattle.mp_defs.specs.Series.{series_of}
 use Rattle.mp_defs.specs.Window.{windows}
 use Rattle.mp_defs.specs.Profile.{matrix_profile}
 use Rattle.mp_results.specs.Arcs.{index_of, indices_of}
-use Rattle.mp_stores.specs.Stores.{Held, Open, Kept, nothing}
+use Rattle.mp_results.specs.Covering.{Covering, advanced}
+use Rattle.mp_stores.specs.Stores.{Held, Open, Kept, Lazy, nothing}
 use Rattle.mp_stream.specs.Blocks.{block_len}
 use Rattle.mp_stream.specs.Kept.{Keeping, StandsFor}
 use Rattle.mp_stream.specs.Streams.{IsKnown, Streamed}
@@ -66,8 +67,28 @@ pub record KeptHasGrown (samples : List Sample) (old new : Keeping) : Type 0 whe
   pub rise : old.reads ≤ new.reads
   pub most_reads : new.reads ≤ old.reads + length samples * (4 * (old.keep + old.m))
 
--- and a slot that is open or kept
+-- samples were added to a series whose profile is made in parts
+pub record PartHasGrown (samples : List Sample) (old new : Covering) : Type 0 where
+  pub items_are : new.items ≡ old.items ++ samples
+  pub covered_are : new.covered ≡ old.covered
+  pub window_is : new.m ≡ old.m
+  pub rise : old.reads ≤ new.reads
+  pub most_reads : new.reads ≤ old.reads + length samples * (4 * (length old.covered + old.m))
+
+-- and to a slot that isn't closed
 abbrev pub HasGrownBy : List (List Sample) → Held → Held → Type 0
 HasGrownBy added (Open old) (Open new) = HaveGrown added old new
 HasGrownBy added (Kept old) (Kept new) = KeptHasGrown (slice_index_or added 0 []) old new
+HasGrownBy added (Lazy old) (Lazy new) = PartHasGrown (slice_index_or added 0 []) old new
 HasGrownBy added old new = ⊥
+
+-- reads aside, the next diagonals of a series are covered, so many of them or all that are left
+pub record PartHasAdvanced (count : ℕ) (old new : Covering) : Type 0 where
+  pub items_are : new.items ≡ old.items
+  pub covered_are : new.covered ≡ advanced old.m (windows (length old.items) old.m) count old.covered
+  pub window_is : new.m ≡ old.m
+
+-- and those of a slot
+abbrev pub HasAdvanced : ℕ → Held → Held → Type 0
+HasAdvanced count (Lazy old) (Lazy new) = PartHasAdvanced count old new
+HasAdvanced count old new = ⊥

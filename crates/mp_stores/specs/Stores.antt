@@ -1,6 +1,6 @@
 -- What is seen of slots, and the stores that they stand for.
 use Rattle.std.specs.Prelude.{◌≡◌, ◌≢◌, ℕ, ◌+◌, ◌*◌, ◌<◌, ◌≤◌, ◌==◌, if◌then◌else◌, List, [], ◌∷◌, All, length, map}
-use Rattle.std.specs.Prelude.{sum_by}
+use Rattle.std.specs.Prelude.{sum_by, Bool, true, false}
 use Rattle.std.specs.Prelude.{slice_index_or, Option, Some, None, Vec}
 use Rattle.std.specs.List.{AllZip}
 use Rattle.std.specs.declared.alloc.Global.{Global}
@@ -8,6 +8,7 @@ use Rattle.mp_nums.specs.declared.samples.Sample.{Sample}
 use Rattle.mp_defs.specs.Limits.{max_samples, max_window, min_window}
 use Rattle.mp_defs.specs.Series.{Series, series_of}
 use Rattle.mp_defs.specs.Window.{windows}
+use Rattle.mp_results.specs.Covering.{Covering}
 use Rattle.mp_replies.specs.Change.{Change, changed}
 use Rattle.mp_replies.specs.Limits.{max_channels, slot_count}
 use Rattle.mp_replies.specs.State as states
@@ -24,6 +25,8 @@ pub data Held : Type 0 where
   Open : (channels : List Streamed) → Held
   -- one channel, of which the last samples are kept
   Kept : (kept : Keeping) → Held
+  -- one channel, whose profile is made in parts
+  Lazy : (part : Covering) → Held
 
 -- the slots, and the window length of all channels
 pub record Stored : Type 0 where
@@ -80,31 +83,47 @@ pub record CanKeep (m : ℕ) (kept : Keeping) : Type 0 where
   pub samples : List Sample
   pub stands : StandsFor samples kept
 
+-- a series whose profile is made in parts can stand in a slot
+pub record CanCover (m : ℕ) (part : Covering) : Type 0 where
+  pub window : part.m ≡ m
+  pub few : length part.items ≤ max_samples
+
 -- ---- slots
 
--- the channels of a slot, none where it isn't open
+-- the channels of a slot of which all is kept, none where it isn't open
 abbrev pub streams_in : Held → List Streamed
 streams_in Closed = []
 streams_in (Open channels) = channels
 streams_in (Kept kept) = []
+streams_in (Lazy part) = []
 
 -- how many channels a slot has
 abbrev pub channel_count : Held → ℕ
 channel_count Closed = 0
 channel_count (Open channels) = length channels
 channel_count (Kept kept) = 1
+channel_count (Lazy part) = 1
 
 -- how many samples each of them has, or were ever appended to it
 abbrev pub sample_count : Held → ℕ
 sample_count Closed = 0
 sample_count (Open channels) = count_in channels
 sample_count (Kept kept) = kept.count
+sample_count (Lazy part) = length part.items
 
 -- how many samples of a slot are kept, none where all are
 abbrev pub keep_of : Held → Option ℕ
 keep_of Closed = None
 keep_of (Open channels) = None
 keep_of (Kept kept) = Some kept.keep
+keep_of (Lazy part) = None
+
+-- whether its profile is made in parts
+abbrev pub is_lazy : Held → Bool
+is_lazy Closed = false
+is_lazy (Open channels) = false
+is_lazy (Kept kept) = false
+is_lazy (Lazy part) = true
 
 -- a channel, with nothing in it where there is none
 abbrev pub stream_in : Held → ℕ → Streamed
@@ -115,12 +134,14 @@ abbrev pub reads_of : Held → ℕ
 reads_of Closed = 0
 reads_of (Open channels) = reads_in channels
 reads_of (Kept kept) = kept.reads
+reads_of (Lazy part) = part.reads
 
 -- what stands in a slot may stand there
 abbrev pub IsHeld : ℕ → Held → Type 0
 IsHeld m Closed = Unit {0}
 IsHeld m (Open channels) = CanOpen m channels
 IsHeld m (Kept kept) = CanKeep m kept
+IsHeld m (Lazy part) = CanCover m part
 
 -- what is kept is kept of some samples
 abbrev pub IsOfSamples : Held → Type 0
@@ -143,7 +164,7 @@ channel_at stored at = stream_in (slot_at stored at.slot) at.channel
 abbrev pub channel_series : Stored → Ref → Series
 channel_series stored at = series_of (channel_at stored at).items
 
--- all samples of the channels of a slot are kept, if it has channels
+-- the slot is open, if it has channels
 abbrev pub IsOpenSlot : Stored → Ref → Type 0
 IsOpenSlot stored at = channel_count (slot_at stored at.slot) ≡ length (streams_at stored at.slot)
 
@@ -167,12 +188,13 @@ pub record StandsForAll (kept : Keeping) (store : Store) : Type 0 where
   pub store_is : store ≡ states.Kept kept.keep (series_of samples)
   pub stands : StandsFor samples kept
 
--- a closed slot stands for a closed store, an open one for the series of its channels, and a kept one for each series
--- of which it may be what is kept
+-- a closed slot stands for a closed store, an open one for the series of its channels, a kept one for each series of
+-- which it may be what is kept, and a lazy one for its series and the diagonals that are covered
 abbrev pub StandForStore : Held → Store → Type 0
 StandForStore Closed states.Closed = Unit {0}
 StandForStore (Open channels) (states.Open series) = series ≡ series_in channels
 StandForStore (Kept kept) store = StandsForAll kept store
+StandForStore (Lazy part) store = store ≡ states.Lazy (series_of part.items) part.covered
 StandForStore held store = ⊥
 
 -- slots stand for as many stores, each for its own
@@ -182,7 +204,8 @@ pub record StandFor (stored : Stored) (stores : List Store) : Type 0 where
 
 -- of all stores that slots stood for a change makes stores that they stand for now
 abbrev pub StandChanged : Change → Stored → Stored → Type 0
-StandChanged change old new = (stores : List Store) → StandFor old stores → StandFor new (changed stores change)
+StandChanged change old new =
+    (stores : List Store) → StandFor old stores → StandFor new (changed old.m stores change)
 
 -- ---- what lasts
 
@@ -190,11 +213,16 @@ StandChanged change old new = (stores : List Store) → StandFor old stores → 
 abbrev pub lasting : Streamed → Streamed
 lasting channel = record channel { reads = 0; spare = 0; changed = [] }
 
+-- the same of a series whose profile is made in parts
+abbrev pub lasting_part : Covering → Covering
+lasting_part part = record part { reads = 0; spare = 0 }
+
 -- reads and room aside, a slot holds what it held
 abbrev pub HoldsAsBefore : Held → Held → Type 0
 HoldsAsBefore Closed Closed = Unit {0}
 HoldsAsBefore (Open old) (Open new) = map lasting new ≡ map lasting old
 HoldsAsBefore (Kept old) (Kept new) = new ≡ old
+HoldsAsBefore (Lazy old) (Lazy new) = lasting_part new ≡ lasting_part old
 HoldsAsBefore old new = ⊥
 
 -- and each of several does. So they stand for the stores that they stood for
@@ -230,11 +258,25 @@ pub record CanAppend (kept : Keeping) (added : List (List Sample)) : Type 0 wher
   pub one : length added ≡ 1
   pub fits : kept.count + count_of added ≤ max_appended
 
+-- there is one list of samples for the series of a lazy slot, and room for it
+pub record CanExtend (part : Covering) (added : List (List Sample)) : Type 0 where
+  pub one : length added ≡ 1
+  pub room : count_of added ≤ part.spare
+  pub fits : length part.items + count_of added ≤ max_samples
+
 -- a slot has channels, and there is room for these samples
 abbrev pub HasRoomIn : Held → List (List Sample) → Type 0
 HasRoomIn Closed added = ⊥
 HasRoomIn (Open channels) added = HaveRoom channels added
 HasRoomIn (Kept kept) added = CanAppend kept added
+HasRoomIn (Lazy part) added = CanExtend part added
+
+-- so many more samples take no memory. A kept slot needs none for them
+abbrev pub HasSpare : ℕ → Held → Type 0
+HasSpare more Closed = Unit {0}
+HasSpare more (Open channels) = All (λ channel. more ≤ channel.spare) channels
+HasSpare more (Kept kept) = Unit {0}
+HasSpare more (Lazy part) = more ≤ part.spare
 
 -- each of these lists has as many samples
 pub record AreEven (added : List (List Sample)) : Type 0 where
@@ -264,9 +306,11 @@ abbrev pub lent_once : Stored → Ref → ℕ → ℕ
 lent_once stored at slot = if slot == at.slot then lent_of (slot_at stored at.slot) at.channel else 0
 
 -- the most by which samples that are added raise the count of a slot: for each of them four times its channel's windows
--- and the samples of one, and in a kept slot four times the samples that are kept and those of a window
+-- and the samples of one, in a kept slot four times the samples that are kept and those of a window, and in a lazy one
+-- four times the diagonals that are covered and the samples of a window
 abbrev pub added_reads : ℕ → Held → List (List Sample) → ℕ
 added_reads m (Kept kept) added = count_of added * (4 * (kept.keep + m))
+added_reads m (Lazy part) added = count_of added * (4 * (length part.covered + m))
 added_reads m held added =
     length added
     * (count_of added

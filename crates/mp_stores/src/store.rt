@@ -1,21 +1,27 @@
 //! What stands in one slot.
 
 ghost use Rattle.std.specs.Prelude.{◌≡◌, ◌↔◌, ◌+◌, ◌-◌, ◌^◌, ◌<◌, ◌≤◌, ◌++◌, ◌∷◌, [], length, min, take, drop};
-ghost use Rattle.std.specs.Prelude.{All, IfOk, OnOk, IsNone, IfNone, IfSome, None};
+ghost use Rattle.std.specs.Prelude.{false, true, IfOk, OnErr, OnOk, IsNone, IfNone, IfSome, None};
 ghost use Rattle.mp_defs.specs.Limits.{max_samples};
-ghost use Rattle.mp_stores.specs.Channels.{HasGrownBy, KeptHasGrown};
+ghost use Rattle.mp_partial.specs.declared.limits.TheConstants.{MAX_WORKERS};
+ghost use Rattle.mp_stores.specs.Channels.{HasAdvanced, HasGrownBy, KeptHasGrown, PartHasAdvanced};
+ghost use Rattle.mp_stores.specs.Channels.{PartHasGrown};
 ghost use Rattle.mp_stores.specs.Seen.{held_of};
 ghost use Rattle.mp_stores.specs.Stores as held;
-ghost use Rattle.mp_stores.specs.Stores.{Closed, HasRoomIn, IsOfSamples, WasReadIn, keep_of, lent_of, lists_in};
-ghost use Rattle.mp_stores.specs.Stores.{reads_of, stream_in, streams_in};
+ghost use Rattle.mp_stores.specs.Stores.{Closed, HasRoomIn, HasSpare, HoldsAsBefore, IsOfSamples, WasReadIn, is_lazy};
+ghost use Rattle.mp_stores.specs.Stores.{keep_of, lasting_part, lent_of, lists_in, reads_of, stream_in, streams_in};
 ghost use Rattle.mp_defs.specs.Limits.{max_appended};
 
 use crate::channels::Channel;
 use crate::groups::{add_all, reads_of, reserve_all};
+use mp_anytime::Anytime;
 use mp_nums::{Memory, Sample};
+use mp_outside::Gate;
+use mp_partial::MAX_WORKERS;
 use mp_series::Bundle;
 use mp_stream::Kept;
 use std::alloc::Global;
+use std::thread::Threads;
 
 /// What stands in a slot.
 #[derive(Debug, Drop)]
@@ -25,6 +31,8 @@ pub(crate) enum Store {
     Open(Vec<Channel>),
     /// One channel, of which the last samples are kept.
     Kept(Kept),
+    /// One channel, whose profile is made in parts.
+    Lazy(Anytime),
 }
 
 impl Store {
@@ -33,7 +41,7 @@ impl Store {
         ensures { result.now ≡ streams_in (held_of self.now) }
     {
         match self {
-            Store::Closed | Store::Kept(_) => &[],
+            Store::Closed | Store::Kept(_) | Store::Lazy(_) => &[],
             Store::Open(channels) => channels.as_slice(),
         }
     }
@@ -44,8 +52,19 @@ impl Store {
         ensures none { IfNone result (keep_of (held_of self.now) ≡ None) }
     {
         match self {
-            Store::Closed | Store::Open(_) => None,
+            Store::Closed | Store::Open(_) | Store::Lazy(_) => None,
             Store::Kept(kept) => Some(kept),
+        }
+    }
+
+    /// Its channel, where its profile is made in parts.
+    pub(crate) fn lazy(&self) -> Option<&Anytime>
+        ensures some { IfSome result (λ part. held_of self.now ≡ held.Lazy part.now) }
+        ensures none { IfNone result (is_lazy (held_of self.now) ≡ false) }
+    {
+        match self {
+            Store::Closed | Store::Open(_) | Store::Kept(_) => None,
+            Store::Lazy(part) => Some(part),
         }
     }
 
@@ -58,6 +77,7 @@ impl Store {
             Store::Closed => None,
             Store::Open(channels) => Some(reads_of(channels.as_slice())),
             Store::Kept(kept) => Some(kept.reads()),
+            Store::Lazy(part) => Some(part.reads()),
         }
     }
 
@@ -76,7 +96,7 @@ impl Store {
         ensures read { WasReadIn (lent_of (held_of self.old) channel) (held_of self.old) (held_of self.new) }
     {
         match self {
-            Store::Closed | Store::Kept(_) => unreachable!(),
+            Store::Closed | Store::Kept(_) | Store::Lazy(_) => unreachable!(),
             Store::Open(channels) => channels[channel as usize].window(alloc, start),
         }
     }
@@ -89,19 +109,20 @@ impl Store {
         ensures read { WasReadIn (lent_of (held_of self.old) channel) (held_of self.old) (held_of self.new) }
     {
         match self {
-            Store::Closed | Store::Kept(_) => unreachable!(),
+            Store::Closed | Store::Kept(_) | Store::Lazy(_) => unreachable!(),
             Store::Open(channels) => channels[channel as usize].copy_to(bundle),
         }
     }
 
     /// Makes room for so many more samples in each channel. A kept one needs none.
     pub(crate) fn reserve(&mut self, more: u64) -> Result<(), Memory>
-        ensures ok { OnOk result (All (λ channel. more ≤ channel.spare) (streams_in (held_of self.new))) }
+        ensures ok { OnOk result (HasSpare more (held_of self.new)) }
         ensures read { WasReadIn 0 (held_of self.old) (held_of self.new) }
     {
         match self {
             Store::Closed | Store::Kept(_) => Ok(()),
             Store::Open(channels) => reserve_all(channels.as_mut_slice(), more),
+            Store::Lazy(part) => part.reserve(more),
         }
     }
 
@@ -115,6 +136,29 @@ impl Store {
             Store::Closed => unreachable!(),
             Store::Open(channels) => add_all(channels.as_mut_slice(), added),
             Store::Kept(kept) => append_all(kept, added[0].as_slice()),
+            Store::Lazy(part) => extend(part, added[0].as_slice()),
+        }
+    }
+
+    /// Covers so many more diagonals, or all that are left, by so many workers.
+    pub(crate) fn advance<R: Threads + Sync, G: Gate>(
+        &mut self,
+        rt: &R,
+        alloc: Global,
+        count: u64,
+        workers: u32,
+        gate: &G,
+    ) -> Result<(), Memory>
+        requires lazy { is_lazy (held_of self.old) ≡ true }
+        requires some { 1 ≤ workers }
+        requires workers { workers ≤ MAX_WORKERS }
+        ensures ok { OnOk result (HasAdvanced count (held_of self.old) (held_of self.new)) }
+        ensures err { OnErr result (HoldsAsBefore (held_of self.old) (held_of self.new)) }
+        ensures rise { reads_of (held_of self.old) ≤ reads_of (held_of self.new) }
+    {
+        match self {
+            Store::Closed | Store::Open(_) | Store::Kept(_) => unreachable!(),
+            Store::Lazy(part) => advance(rt, alloc, part, count, workers, gate),
         }
     }
 }
@@ -128,4 +172,34 @@ fn append_all(kept: &mut Kept, samples: &[Sample])
     for sample in samples {
         kept.append(*sample).unwrap();
     }
+}
+
+/// Appends the samples to those of a series whose profile is made in parts.
+fn extend(part: &mut Anytime, samples: &[Sample])
+    requires room { length samples.now ≤ part.old.spare }
+    requires fits { length part.old.items + length samples.now ≤ max_samples }
+    ensures { PartHasGrown samples.now part.old part.new }
+{
+    for sample in samples {
+        part.append(*sample).unwrap();
+    }
+}
+
+/// Covers so many more diagonals of it.
+fn advance<R: Threads + Sync, G: Gate>(
+    rt: &R,
+    alloc: Global,
+    part: &mut Anytime,
+    count: u64,
+    workers: u32,
+    gate: &G,
+) -> Result<(), Memory>
+    requires some { 1 ≤ workers }
+    requires workers { workers ≤ MAX_WORKERS }
+    ensures ok { OnOk result (PartHasAdvanced count part.old part.new) }
+    ensures err { OnErr result (lasting_part part.new ≡ lasting_part part.old) }
+    ensures rise { part.old.reads ≤ part.new.reads }
+{
+    part.advance(rt, alloc, count, workers, gate)?;
+    Ok(())
 }

@@ -2,13 +2,15 @@
 
 ghost use Rattle.std.specs.Prelude.{◌≡◌, ◌≢◌, ◌==◌, ◌↔◌, ◌+◌, ◌-◌, ◌*◌, ◌^◌, ◌<◌, ◌≤◌, ℕ, List, [], ◌∷◌, ◌++◌, length};
 ghost use Rattle.std.specs.Prelude.{map, min, sum_by, take, drop, replicate, All, IfOk, OnOk, IsNone, IfNone, IfSome};
-ghost use Rattle.std.specs.Prelude.{None, is_some};
+ghost use Rattle.std.specs.Prelude.{None, OnErr, false, is_some, true};
 ghost use Rattle.std.specs.Bool.{OnFalse};
 
 use crate::channels::Channel;
 use crate::store::Store;
+use mp_anytime::Anytime;
 use mp_nums::{Memory, Places, Sample};
-use mp_partial::Profile;
+use mp_outside::Gate;
+use mp_partial::{MAX_WORKERS, Profile};
 use mp_replies::Ref;
 use mp_series::Bundle;
 use mp_stream::Kept;
@@ -23,8 +25,9 @@ pub const SLOTS: u64 = 8;
 pub const MAX_CHANNELS: u64 = 8;
 
 /// The stores of a session, one in each slot, and the slots counted from 0. A slot is closed, or open with channels of
-/// the same length, counted from 0, or kept, with one channel of which the last samples are kept. All channels have the
-/// same window length. They are seen as that length and what stands in each slot.
+/// the same length, counted from 0, or kept, with one channel of which the last samples are kept, or lazy, with one
+/// channel whose profile is made in parts. All channels have the same window length. They are seen as that length and
+/// what stands in each slot.
 #[derive(Debug, Drop)]
 pub struct Stores {
     m: u32,
@@ -52,14 +55,15 @@ impl Stores {
     ghost use Rattle.mp_defs.specs.Window.{is_free, windows};
     ghost use Rattle.mp_nums.specs.declared.samples.Sample.{Sample};
     ghost use Rattle.mp_replies.specs.AppendCommand.{most_samples};
-    ghost use Rattle.mp_replies.specs.Change.{AddSamples, PutChannels, PutKept};
+    ghost use Rattle.mp_partial.specs.declared.limits.TheConstants.{MAX_WORKERS};
+    ghost use Rattle.mp_replies.specs.Change.{AddSamples, CoverNext, PutChannels, PutKept, PutLazy};
     ghost use Rattle.mp_replies.specs.State as states;
     ghost use Rattle.mp_replies.specs.State.{channels_at, is_closed, keep_at, samples_in, store_at};
     ghost use Rattle.mp_replies.specs.Profiles.{columns_in};
     ghost use Rattle.mp_stores.specs.Stores as held;
-    ghost use Rattle.mp_stores.specs.Stores.{HasRoomIn, channel_count, keep_of, sample_count};
+    ghost use Rattle.mp_stores.specs.Stores.{HasRoomIn, HasSpare, channel_count, is_lazy, keep_of, sample_count};
     ghost use Rattle.mp_stream.specs.Kept.{StandsFor};
-    ghost use Rattle.mp_stores.specs.Stores.{Closed, Open, AreChannels, AreEven, CanKeep, CanOpen, HaveRoom};
+    ghost use Rattle.mp_stores.specs.Stores.{Closed, Open, AreChannels, AreEven, CanCover, CanKeep, CanOpen};
     ghost use Rattle.mp_stores.specs.Stores.{HaveWindow};
     ghost use Rattle.mp_stores.specs.Stores.{IsChannel};
     ghost use Rattle.mp_stores.specs.Stores.{StandAsBefore, StandChanged, StandFor, WasRead, channel_at};
@@ -91,6 +95,7 @@ impl Stores {
         ensures m { result ≡ self.now.m }
         ensures shortest { min_window ≤ result }
         ensures longest { result ≤ max_window }
+        ensures slots { length self.now.slots ≡ SLOTS }
     {
         self.m
     }
@@ -98,7 +103,8 @@ impl Stores {
     /// The channels of a slot, none where it isn't open.
     fn channels(&self, slot: u64) -> &[Channel]
         ensures channels { result.now ≡ streams_at self.now slot }
-        ensures closed { result.now ≡ [] → keep_of (slot_at self.now slot) ≡ None → slot_at self.now slot ≡ Closed }
+        ensures closed { result.now ≡ [] → keep_of (slot_at self.now slot) ≡ None
+            → is_lazy (slot_at self.now slot) ≡ false → slot_at self.now slot ≡ Closed }
         ensures few { length result.now ≤ MAX_CHANNELS }
         ensures open { 0 < length result.now → slot < SLOTS }
         ensures alike { AreChannels result.now }
@@ -132,14 +138,37 @@ impl Stores {
         }
     }
 
+    /// The series of a slot whose profile is made in parts, `None` for another slot.
+    pub fn lazy(&self, slot: u64) -> Option<&Anytime>
+        ensures some { IfSome result (λ part. slot_at self.now slot ≡ held.Lazy part.now) }
+        ensures within { IfSome result (λ part. slot < SLOTS) }
+        ensures stands { IfSome result (λ part. CanCover self.now.m part.now) }
+        ensures none { IfNone result (is_lazy (slot_at self.now slot) ≡ false) }
+    {
+        match self.stored.get(slot as usize) {
+            Some(store) => store.lazy(),
+            None => None,
+        }
+    }
+
     /// Whether the last samples of a slot are kept, and no more.
     pub fn is_kept(&self, slot: u64) -> bool
         ensures kept { (stores : List states.Store) → StandFor self.now stores
             → result ≡ is_some (keep_at stores slot) }
-        ensures open { OnFalse result
-            (channel_count (slot_at self.now slot) ≡ length (streams_at self.now slot)) }
+        ensures all { OnFalse result (keep_of (slot_at self.now slot) ≡ None) }
     {
         self.kept(slot).is_some()
+    }
+
+    /// Whether the profile of a slot is made in parts.
+    pub fn is_lazy(&self, slot: u64) -> bool
+        ensures lazy { (stores : List states.Store) → StandFor self.now stores
+            → result ≡ states.is_lazy (store_at stores slot) }
+        ensures slot { result ≡ is_lazy (slot_at self.now slot) }
+        ensures open { OnFalse result (keep_of (slot_at self.now slot) ≡ None
+            → channel_count (slot_at self.now slot) ≡ length (streams_at self.now slot)) }
+    {
+        self.lazy(slot).is_some()
     }
 
     /// How many channels a slot has, 0 where it is closed.
@@ -155,6 +184,24 @@ impl Stores {
     {
         match self.kept(slot) {
             Some(_) => 1,
+            None => self.whole_count(slot),
+        }
+    }
+
+    /// The same of a slot that isn't kept.
+    fn whole_count(&self, slot: u64) -> u64
+        requires { keep_of (slot_at self.now slot) ≡ None }
+        ensures count { result ≡ channel_count (slot_at self.now slot) }
+        ensures channels { (stores : List states.Store) → StandFor self.now stores
+            → result ≡ length (channels_at stores slot) }
+        ensures closed { (stores : List states.Store) → StandFor self.now stores
+            → is_closed (store_at stores slot) ≡ (result == 0) }
+        ensures few { result ≤ MAX_CHANNELS }
+        ensures open { 0 < result → slot < SLOTS }
+        ensures alike { AreChannels (streams_at self.now slot) }
+    {
+        match self.lazy(slot) {
+            Some(_) => 1,
             None => self.channels(slot).len() as u64,
         }
     }
@@ -168,6 +215,20 @@ impl Stores {
     {
         match self.kept(slot) {
             Some(kept) => kept.len(),
+            None => self.whole_len(slot),
+        }
+    }
+
+    /// How many samples each channel of a slot has that isn't kept.
+    fn whole_len(&self, slot: u64) -> u64
+        requires { keep_of (slot_at self.now slot) ≡ None }
+        ensures count { result ≡ sample_count (slot_at self.now slot) }
+        ensures length { (stores : List states.Store) → StandFor self.now stores
+            → result ≡ samples_in (channels_at stores slot) }
+        ensures within { result ≤ max_samples }
+    {
+        match self.lazy(slot) {
+            Some(part) => part.len(),
             None => self.open_len(slot),
         }
     }
@@ -272,11 +333,11 @@ impl Stores {
     /// Makes room for so many more samples in each channel of a slot.
     pub fn reserve(&mut self, slot: u64, more: u64) -> Result<(), Memory>
         requires { slot < SLOTS }
-        ensures ok { OnOk result (All (λ channel. more ≤ channel.spare) (streams_at self.new slot)) }
-        ensures room { (added : List (List Sample)) → OnOk result (length added ≡ length (streams_at self.new slot)
-            → All (λ samples. length samples ≡ more) added
-            → count_in (streams_at self.old slot) + more ≤ max_samples
-            → HaveRoom (streams_at self.new slot) added) }
+        ensures ok { OnOk result (HasSpare more (slot_at self.new slot)) }
+        ensures room { (added : List (List Sample)) → OnOk result (0 < length added
+            → length added ≡ channel_count (slot_at self.old slot) → All (λ samples. length samples ≡ more) added
+            → sample_count (slot_at self.old slot) + more ≤ most_samples (keep_of (slot_at self.old slot))
+            → HasRoomIn (slot_at self.new slot) added) }
         ensures stands { StandAsBefore self.old self.new }
         ensures reads { (other : ℕ) → reads_at self.new other ≡ reads_at self.old other }
     {
@@ -284,8 +345,9 @@ impl Stores {
     }
 
     /// Appends to each channel of a slot its samples, as many to each, for which there is room. For each of them it
-    /// reads no more than four samples for each window and for each sample of one, and in a kept slot no more than four
-    /// for each sample that may be kept and for each sample of a window.
+    /// reads no more than four samples for each window and for each sample of one, in a kept slot no more than four for
+    /// each sample that may be kept and for each sample of a window, and in a lazy one no more than four for each
+    /// diagonal that is covered and for each sample of a window.
     pub fn add(&mut self, slot: u64, added: &[Vec<Sample>])
         requires slot { slot < SLOTS }
         requires room { HasRoomIn (slot_at self.old slot) (lists_in added.now) }
@@ -323,5 +385,42 @@ impl Stores {
         ensures others { (other : ℕ) → other ≢ slot → slot_at self.new other ≡ slot_at self.old other }
     {
         self.stored[slot as usize] = Store::Kept(kept);
+    }
+    /// Puts a series whose profile is made in parts, of which nothing is covered, in place of what stood in a slot.
+    pub fn put_lazy(&mut self, slot: u64, part: Anytime)
+        requires slot { slot < SLOTS }
+        requires window { part.m ≡ self.old.m }
+        requires uncovered { part.covered ≡ [] }
+        ensures m { self.new.m ≡ self.old.m }
+        ensures stands { StandChanged (PutLazy slot (series_of part.items)) self.old self.new }
+        ensures lazy { slot_at self.new slot ≡ held.Lazy part }
+        ensures others { (other : ℕ) → other ≢ slot → slot_at self.new other ≡ slot_at self.old other }
+    {
+        let _samples = part.len();
+        self.stored[slot as usize] = Store::Lazy(part);
+    }
+
+    /// Covers so many more diagonals of a lazy slot, or all that are left, by so many workers. Where there is no
+    /// memory, only samples were read.
+    pub fn advance<R: Threads + Sync, G: Gate>(
+        &mut self,
+        rt: &R,
+        alloc: Global,
+        slot: u64,
+        count: u64,
+        workers: u32,
+        gate: &G,
+    ) -> Result<(), Memory>
+        requires slot { slot < SLOTS }
+        requires lazy { is_lazy (slot_at self.old slot) ≡ true }
+        requires some { 1 ≤ workers }
+        requires workers { workers ≤ MAX_WORKERS }
+        ensures m { self.new.m ≡ self.old.m }
+        ensures ok { OnOk result (StandChanged (CoverNext slot count) self.old self.new) }
+        ensures err { OnErr result (StandAsBefore self.old self.new) }
+        ensures rise { reads_at self.old slot ≤ reads_at self.new slot }
+        ensures others { (other : ℕ) → other ≢ slot → slot_at self.new other ≡ slot_at self.old other }
+    {
+        self.stored[slot as usize].advance(rt, alloc, count, workers, gate)
     }
 }

@@ -116,7 +116,7 @@ fn check<R: Abort + AllocGlobal + Threads + Sync>(rt: &R, talk: &Talk<'_>) {
     }
 }
 
-static TALKS: [Talk; 9] = [
+static TALKS: [Talk; 10] = [
     Talk {
         shows: "lines are quiet, accepted or refused, or end the run",
         failing_fetch: None,
@@ -310,6 +310,36 @@ static TALKS: [Talk; 9] = [
             ("session 1", Ok(Accepted), "ok 1\n", &[]),
             ("load 0 table.csv 0", Ok(Accepted), "ok 2 3\n", &[]),
             ("session 1", Ok(Refused), "refused 3 version\n", &[]),
+        ],
+    },
+    Talk {
+        shows: "an append reads four samples for each covered diagonal and each sample of a window",
+        failing_fetch: None,
+        turns: &[
+            ("lazy 0 table.csv 0", Ok(Accepted), "ok 1 3\n", &[]),
+            ("append 0 4 5 6", Ok(Accepted), "ok 2 6\n", &[(0, Some(36))]),
+            ("advance 0 1", Ok(Accepted), "advance 3 1 1\n", &[]),
+            (
+                "partial 0",
+                Ok(Accepted),
+                "partial 4 4 1\n0 12 2 - 2\n1 12 3 - 3\n2 12 0 0 -\n3 12 1 1 -\n",
+                &[(0, Some(0))],
+            ),
+            (
+                "profile 0",
+                Ok(Refused),
+                "refused 5 lazy\n",
+                &[(0, Some(0))],
+            ),
+            ("advance 0 9", Ok(Accepted), "advance 6 1 0\n", &[]),
+            ("append 0 7", Ok(Accepted), "ok 7 7\n", &[(0, Some(20))]),
+            (
+                "advance 0 0",
+                Ok(Refused),
+                "refused 8 number\n",
+                &[(0, Some(0))],
+            ),
+            ("advance 0 1", Ok(Accepted), "advance 9 1 0\n", &[]),
         ],
     },
 ];

@@ -45,6 +45,7 @@ fn push_word(json: &mut Writer, alloc: Global, cause: Cause) -> Result<(), Memor
         Cause::Number => json.string("number")?,
         Cause::Slot => json.string("slot")?,
         Cause::Kept => json.string("kept")?,
+        Cause::Lazy => json.string("lazy")?,
         Cause::Channel => json.string("channel")?,
         Cause::Sample(number) => push_numbered(json, alloc, "sample ", number)?,
         Cause::Full => json.string("full")?,

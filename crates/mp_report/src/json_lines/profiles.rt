@@ -86,7 +86,7 @@ fn push_profile(
     Ok(())
 }
 
-fn push_rows(
+pub(crate) fn push_rows(
     json: &mut Writer,
     first: u64,
     all: &[Slot],

@@ -1,4 +1,5 @@
-//! `pan R LO HI`: for each window length of a range the nearest pair of windows of a channel, and the most unusual window.
+//! `pan R LO HI`: for each window length of a range the nearest pair of windows of a channel, and the most unusual
+//! window.
 
 ghost use Rattle.std.specs.Prelude.{◌≡◌, ◌≤◌, length, IfOk};
 ghost use Rattle.mp_defs.specs.Limits.{max_samples};

@@ -1,5 +1,5 @@
 use Rattle.std.proofs.Common.{◌≡◌, suc, ◌+◌, ◌-◌, ◌*◌, ◌%◌, ◌^◌, ◌<◌, subst, arith}
-use Rattle.mp_anytime.specs.Reversal.{reversed}
+use Rattle.mp_results.specs.Reversal.{reversed}
 use Rattle.mp_anytime.proofs.Digits.{one_digit, power_more, reversed_none}
 use Rattle.mp_anytime.proofs.reversals.reversal.Goals as goal
 

@@ -1,5 +1,5 @@
 use Rattle.std.proofs.Common.{◌≡◌, ◌+◌, ◌-◌, ◌*◌, ◌^◌, ◌<◌}
-use Rattle.mp_anytime.specs.Reversal.{reversed}
+use Rattle.mp_results.specs.Reversal.{reversed}
 use Rattle.mp_anytime.proofs.reversals.reversal.Given as goal
 
 abbrev pub invariant-loop-digit : goal.invariant-loop-digit

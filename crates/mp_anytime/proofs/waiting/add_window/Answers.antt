@@ -1,6 +1,6 @@
 use Rattle.std.proofs.Common.{◌∙◌, ap, refl, get_or, false}
 use Rattle.std.specs.Prelude.{◌==◌, nat_lt, if◌then◌else◌}
-use Rattle.mp_anytime.specs.Reversal.{reversal}
+use Rattle.mp_results.specs.Reversal.{reversal}
 use Rattle.mp_anytime.proofs.Choosing.{add_at}
 use Rattle.mp_anytime.proofs.waiting.add_window.Goals as goal
 

@@ -1,5 +1,5 @@
 use Rattle.std.proofs.Common.{◌∙◌, arith}
-use Rattle.mp_anytime.specs.Covering.{is_uncovered}
+use Rattle.mp_results.specs.Covering.{is_uncovered}
 use Rattle.mp_anytime.proofs.Choosing.{none_chosen}
 use Rattle.mp_anytime.proofs.waiting.choose.Goals as goal
 

@@ -1,6 +1,6 @@
 use Rattle.std.proofs.Common.{◌≡◌, ℕ, ◌≤◌, List, length, take}
 use Rattle.std.specs.Prelude.{filter}
-use Rattle.mp_anytime.specs.Covering.{by_reversal, is_uncovered}
+use Rattle.mp_results.specs.Covering.{by_reversal, is_uncovered}
 use Rattle.mp_anytime.specs.Kept.{AreWaiting}
 use Rattle.mp_anytime.proofs.waiting.choose.Given as goal
 

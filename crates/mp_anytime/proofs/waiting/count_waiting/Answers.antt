@@ -1,5 +1,5 @@
 use Rattle.std.proofs.Common.{true, false, arith, ◌∙◌, sym}
-use Rattle.mp_anytime.specs.Covering.{is_uncovered}
+use Rattle.mp_results.specs.Covering.{is_uncovered}
 use Rattle.mp_anytime.proofs.Choosing.{count_more, none_counted}
 use Rattle.mp_anytime.proofs.waiting.count_waiting.Goals as goal
 use Rattle.mp_anytime.proofs.waiting.count_waiting.Goals.{then-waiting-place, else-waiting-place}

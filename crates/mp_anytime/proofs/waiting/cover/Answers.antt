@@ -1,6 +1,6 @@
 use Rattle.std.proofs.Common.{◌∙◌, refl, get_or, false}
 use Rattle.std.specs.Prelude.{◌==◌}
-use Rattle.mp_anytime.specs.Reversal.{reversal}
+use Rattle.mp_results.specs.Reversal.{reversal}
 use Rattle.mp_anytime.proofs.Choosing.{cover_at}
 use Rattle.mp_anytime.proofs.waiting.cover.Goals as goal
 

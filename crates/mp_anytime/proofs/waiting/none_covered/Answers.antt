@@ -1,7 +1,7 @@
 use Rattle.std.proofs.Common.{◌≡◌, ℕ, [], ◌∙◌, sym, subst, false, arith}
 use Rattle.std.proofs.lemmas.Bool.Decides.{nat_tests}
-use Rattle.mp_anytime.specs.Reversal.{reversal}
-use Rattle.mp_anytime.specs.Covering.{is_uncovered}
+use Rattle.mp_results.specs.Reversal.{reversal}
+use Rattle.mp_results.specs.Covering.{is_uncovered}
 use Rattle.mp_anytime.specs.Kept.{AreWaiting}
 use Rattle.mp_anytime.proofs.waiting.none_covered.Goals as goal
 

@@ -5,7 +5,7 @@ use Rattle.mp_replies.specs.State.{channels_at, samples_in}
 use Rattle.mp_stores.specs.Stores.{keep_of, lists_in, slot_at}
 use Rattle.mp_stores.specs.StoreLaws.{stand_as_before}
 use Rattle.mp_requests.specs.Answering.{state_over}
-use Rattle.mp_commands.proofs.AppendLemmas.{added_even, added_long, appended, most_few, room_in}
+use Rattle.mp_commands.proofs.AppendLemmas.{added_even, added_long, appended, most_few}
 use Rattle.mp_commands.proofs.append_command.prepare_append.Goals as goal
 
 pub returns-clause-prepared : goal.returns-clause-prepared
@@ -45,15 +45,15 @@ returns-clause-ready c =
       can = record {
         within = c.count.ensures.open c.in-Ok.ensures.open;
         room =
-            room_in (slot_at c.args.stores.now slot) (slot_at c.reserve.new.self slot) added n c.in-Ok.count
-            (c.reserve.ensures.stands.each slot) c.count.ensures.count c.in-Ok.ensures.open
-            (added_long n _ added c.in_ok-added.ensures)
+            let long = added_long n _ added c.in_ok-added.ensures in
+            c.in_ok-reserve.ensures.room added (omega (arith, long, c.in-Ok.ensures.open)) (long ∙ c.count.ensures.count)
             (subst (λ (m : ℕ). All (λ samples. length samples ≡ m) added) (sym c.in-Ok.ensures.count) even)
-            c.in-Ok.ensures.fits (c.in_ok-reserve.ensures.room added);
+            c.in-Ok.ensures.fits;
         even = record { count = length items; each = even };
       };
       kept = λ h. absurd (cc h);
       renewed = λ other put. absurd (cc put);
+      advanced = λ other cover. absurd (cc cover);
       adds = (refl, even);
       names = tt;
       ends = refl;

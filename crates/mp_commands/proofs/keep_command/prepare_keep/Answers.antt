@@ -23,6 +23,7 @@ returns-clause-ready c = record {
   };
   kept = λ h. absurd (cc h);
   renewed = λ other put. put;
+  advanced = λ other cover. absurd (cc cover);
   adds = tt;
   names = tt;
   ends = refl;

@@ -75,6 +75,7 @@ returns-clause-ready g c = record {
       (rw m at c.in_ok-channels.ensures.window);
   kept = λ h. absurd (cc h);
   renewed = λ other put. put;
+  advanced = λ other cover. absurd (cc cover);
   adds = tt;
   names = tt;
   ends = refl;

@@ -46,3 +46,16 @@ returns-in-Append-clause-shelf g c =
     (needs_none c.args.context (changed_in c.args.request) c.args.stores.now
     (λ state. ap (λ request. fetches_by state (changed_in request)) c.in-Append.is))
     c.prepare_append.ensures.calm
+
+pub returns-in-Advance-clause-some_files : goal.returns-in-Advance-clause-some_files
+returns-in-Advance-clause-some_files g c =
+    subst (λ (what : Asked). IfOk c.prepare_advance.result (IsPreparedBySome c.args.context what c.args.stores.now))
+    (sym (ap changed_in c.in-Advance.is))
+    (some_taken c.args.context _ c.args.stores.now c.prepare_advance.result c.prepare_advance.ensures.prepared)
+
+pub returns-in-Advance-clause-shelf : goal.returns-in-Advance-clause-shelf
+returns-in-Advance-clause-shelf g c =
+    unasked c.args.shelf.now
+    (needs_none c.args.context (changed_in c.args.request) c.args.stores.now
+    (λ state. ap (λ request. fetches_by state (changed_in request)) c.in-Advance.is))
+    c.prepare_advance.ensures.calm

@@ -7,8 +7,8 @@ use Rattle.mp_requests.specs.Answering.{state_over}
 use Rattle.mp_requests.specs.declared.answers.Answer.{Answer}
 use Rattle.mp_commands.specs.Preparing.{IsPreparedBySome, IsReady}
 use Rattle.mp_commands.proofs.FileLemmas.{needs_none, no_file, unasked}
-use Rattle.mp_commands.proofs.PreparingLemmas.{can_keep, keep_adds, keep_puts, names_last, prepared_quiet}
-use Rattle.mp_commands.proofs.PreparingLemmas.{prepared_report, report_needs_none, taken_for}
+use Rattle.mp_commands.proofs.PreparingLemmas.{can_keep, keep_adds, keep_covers, keep_puts, names_last}
+use Rattle.mp_commands.proofs.PreparingLemmas.{prepared_quiet, prepared_report, report_needs_none, taken_for}
 use Rattle.mp_commands.proofs.preparing.prepare_command.Goals as goal
 
 pub returns-in_ok-answer-in-Report-clause-prepared : goal.returns-in_ok-answer-in-Report-clause-prepared
@@ -60,6 +60,7 @@ returns-in_ok-answer-in-Report-clause-ready g c =
       can = can_keep new prepared.change kept;
       kept = λ h. kept;
       renewed = λ slot put. keep_puts prepared.change slot _ kept put;
+      advanced = λ slot cover. keep_covers prepared.change slot _ kept cover;
       adds = keep_adds (reported_in request) prepared.change kept;
       names = rw same (names_last c.args.stores.now new c.in_ok-answer-in-Report.field-0 last told.names);
       ends = ap (λ (a : Answer). is_ended (kind_by a)) same ∙ told.ends;

@@ -26,7 +26,9 @@ appended files = after (opening 3 1) (codes "append 0 7") files
 abbrev loaded : State → Option (List ℕ) → Verdict
 loaded state bytes =
     verdict_by (Load 0 (codes "day.csv") (1 ∷ []) true)
-    (first_cause (load_conditions state.stores 0 (1 ∷ []) ++ file_conditions state.mode.width state.scale (1 ∷ []) true bytes))
+    (first_cause
+    (load_conditions state.stores 0 (1 ∷ [])
+    ++ file_conditions state.mode.width state.scale (1 ∷ []) true bytes))
     (PutChannels 0 (channels_of state.mode.width state.scale (1 ∷ []) true bytes))
 
 pub returns : goal.returns
@@ -35,5 +37,6 @@ unfolding digits near distance field_at next_record records_from strip_bom
 returns c = λ files is.
     ap (λ (bytes : Option (List ℕ)).
     let behind = after_by (appended files) (loaded (appended files) bytes) in
-    codes "ok 1 1\n" ++ (written_of behind.mode.form 2 (answer_by behind (loaded (appended files) bytes))
+    codes "ok 1 1\n"
+    ++ (written_of behind.mode.form 2 (answer_by (appended files) behind (loaded (appended files) bytes))
     ++ concat (replies behind files (codes "window 0 0" ∷ [])))) is

@@ -1,6 +1,6 @@
 use Rattle.std.proofs.Common.{◌≡◌, subst}
 use Rattle.mp_defs.specs.Series.{series_of}
-use Rattle.mp_anytime.specs.LazyProfile.{lazy_profile}
+use Rattle.mp_results.specs.LazyProfile.{lazy_profile}
 use Rattle.mp_anytime.proofs.Windows.{all_entries}
 use Rattle.mp_anytime.proofs.lazy.Anytime.profile.Goals as goal
 

@@ -1,7 +1,7 @@
 use Rattle.std.proofs.Common.{◌∙◌, ℕ, ap, length, subst, sym}
 use Rattle.std.specs.Prelude.{◌==◌}
-use Rattle.mp_stores.specs.StoreLaws.{count_stands, is_closed_stands, open_counted}
-use Rattle.mp_stores.specs.Stores.{AreChannels, Held, channel_count, keep_of, slot_at, streams_in}
+use Rattle.mp_stores.specs.StoreLaws.{count_stands, is_closed_stands}
+use Rattle.mp_stores.specs.Stores.{AreChannels, Held, channel_count, keep_of, streams_in}
 use Rattle.mp_stores.proofs.StoreLemmas.{none_alike}
 use Rattle.mp_stores.proofs.stores.Stores.count.Goals as goal
 
@@ -17,33 +17,9 @@ returns-in-Some-clause-channels c = λ stores stand.
 pub returns-in-Some-clause-closed : goal.returns-in-Some-clause-closed
 returns-in-Some-clause-closed c = λ stores stand.
     is_closed_stands c.args.self.now stores c.args.slot stand
-    (λ none all. absurd (cc (ap keep_of c.in-Some.ensures.some, all)))
+    (λ none all whole. absurd (cc (ap keep_of c.in-Some.ensures.some, all)))
     ∙ ap (λ (n : ℕ). n == 0) (ap channel_count c.in-Some.ensures.some)
 
 pub returns-in-Some-clause-alike : goal.returns-in-Some-clause-alike
 returns-in-Some-clause-alike c =
     subst (λ (h : Held). AreChannels (streams_in h)) (sym c.in-Some.ensures.some) none_alike
-
--- ---- any other
-
-pub returns-in-None-clause-count : goal.returns-in-None-clause-count
-returns-in-None-clause-count c =
-    ap length c.channels.ensures.channels
-    ∙ sym (open_counted (slot_at c.args.self.now c.args.slot) c.in-None.ensures.none)
-
-pub returns-in-None-clause-channels : goal.returns-in-None-clause-channels
-returns-in-None-clause-channels c = λ stores stand.
-    ap length c.channels.ensures.channels
-    ∙ (sym (open_counted (slot_at c.args.self.now c.args.slot) c.in-None.ensures.none)
-    ∙ sym (count_stands c.args.self.now stores c.args.slot stand))
-
-pub returns-in-None-clause-closed : goal.returns-in-None-clause-closed
-returns-in-None-clause-closed c = λ stores stand.
-    is_closed_stands c.args.self.now stores c.args.slot stand
-    (λ none. c.channels.ensures.closed (c.channels.ensures.channels ∙ none))
-    ∙ ap (λ (n : ℕ). n == 0)
-    (open_counted (slot_at c.args.self.now c.args.slot) c.in-None.ensures.none
-    ∙ sym (ap length c.channels.ensures.channels))
-
-pub returns-in-None-clause-alike : goal.returns-in-None-clause-alike
-returns-in-None-clause-alike c = subst AreChannels c.channels.ensures.channels c.channels.ensures.alike

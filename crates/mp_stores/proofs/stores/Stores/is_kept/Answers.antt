@@ -1,7 +1,7 @@
 use Rattle.std.proofs.Common.{◌∙◌, ap, sym}
 use Rattle.std.specs.Prelude.{is_some}
 use Rattle.std.proofs.lemmas.Bool.{OnFalse_from}
-use Rattle.mp_stores.specs.StoreLaws.{keep_stands, open_counted}
+use Rattle.mp_stores.specs.StoreLaws.{keep_stands}
 use Rattle.mp_stores.specs.Stores.{slot_at}
 use Rattle.mp_stores.proofs.StoreLemmas.{is_kept_by, none_kept}
 use Rattle.mp_stores.proofs.stores.Stores.is_kept.Goals as goal
@@ -14,8 +14,8 @@ returns-clause-kept c = λ stores stand.
     ∙ (is_kept_by c.kept.result (λ kept. kept.now) (slot_at old slot) c.kept.ensures.some c.kept.ensures.none
     ∙ sym (ap is_some (keep_stands old stores slot stand)))
 
-pub returns-clause-open : goal.returns-clause-open
-returns-clause-open c =
+pub returns-clause-all : goal.returns-clause-all
+returns-clause-all c =
     let here = slot_at c.args.self.now c.args.slot in
     OnFalse_from c.is_some.result _
-    (λ none. open_counted here (none_kept c.kept.result here c.kept.ensures.none (sym c.is_some.ensures ∙ none)))
+    (λ none. none_kept c.kept.result here c.kept.ensures.none (sym c.is_some.ensures ∙ none))

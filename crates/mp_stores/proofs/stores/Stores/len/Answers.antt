@@ -1,7 +1,7 @@
 use Rattle.std.proofs.Common.{◌≤◌, ◌∙◌, ℕ, ap, subst, sym}
 use Rattle.std.specs.Prelude.{Option}
 use Rattle.mp_replies.specs.AppendCommand.{most_samples}
-use Rattle.mp_stores.specs.StoreLaws.{open_sampled, samples_stand}
+use Rattle.mp_stores.specs.StoreLaws.{samples_stand}
 use Rattle.mp_stores.specs.Stores.{Held, keep_of, sample_count, slot_at}
 use Rattle.mp_stores.proofs.stores.Stores.len.Goals as goal
 
@@ -22,17 +22,7 @@ returns-in-Some-clause-within c =
 
 -- ---- any other
 
-pub returns-in-None-clause-count : goal.returns-in-None-clause-count
-returns-in-None-clause-count c =
-    c.open_len.ensures.count ∙ sym (open_sampled (slot_at c.args.self.now c.args.slot) c.in-None.ensures.none)
-
-pub returns-in-None-clause-length : goal.returns-in-None-clause-length
-returns-in-None-clause-length c = λ stores stand.
-    c.open_len.ensures.count
-    ∙ (sym (open_sampled (slot_at c.args.self.now c.args.slot) c.in-None.ensures.none)
-    ∙ sym (samples_stand c.args.self.now stores c.args.slot stand))
-
 pub returns-in-None-clause-within : goal.returns-in-None-clause-within
 returns-in-None-clause-within c =
-    subst (λ (keep : Option ℕ). c.open_len.result ≤ most_samples keep) (sym c.in-None.ensures.none)
-    c.open_len.ensures.within
+    subst (λ (keep : Option ℕ). c.whole_len.result ≤ most_samples keep) (sym c.in-None.ensures.none)
+    c.whole_len.ensures.within

@@ -1,8 +1,9 @@
-use Rattle.std.proofs.Common.{◌≤◌, ap, arith, set, subst, sym}
-use Rattle.std.specs.Prelude.{All, OnOk, Result, Ok, Err}
+use Rattle.std.proofs.Common.{◌∙◌, ap, arith, set, subst, sym}
+use Rattle.std.specs.Prelude.{OnOk, Result, Ok, Err}
+use Rattle.mp_replies.specs.AppendCommand.{most_samples}
 use Rattle.mp_stores.specs.Seen.{held_of}
-use Rattle.mp_stores.specs.StoreLaws.{last_at}
-use Rattle.mp_stores.specs.Stores.{Held, count_of, slot_at, streams_in}
+use Rattle.mp_stores.specs.StoreLaws.{slot_lasts}
+use Rattle.mp_stores.specs.Stores.{Held, HasSpare, slot_at}
 use Rattle.mp_stores.proofs.StoreLemmas.{AreSeen, IsReadSlot, none_read_at, room_for, seen_read, view}
 use Rattle.mp_stores.proofs.stores.Stores.reserve.Goals as goal
 
@@ -31,13 +32,12 @@ returns-clause-reads c = λ other. none_read_at c.args.self.now _ c.args.slot ot
 
 pub returns-clause-ok : goal.returns-clause-ok
 returns-clause-ok c =
-    subst (λ (h : Held). OnOk c.reserve.result (All (λ channel. c.args.more ≤ channel.spare) (streams_in h)))
-    (sym (read c).here) c.reserve.ensures.ok
+    subst (λ (h : Held). OnOk c.reserve.result (HasSpare c.args.more h)) (sym (read c).here) c.reserve.ensures.ok
 
 pub returns-clause-room : goal.returns-clause-room
 returns-clause-room c = λ added.
     let new = view c.self.inside.m (set c.self.inside.stored.items c.args.slot c.reserve.new.self) in
-    let last = last_at c.args.self.now new c.args.slot (read c).read.stands in
-    on_ok c.reserve.result (returns-clause-ok c) (λ spare long lists fits.
-    room_for new.m (slot_at new c.args.slot) added c.args.more ((read c).are.each c.args.slot) spare long lists
-    (omega (arith, fits, ap count_of last.items)))
+    let last = slot_lasts c.args.self.now new c.args.slot (read c).read.stands in
+    on_ok c.reserve.result (returns-clause-ok c) (λ spare some long lists fits.
+    room_for new.m (slot_at new c.args.slot) added c.args.more ((read c).are.each c.args.slot) spare some
+    (long ∙ sym last.channels) lists (omega (arith, fits, last.samples, ap most_samples last.keep)))

@@ -4,7 +4,7 @@ use Rattle.std.specs.List.{list_any, range_with_len}
 use Rattle.std.proofs.Math.Bool.{not}
 use Rattle.mp_nums.specs.declared.samples.Sample.{Sample}
 use Rattle.mp_defs.specs.Window.{excl}
-use Rattle.mp_anytime.specs.Reversal.{reversal, numbers}
+use Rattle.mp_results.specs.Reversal.{reversal, numbers}
 
 -- the samples, the diagonals that are covered, in the order in which they were, the window length, how often samples
 -- were read, and how many more samples take no memory

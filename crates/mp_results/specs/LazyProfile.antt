@@ -4,7 +4,7 @@ use Rattle.std.specs.Int.{abs_diff}
 use Rattle.mp_defs.specs.Series.{Series}
 use Rattle.mp_defs.specs.Window.{is_allowed}
 use Rattle.mp_defs.specs.Profile.{Columns, profile}
-use Rattle.mp_anytime.specs.Covering.{is_covered}
+use Rattle.mp_results.specs.Covering.{is_covered}
 
 -- window j lies outside the exclusion zone of window i, on a covered diagonal
 abbrev pub is_allowed_along : List ℕ → ℕ → ℕ → ℕ → Bool
