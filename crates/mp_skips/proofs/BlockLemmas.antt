@@ -18,10 +18,9 @@ use Rattle.mp_skips.specs.Sums.{number_in, outside}
 use Rattle.mp_skips.specs.Blocks.{height, outside_at, squares_outside, apart_at, squares_apart, AreApart}
 use Rattle.mp_skips.proofs.TotalLemmas.{total_zero, total_suc, total_more, groups_below}
 use Rattle.mp_skips.proofs.CoreLemmas.{raised_core_below}
-use Rattle.mp_skips.proofs.SideLemmas.{row_low, column_low, row_floors, column_floors, column_groups, all_floors, all_column_floors, all_groups}
-
-times_apart : (g p q : ℕ) → q ≤ p → p * g ≡ q * g + (p - q) * g
-times_apart g p q le = (let k : p ≡ q + (p - q) = omega arith in ap (λ n. n * g) k ∙ add-mul q (p - q) g)
+use Rattle.mp_skips.proofs.FloorLemmas.{times_apart, floors_apart}
+use Rattle.mp_skips.proofs.SideLemmas.{row_low, column_low, row_floors, column_floors, column_groups, all_floors}
+use Rattle.mp_skips.proofs.SideLemmas.{all_column_floors, all_groups}
 
 -- so many grains lie between two sums at least
 outside_below : (g z w p least greatest : ℕ) → IsFloor g z p → (1 ≤ least → least * g + g ≤ w + 1) → w ≤ greatest * g
@@ -41,14 +40,19 @@ outside_below g z w p least greatest f lower upper order = elim (cases_lt greate
 ]
 
 -- the squares of numbers that a grain takes below others
-scaled : (o d : ℕ → ℕ) (g n : ℕ) → ((k : ℕ) → k < n → o k * g ≤ d k)
+pub scaled : (o d : ℕ → ℕ) (g n : ℕ) → ((k : ℕ) → k < n → o k * g ≤ d k)
     → total (λ k. o k * o k) n * (g * g) ≤ total (λ k. d k * d k) n
 scaled o d g zero h = rw (total_zero (λ k. o k * o k)) (omega arith)
 scaled o d g (suc n) h =
     let one : (o n * g) * (o n * g) ≤ d n * d n = mul-le _ _ _ _ (h n (omega arith)) (h n (omega arith)) in
     let e : (o n * g) * (o n * g) ≡ (o n * o n) * (g * g) =
     mul_assoc (o n) g (o n * g) ∙ ap (λ z. o n * z) (mul_left_comm g (o n) g) ∙ sym (mul_assoc (o n) (o n) (g * g)) in
-    rw (total_suc (λ k. o k * o k) n, total_suc (λ k. d k * d k) n, add-mul (total (λ k. o k * o k) n) (o n * o n) (g * g))
+    rw (
+      total_suc (λ k. o k * o k) n,
+      total_suc (λ k. d k * d k) n,
+      add-mul (total (λ k. o k * o k) n) (o n * o n)
+          (g * g),
+    )
     (omega (arith, one, e, scaled o d g n (λ k lt. h k (omega (arith, lt)))))
 
 -- a sum that is compared lies within a window
@@ -65,7 +69,8 @@ behind_within e n m t le lt =
 pub behind_is : (e t : ℕ) → 8 * (e * (t + 1)) ≡ 8 * e * (t + 1)
 behind_is e t = sym (mul_assoc 8 e (t + 1))
 
-pub row_place : (coarse : Coarse) (i t : ℕ) → t < coarse.terms → i + coarse.plan.grid.m ≤ length coarse.plan.grid.rows.now
+pub row_place : (coarse : Coarse) (i t : ℕ) → t < coarse.terms
+    → i + coarse.plan.grid.m ≤ length coarse.plan.grid.rows.now
     → i + 8 * (coarse.rows.units.eights * (t + 1)) < length coarse.rows.floors.now
 row_place coarse i t lt row =
     omega (
@@ -110,7 +115,7 @@ column_sum g e u t =
 term_below : (coarse : Coarse) (i g u t : ℕ) → u < 8 → t < coarse.terms
     → i + coarse.plan.grid.m ≤ length coarse.plan.grid.rows.now
     → 8 * g + coarse.plan.grid.m ≤ length coarse.plan.grid.columns.now
-    → outside_at coarse i g t * coarse.rows.units.grain
+    → outside_at coarse i g t * coarse.rows.units.grain.size
     ≤ gap (sum_from (level coarse.rows.units.low (series_of coarse.plan.grid.rows.now)) (height coarse)
     (i + height coarse + t * height coarse))
     (sum_from (level coarse.rows.units.low (series_of coarse.plan.grid.columns.now)) (height coarse)
@@ -123,12 +128,14 @@ term_below coarse i g u t lt tn row column =
     let q = g + coarse.rows.units.eights * (t + 1) in
     let floor = (row_floors coarse).each p (row_place coarse i t tn row) in
     let group = (column_groups coarse).each q (column_place coarse g t tn column) in
-    let here = outside_below coarse.rows.units.grain (sum_from x s p) (sum_from y s (8 * q + u)) (number_in coarse.rows.floors.now p)
-    (number_in coarse.columns.least.now q) (number_in coarse.columns.greatest.now q) floor (group.lower u lt) (group.upper u lt)
+    let here = outside_below coarse.rows.units.grain.size (sum_from x s p) (sum_from y s (8 * q + u))
+    (number_in coarse.rows.floors.now p)
+    (number_in coarse.columns.least.now q) (number_in coarse.columns.greatest.now q) floor (group.lower u lt)
+    (group.upper u lt)
     group.order in
-    subst (λ n. outside_at coarse i g t * coarse.rows.units.grain ≤ gap (sum_from x s n)
+    subst (λ n. outside_at coarse i g t * coarse.rows.units.grain.size ≤ gap (sum_from x s n)
     (sum_from y s (8 * g + u + height coarse + t * height coarse))) (row_sum i coarse.rows.units.eights t)
-    (subst (λ n. outside_at coarse i g t * coarse.rows.units.grain ≤ gap (sum_from x s p) (sum_from y s n))
+    (subst (λ n. outside_at coarse i g t * coarse.rows.units.grain.size ≤ gap (sum_from x s p) (sum_from y s n))
     (column_sum g coarse.rows.units.eights u t) here)
 
 times_more : (t g s c d : ℕ) → t ≤ g → g ≤ s * c → c ≤ d → t ≤ s * d
@@ -140,7 +147,8 @@ one_and_other a b c le le' = omega arith
 pub sum_below : (coarse : Coarse) (i g r u d : ℕ) → i + coarse.plan.grid.m ≤ length coarse.plan.grid.rows.now
     → 8 * g + coarse.plan.grid.m ≤ length coarse.plan.grid.columns.now → r < height coarse → u < 8
     → distance_in coarse.plan.grid (i + r) (8 * g + u + r) ≡ Some d
-    → squares_outside coarse i g coarse.terms * (coarse.rows.units.grain * coarse.rows.units.grain) ≤ height coarse * d
+    → squares_outside coarse i g coarse.terms * (coarse.rows.units.grain.size * coarse.rows.units.grain.size) ≤ height
+    coarse * d
 sum_below coarse i g r u d row column rk lt is =
     let a = series_of coarse.plan.grid.rows.now in
     let b = series_of coarse.plan.grid.columns.now in
@@ -151,12 +159,14 @@ sum_below coarse i g r u d row column rk lt is =
     let n = coarse.terms in
     let j = 8 * g + u in
     let wide : n * s + s ≤ m = omega (arith, add-mul n 1 s, coarse.wide) in
-    let core = raised_core_below coarse.rows.units.low m s r a i b j d (row_low coarse) (column_low coarse) (omega (arith, rk))
+    let core = raised_core_below coarse.rows.units.low m s r a i b j d (row_low coarse) (column_low coarse)
+    (omega (arith, rk))
     (omega (arith, wide)) is in
     let groups = groups_below x y s n (m - s) (i + s) (j + s) (omega (arith, wide)) in
     let terms = scaled (outside_at coarse i g) (λ t. gap (sum_from x s (i + s + t * s)) (sum_from y s (j + s + t * s)))
-    coarse.rows.units.grain n (λ t tn. term_below coarse i g u t lt tn row column) in
-    times_more (squares_outside coarse i g n * (coarse.rows.units.grain * coarse.rows.units.grain)) (group_squares x y s n (i + s) (j + s)) s
+    coarse.rows.units.grain.size n (λ t tn. term_below coarse i g u t lt tn row column) in
+    times_more (squares_outside coarse i g n * (coarse.rows.units.grain.size * coarse.rows.units.grain.size))
+    (group_squares x y s n (i + s) (j + s)) s
     (squares_from x y (m - s) (i + s) (j + s)) d terms groups core
 
 pub reached : (coarse : Coarse) (i g need : ℕ) → i + coarse.plan.grid.m ≤ length coarse.plan.grid.rows.now
@@ -164,7 +174,7 @@ pub reached : (coarse : Coarse) (i g need : ℕ) → i + coarse.plan.grid.m ≤ 
     → need ≤ squares_outside coarse i g coarse.terms → AreApart coarse i (8 * g) 8 need
 reached coarse i g need row column le = record {
   each = λ r u d rk lt is.
-      let grains = coarse.rows.units.grain * coarse.rows.units.grain in
+      let grains = coarse.rows.units.grain.size * coarse.rows.units.grain.size in
       one_and_other (need * grains) (squares_outside coarse i g coarse.terms * grains) (height coarse * d)
       (mul-le need grains (squares_outside coarse i g coarse.terms) grains le (omega arith))
       (sum_below coarse i g r u d row column rk lt is);
@@ -185,8 +195,10 @@ pub term_small : (coarse : Coarse) (i g t : ℕ) → t < coarse.terms
 term_small coarse i g t tn column =
     let q = g + coarse.rows.units.eights * (t + 1) in
     let group = (column_groups coarse).each q (column_place coarse g t tn column) in
-    outside_small (number_in coarse.rows.floors.now (i + 8 * (coarse.rows.units.eights * (t + 1)))) (number_in coarse.columns.least.now q)
-    (number_in coarse.columns.greatest.now q) MOST_GRAINS group.order (coarse.rows.lists.small_floors (i + 8 * (coarse.rows.units.eights * (t + 1))))
+    outside_small (number_in coarse.rows.floors.now (i + 8 * (coarse.rows.units.eights * (t + 1))))
+    (number_in coarse.columns.least.now q)
+    (number_in coarse.columns.greatest.now q) MOST_GRAINS group.order
+    (coarse.rows.lists.small_floors (i + 8 * (coarse.rows.units.eights * (t + 1))))
     (coarse.columns.lists.small_groups q)
 
 pub more_small : (sum t gap : ℕ) → sum ≤ t * (MOST_GRAINS * MOST_GRAINS) → gap ≤ MOST_GRAINS
@@ -208,7 +220,12 @@ pub sum_small : (coarse : Coarse) (sum t : ℕ) → sum ≤ t * (MOST_GRAINS * M
     → sum < NO_NEED
 sum_small coarse sum t small le =
     all_small sum t coarse.plan.grid.m small
-    (omega (arith, le, few_terms coarse.terms coarse.rows.units.eights coarse.plan.grid.m coarse.rows.units.some coarse.wide))
+    (omega (
+      arith,
+      le,
+      few_terms coarse.terms coarse.rows.units.eights coarse.plan.grid.m coarse.rows.units.some
+          coarse.wide,
+    ))
     (omega (arith, coarse.plan.grid.short))
 
 pub square_small : (gap : ℕ) → gap ≤ MOST_GRAINS → gap * gap ≤ MOST_GRAINS * MOST_GRAINS
@@ -299,14 +316,7 @@ pub column_within : (coarse : Coarse) (column : ℕ) → column < column_windows
 column_within coarse column lt =
     omega (arith, lt, coarse.plan.some_samples, length-map coarse.plan.grid.columns.now reading_of)
 
--- ---- one diagonal, where sums aren't rounded
-
-exact_below : (g z w p q : ℕ) → g ≡ 1 → IsFloor g z p → IsFloor g w q → outside p q q * g ≤ gap z w
-exact_below g z w p q one f h =
-    let fb : p * g ≡ p = ap (λ n. p * n) one ∙ omega arith in
-    let hb : q * g ≡ q = ap (λ n. q * n) one ∙ omega arith in
-    let e : outside p q q * g ≡ outside p q q = ap (λ n. outside p q q * n) one ∙ omega arith in
-    rw e (omega (arith, fb, hb, f.below, f.above, h.below, h.above, one))
+-- ---- one diagonal
 
 diagonal_place : (coarse : Coarse) (j t : ℕ) → t < coarse.terms
     → j + coarse.plan.grid.m ≤ length coarse.plan.grid.columns.now
@@ -321,35 +331,36 @@ diagonal_place coarse j t lt column =
       all_column_floors coarse,
     )
 
-apart_below : (coarse : Coarse) (i j t : ℕ) → coarse.rows.units.grain ≡ 1 → t < coarse.terms
+apart_below : (coarse : Coarse) (i j t : ℕ) → t < coarse.terms
     → i + coarse.plan.grid.m ≤ length coarse.plan.grid.rows.now
     → j + coarse.plan.grid.m ≤ length coarse.plan.grid.columns.now
-    → apart_at coarse i j t * coarse.rows.units.grain
+    → apart_at coarse i j t * coarse.rows.units.grain.size
     ≤ gap (sum_from (level coarse.rows.units.low (series_of coarse.plan.grid.rows.now)) (height coarse)
     (i + height coarse + t * height coarse))
     (sum_from (level coarse.rows.units.low (series_of coarse.plan.grid.columns.now)) (height coarse)
     (j + height coarse + t * height coarse))
-apart_below coarse i j t one tn row column =
+apart_below coarse i j t tn row column =
     let x = level coarse.rows.units.low (series_of coarse.plan.grid.rows.now) in
     let y = level coarse.rows.units.low (series_of coarse.plan.grid.columns.now) in
     let s = height coarse in
     let p = i + 8 * (coarse.rows.units.eights * (t + 1)) in
     let q = j + 8 * (coarse.rows.units.eights * (t + 1)) in
-    let here = exact_below coarse.rows.units.grain (sum_from x s p) (sum_from y s q)
-    (number_in coarse.rows.floors.now p) (number_in coarse.columns.floors.now q) one
+    let here = floors_apart coarse.rows.units.grain.size coarse.rows.units.grain.slack (sum_from x s p) (sum_from y s q)
+    (number_in coarse.rows.floors.now p) (number_in coarse.columns.floors.now q) coarse.rows.units.grain.enough
     ((row_floors coarse).each p (row_place coarse i t tn row))
     ((column_floors coarse).each q (diagonal_place coarse j t tn column)) in
-    subst (λ n. apart_at coarse i j t * coarse.rows.units.grain ≤ gap (sum_from x s n)
+    subst (λ n. apart_at coarse i j t * coarse.rows.units.grain.size ≤ gap (sum_from x s n)
     (sum_from y s (j + height coarse + t * height coarse))) (row_sum i coarse.rows.units.eights t)
-    (subst (λ n. apart_at coarse i j t * coarse.rows.units.grain ≤ gap (sum_from x s p) (sum_from y s n))
+    (subst (λ n. apart_at coarse i j t * coarse.rows.units.grain.size ≤ gap (sum_from x s p) (sum_from y s n))
     (row_sum j coarse.rows.units.eights t) here)
 
-diagonal_below : (coarse : Coarse) (i j r d : ℕ) → coarse.rows.units.grain ≡ 1
+diagonal_below : (coarse : Coarse) (i j r d : ℕ)
     → i + coarse.plan.grid.m ≤ length coarse.plan.grid.rows.now
     → j + coarse.plan.grid.m ≤ length coarse.plan.grid.columns.now → r < height coarse
     → distance_in coarse.plan.grid (i + r) (j + r) ≡ Some d
-    → squares_apart coarse i j coarse.terms * (coarse.rows.units.grain * coarse.rows.units.grain) ≤ height coarse * d
-diagonal_below coarse i j r d one row column rk is =
+    → squares_apart coarse i j coarse.terms * (coarse.rows.units.grain.size * coarse.rows.units.grain.size) ≤ height
+    coarse * d
+diagonal_below coarse i j r d row column rk is =
     let a = series_of coarse.plan.grid.rows.now in
     let b = series_of coarse.plan.grid.columns.now in
     let x = level coarse.rows.units.low a in
@@ -362,21 +373,21 @@ diagonal_below coarse i j r d one row column rk is =
     (omega (arith, rk)) (omega (arith, wide)) is in
     let groups = groups_below x y s n (m - s) (i + s) (j + s) (omega (arith, wide)) in
     let terms = scaled (apart_at coarse i j) (λ t. gap (sum_from x s (i + s + t * s)) (sum_from y s (j + s + t * s)))
-    coarse.rows.units.grain n (λ t tn. apart_below coarse i j t one tn row column) in
-    times_more (squares_apart coarse i j n * (coarse.rows.units.grain * coarse.rows.units.grain))
+    coarse.rows.units.grain.size n (λ t tn. apart_below coarse i j t tn row column) in
+    times_more (squares_apart coarse i j n * (coarse.rows.units.grain.size * coarse.rows.units.grain.size))
     (group_squares x y s n (i + s) (j + s)) s (squares_from x y (m - s) (i + s) (j + s)) d terms groups core
 
-pub diagonal_reached : (coarse : Coarse) (i j need : ℕ) → coarse.rows.units.grain ≡ 1
+pub diagonal_reached : (coarse : Coarse) (i j need : ℕ)
     → i + coarse.plan.grid.m ≤ length coarse.plan.grid.rows.now
     → j + coarse.plan.grid.m ≤ length coarse.plan.grid.columns.now
     → need ≤ squares_apart coarse i j coarse.terms → AreApart coarse i j 1 need
-diagonal_reached coarse i j need one row column le = record {
+diagonal_reached coarse i j need row column le = record {
   each = λ r u d rk lt is.
-      let grains = coarse.rows.units.grain * coarse.rows.units.grain in
+      let grains = coarse.rows.units.grain.size * coarse.rows.units.grain.size in
       let place : j + u + r ≡ j + r = omega (arith, lt) in
       one_and_other (need * grains) (squares_apart coarse i j coarse.terms * grains) (height coarse * d)
       (mul-le need grains (squares_apart coarse i j coarse.terms) grains le (omega arith))
-      (diagonal_below coarse i j r d one row column rk
+      (diagonal_below coarse i j r d row column rk
       (subst (λ n. distance_in coarse.plan.grid (i + r) n ≡ Some d) place is));
 }
 
@@ -384,7 +395,7 @@ diagonal_reached coarse i j need one row column le = record {
 pub nothing_reached : (coarse : Coarse) (i j n need : ℕ) → need ≤ 0 → AreApart coarse i j n need
 nothing_reached coarse i j n need le = record {
   each = λ r u d rk lt is.
-      let grains = coarse.rows.units.grain * coarse.rows.units.grain in
+      let grains = coarse.rows.units.grain.size * coarse.rows.units.grain.size in
       let none : need * grains ≤ 0 * grains = mul-le need grains 0 grains le (omega arith) in
       omega (arith, none);
 }
@@ -396,13 +407,14 @@ abbrev lane_apart : Coarse → ℕ → ℕ → ℕ → ℕ → ℕ
 lane_apart coarse row column t u =
     outside (number_in coarse.rows.floors.now (row + 8 * (coarse.rows.units.eights * (t + 1))))
     (number_in coarse.columns.floors.now (column + 8 * (coarse.rows.units.eights * (t + 1)) + u))
-    (number_in coarse.columns.floors.now (column + 8 * (coarse.rows.units.eights * (t + 1)) + u))
+    (number_in coarse.columns.floors.now (column + 8 * (coarse.rows.units.eights * (t + 1)) + u)) -
+    coarse.rows.units.grain.slack
 
 apart_lane_is : (coarse : Coarse) (row column t u : ℕ)
     → lane_apart coarse row column t u ≡ apart_at coarse row (column + u) t
 apart_lane_is coarse row column t u =
     ap (λ p. outside (number_in coarse.rows.floors.now (row + 8 * (coarse.rows.units.eights * (t + 1))))
-    (number_in coarse.columns.floors.now p) (number_in coarse.columns.floors.now p))
+    (number_in coarse.columns.floors.now p) (number_in coarse.columns.floors.now p) - coarse.rows.units.grain.slack)
     (apart_lane_at column coarse.rows.units.eights t u)
 
 pub apart_lane_place : (coarse : Coarse) (column t : ℕ) → t < coarse.terms
@@ -430,9 +442,12 @@ apart_more_small coarse row column t u sum small =
     let p = row + 8 * (coarse.rows.units.eights * (t + 1)) in
     let q = column + 8 * (coarse.rows.units.eights * (t + 1)) + u in
     more_small sum t (lane_apart coarse row column t u) small
-    (outside_small (number_in coarse.rows.floors.now p) (number_in coarse.columns.floors.now q)
-    (number_in coarse.columns.floors.now q) MOST_GRAINS (omega arith) (coarse.rows.lists.small_floors p)
-    (coarse.columns.lists.small_floors q))
+    (omega (
+      arith,
+      outside_small (number_in coarse.rows.floors.now p) (number_in coarse.columns.floors.now q)
+          (number_in coarse.columns.floors.now q) MOST_GRAINS (omega arith) (coarse.rows.lists.small_floors p)
+          (coarse.columns.lists.small_floors q),
+    ))
 
 pub apart_small : (coarse : Coarse) (row column t u sum : ℕ) → t < coarse.terms
     → sum ≤ t * (MOST_GRAINS * MOST_GRAINS)

@@ -1,9 +1,15 @@
 -- Sums that move on by one sample, rounded down.
-use Rattle.std.proofs.Common.{◌≡◌, ℕ, zero, suc, ◌+◌, ◌-◌, ◌*◌, ◌/◌, ◌^◌, ◌<◌, ◌≤◌, inl, inr, List, length, set, refl, sym, ap, ◌∙◌, arith}
+use Rattle.std.proofs.Common.{◌≡◌, ℕ, zero, suc, ◌+◌, ◌-◌, ◌*◌, ◌/◌, ◌%◌, ◌^◌, ◌<◌, ◌≤◌, inl, inr, List, length, set}
+use Rattle.std.proofs.Common.{refl, sym, ap, ◌∙◌, arith}
 use Rattle.std.proofs.Common.{subst}
 use Rattle.std.specs.Prelude.{ℤ}
 use Rattle.std.proofs.Math.Nat.{add-mul, mul-add}
-use Rattle.std.proofs.lemmas.Nat.{mul-le, div-add-mod', mod_below, div_below, le-div}
+use Rattle.std.proofs.lemmas.Nat.{mul-le, div-add-mod', mod_below, div_below, le-div, leading_length, shl_whole}
+use Rattle.std.proofs.lemmas.Nat.{pow_pos}
+use Rattle.std.proofs.lemmas.Bool.Decides.{nat_tests}
+use Rattle.std.proofs.Math.Nat.{pow-le-pow_right}
+use Rattle.std.specs.Prelude.{Bool, true, false, nat_le}
+use Rattle.std.specs.Int.{w64, leading_zeros}
 use Rattle.std.proofs.lemmas.Bool.{cases_lt, cases_eq}
 use Rattle.std.proofs.lemmas.List.{get_or-set_same, get_or-set_other, get_or_past}
 use Rattle.mp_nums.specs.declared.samples.Sample.{Sample}
@@ -13,7 +19,8 @@ use Rattle.mp_defs.specs.SeriesLaws.{series_are_of_samples}
 use Rattle.mp_skips.specs.Totals.{total, sum_from, level, raised}
 use Rattle.mp_skips.specs.Bounds.{IsFloor}
 use Rattle.mp_skips.specs.Sums.{number_in, AreNumbers, AreFloors, IsGroup, AreGroups}
-use Rattle.mp_skips.specs.Fills.{AreLevels, IsSlack}
+use Rattle.mp_skips.specs.Slack.{IsSlack}
+use Rattle.mp_skips.specs.Fills.{AreLevels}
 use Rattle.mp_skips.specs.declared.sums.TheConstants.{MOST_GRAINS}
 use Rattle.mp_skips.proofs.TotalLemmas.{total_zero, total_more, total_suc, total_same, total_parts, total_first}
 
@@ -65,23 +72,30 @@ level_past low samples p le =
     ap (raised low) (series_are_of_samples.numbers samples p)
     ∙ ap (λ x. raised low (reading_of x)) (get_or_past samples p Missing le)
 
-pub levels_next : (low : ℤ) (a : Series) (levels : List ℕ) (p number : ℕ)
-    → ((k : ℕ) → k < p → number_in levels k ≡ level low a k) → number ≡ level low a p → p < length levels
-    → (k : ℕ) → k < p + 1 → number_in (set levels p number) k ≡ level low a k
-levels_next low a levels p number h is lt k less = elim (cases_eq k p) [
-  | inl e ↦ subst (λ z. number_in (set levels p number) z ≡ level low a z) (sym e)
-      (get_or-set_same levels p number 0 lt ∙ is)
-  | inr n ↦ get_or-set_other levels p k number 0 n ∙ h k (below_it k p less n)
+pub levels_next : (low : ℤ) (step : ℕ) (a : Series) (levels : List ℕ) (p z number : ℕ)
+    → ((k : ℕ) → k < p → IsFloor step (level low a k) (number_in levels k)) → z ≡ level low a p
+    → IsFloor step z number → p < length levels
+    → (k : ℕ) → k < p + 1 → IsFloor step (level low a k) (number_in (set levels p number) k)
+levels_next low step a levels p z number h is floor lt k less = elim (cases_eq k p) [
+  | inl e ↦ subst (λ q. IsFloor step (level low a q) (number_in (set levels p number) q)) (sym e)
+      (subst (IsFloor step (level low a p)) (sym (get_or-set_same levels p number 0 lt))
+      (subst (λ v. IsFloor step v number) is floor))
+  | inr n ↦ subst (IsFloor step (level low a k)) (sym (get_or-set_other levels p k number 0 n))
+      (h k (below_it k p less n))
 ]
 
-pub levels_all : (low : ℤ) (samples : List Sample) (levels : List ℕ) (n : ℕ)
-    → ((k : ℕ) → k < n → number_in levels k ≡ level low (series_of samples) k) → length levels ≤ n
-    → length samples ≤ length levels → AreNumbers low (series_of samples) levels
-levels_all low samples levels n h past room = record {
+no_steps : (step : ℕ) → 1 ≤ step → IsFloor step 0 0
+no_steps step some = record { below = omega arith; above = omega (arith, some) }
+
+pub levels_all : (low : ℤ) (step : ℕ) (samples : List Sample) (levels : List ℕ) (n : ℕ) → 1 ≤ step
+    → ((k : ℕ) → k < n → IsFloor step (level low (series_of samples) k) (number_in levels k)) → length levels ≤ n
+    → length samples ≤ length levels → AreNumbers low step (series_of samples) levels
+levels_all low step samples levels n some h past room = record {
   each = λ p. elim (cases_lt p n) [
     | inl lt ↦ h p lt
-    | inr le ↦ get_or_past levels p 0 (omega (arith, past, le))
-        ∙ sym (level_past low samples p (omega (arith, room, past, le)))
+    | inr le ↦ subst (λ z. IsFloor step z (number_in levels p))
+        (sym (level_past low samples p (omega (arith, room, past, le))))
+        (subst (IsFloor step 0) (sym (get_or_past levels p 0 (omega (arith, past, le)))) (no_steps step some))
   ];
 }
 
@@ -144,27 +158,52 @@ small_all numbers n most h past some k = elim (cases_lt k n) [
   | inr le ↦ omega (arith, get_or_past numbers k 0 (omega (arith, past, le)), some)
 ]
 
--- ---- grains
+-- ---- units
 
-pub grain_above : (z by : ℕ) → by ≡ MOST_GRAINS → z < MOST_GRAINS * (z / by + 1)
-grain_above z by e =
-    subst (λ n. z < MOST_GRAINS * (z / n + 1)) (sym e)
-    (omega (arith, div-add-mod' z MOST_GRAINS, mod_below z MOST_GRAINS (omega arith)))
+pub units_few : (most by : ℕ) → by ≡ MOST_GRAINS → most < 2 ^ 55 → most / by < 2 ^ 31
+units_few most by e lt =
+    subst (λ n. most / n < 2 ^ 31) (sym e) (div_below most MOST_GRAINS (2 ^ 31) (omega arith) (omega (arith, lt)))
 
-pub product_small : (count range : ℕ) → count ≤ 64 → range < MOST_GRAINS → count * range ≤ 2 ^ 30
-product_small count range few lt = omega (arith, mul-le count range 64 (2 ^ 24) few (omega (arith, lt)))
+-- how many bits a number has
+bits_few : (b : Bool) (m n : ℕ) → nat_le 32 m ≡ b → n < 2 ^ 31 → 2 ^ m ≤ 2 * n + 1 → m ≤ 31
+bits_few true m n e lt le =
+    let long : 32 ≤ m = grind (arith, nat_tests) in
+    let more : 2 ^ 32 ≤ 2 ^ m = pow-le-pow_right (omega arith) long in
+    absurd (omega (arith, more, lt, le))
+bits_few false m n e lt le = grind (arith, nat_tests)
 
-pub grain_few : (count range by : ℕ) → by ≡ MOST_GRAINS → 1 ≤ count → range < MOST_GRAINS → count * range / by < count
-grain_few count range by e some lt =
-    let less : count * range < count * MOST_GRAINS = omega (
+-- how many these are
+abbrev pub bits_of : ℕ → ℕ
+bits_of n = 64 - leading_zeros w64 n
+
+pub bits_short : (n : ℕ) → n < 2 ^ 31 → bits_of n ≤ 31
+bits_short n lt =
+    let bits = leading_length 64 n (omega (arith, lt)) in
+    omega (arith, bits.1, bits_few (nat_le 32 bits.0) bits.0 n refl lt bits.3)
+
+pub bits_hold : (n : ℕ) → n < 2 ^ 31 → n < 2 ^ bits_of n
+bits_hold n lt =
+    let bits = leading_length 64 n (omega (arith, lt)) in
+    let same : bits.0 ≡ bits_of n = omega (arith, bits.1) in
+    subst (λ k. n < 2 ^ k) same bits.2
+
+pub one_shifted : (shift : ℕ) → shift ≤ 31 → (1 * 2 ^ shift) % 2 ^ 32 ≡ 2 ^ shift
+one_shifted shift le = shl_whole 1 1 shift 32 (omega arith) (omega (arith, le)) ∙ omega arith
+
+pub some_power : (size shift : ℕ) → size ≡ 2 ^ shift → 1 ≤ size
+some_power size shift is = omega (arith, is, pow_pos shift)
+
+-- numbers up to the given one have fewer units than all
+pub unit_fits : (most by size : ℕ) → by ≡ MOST_GRAINS → most / by < size → most < MOST_GRAINS * size
+unit_fits most by size e lt =
+    let here : most / MOST_GRAINS < size = subst (λ n. most / n < size) e lt in
+    omega (
       arith,
-      mul-le count (range + 1) count MOST_GRAINS (omega arith)
-          (omega (arith, lt)),
-      mul-add count range 1,
-      some,
-    ) in
-    subst (λ n. count * range / n < count) (sym e)
-    (div_below (count * range) MOST_GRAINS count (omega arith) less)
+      div-add-mod' most MOST_GRAINS,
+      mod_below most MOST_GRAINS (omega arith),
+      mul-le MOST_GRAINS (most / MOST_GRAINS + 1) MOST_GRAINS size (omega arith) (omega (arith, here)),
+      mul-add MOST_GRAINS (most / MOST_GRAINS) 1,
+    )
 
 pub some_terms : (m count : ℕ) → 1 ≤ count → count ≤ m → 1 ≤ m / count
 some_terms m count some le = le-div 1 m count (omega (arith, some)) (omega (arith, le))
@@ -201,14 +240,16 @@ group_by : (low : ℤ) (s grain : ℕ) (a : Series) (floors : List ℕ) (slack g
     → IsGroup low s grain a g (least - slack) (greatest + slack)
 group_by low s grain a floors slack g least greatest enough few h room lower upper = record {
   lower = λ u lt some. lower_by grain slack least (number_in floors (8 * g + u))
-      (sum_from (level low a) s (8 * g + u)) enough few (h.each (8 * g + u) (omega (arith, lt, room))) (lower u lt) some;
+      (sum_from (level low a) s (8 * g + u)) enough few (h.each (8 * g + u) (omega (arith, lt, room)))
+      (lower u lt) some;
   upper = λ u lt. upper_by grain slack greatest (number_in floors (8 * g + u))
       (sum_from (level low a) s (8 * g + u)) enough (h.each (8 * g + u) (omega (arith, lt, room))) (upper u lt);
   order = omega (arith, lower 0 (omega arith), upper 0 (omega arith));
 }
 
 pub is_group : (low : ℤ) (s grain : ℕ) (a : Series) (floors : List ℕ) (slack g least greatest lower upper : ℕ)
-    → lower ≡ least - slack → upper ≡ greatest + slack → IsSlack grain slack → slack ≤ 1 → AreFloors low s grain a floors (length floors) → 8 * g + 8 ≤ length floors
+    → lower ≡ least - slack → upper ≡ greatest + slack → IsSlack grain slack → slack ≤ 1
+    → AreFloors low s grain a floors (length floors) → 8 * g + 8 ≤ length floors
     → ((u : ℕ) → u < 8 → least ≤ number_in floors (8 * g + u))
     → ((u : ℕ) → u < 8 → number_in floors (8 * g + u) ≤ greatest)
     → IsGroup low s grain a g lower upper
@@ -222,7 +263,8 @@ pub group_next : (low : ℤ) (s grain : ℕ) (a : Series) (least greatest : List
     → g < length greatest → AreGroups low s grain a (set least g lower) (set greatest g upper) (g + 1)
 group_next low s grain a least greatest g lower upper h here lt less = record {
   each = λ q below. elim (cases_eq q g) [
-    | inl e ↦ subst (λ z. IsGroup low s grain a z (number_in (set least g lower) z) (number_in (set greatest g upper) z))
+    | inl e ↦ subst (λ z. IsGroup low s grain a z (number_in (set least g lower) z)
+        (number_in (set greatest g upper) z))
         (sym e)
         (subst (λ v. IsGroup low s grain a g v (number_in (set greatest g upper) g))
         (sym (get_or-set_same least g lower 0 lt))

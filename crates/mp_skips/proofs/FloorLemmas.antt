@@ -5,6 +5,7 @@ use Rattle.std.proofs.lemmas.Nat.{mul-le}
 use Rattle.std.proofs.lemmas.Bool.{cases_lt}
 use Rattle.mp_skips.specs.Totals.{total, gap, sum_from, squares_from, group_squares}
 use Rattle.mp_skips.specs.Bounds.{IsFloor, FloorsAreSafe, floor_squares}
+use Rattle.mp_skips.specs.Slack.{IsSlack}
 use Rattle.mp_skips.proofs.TotalLemmas.{total_zero, total_suc, two_products, groups_below}
 
 ordered_floors : (g z w p q : ℕ) → p ≤ q → IsFloor g z p → IsFloor g w q → gap p q * g + 1 ≤ gap z w + g
@@ -24,15 +25,42 @@ floors_near g z w p q f h = elim (cases_lt p q) [
   | inr le ↦ rw (gap_turned p q, gap_turned z w) (ordered_floors g w z q p le h f)
 ]
 
+pub times_apart : (g p q : ℕ) → q ≤ p → p * g ≡ q * g + (p - q) * g
+times_apart g p q le = (let k : p ≡ q + (p - q) = omega arith in ap (λ n. n * g) k ∙ add-mul q (p - q) g)
+
+-- less what is left they lie no further apart
+pub floors_apart : (g slack z w p q : ℕ) → IsSlack g slack → IsFloor g z p → IsFloor g w q
+    → (gap p q - slack) * g ≤ gap z w
+floors_apart g slack z w p q enough f h = elim (cases_lt slack (gap p q)) [
+  | inl lt ↦ omega (
+    arith,
+    times_apart g (gap p q) slack (omega (arith, lt)),
+    floors_near g z w p q f h,
+    enough.enough,
+  )
+  | inr le ↦
+      let e : gap p q - slack ≡ 0 = omega (arith, le) in
+      rw e (omega arith)
+]
+
+-- whole units of 1 are the number itself
+pub floor_of_one : (g z p : ℕ) → g ≡ 1 → IsFloor g z p → p ≡ z
+floor_of_one g z p one f =
+    let e : p * g ≡ p = ap (λ n. p * n) one ∙ omega arith in
+    omega (arith, e, one, f.below, f.above)
+
 -- t (d + c)² ≤ (t + 1) d² + t (t + 1) c²
 weighted : (t d c : ℕ) → t * ((d + c) * (d + c)) ≤ (t + 1) * (d * d) + t * ((t + 1) * (c * c))
 weighted t d c =
     let two : 2 * (d * (t * c)) ≤ d * d + (t * c) * (t * c) = two_products d (t * c) in
-    let e : (d + c) * (d + c) ≡ d * d + 2 * (d * c) + c * c = omega (arith, add-mul d c (d + c), mul-add d d c, mul-add c d c, mul_comm c d) in
-    let f : t * (d * d + 2 * (d * c) + c * c) ≡ t * (d * d) + t * (2 * (d * c)) + t * (c * c) = omega (arith, mul-add t (d * d + 2 * (d * c)) (c * c), mul-add t (d * d) (2 * (d * c))) in
+    let e : (d + c) * (d + c) ≡ d * d + 2 * (d * c) + c * c = omega
+    (arith, add-mul d c (d + c), mul-add d d c, mul-add c d c, mul_comm c d) in
+    let f : t * (d * d + 2 * (d * c) + c * c) ≡ t * (d * d) + t * (2 * (d * c)) + t * (c * c) = omega
+    (arith, mul-add t (d * d + 2 * (d * c)) (c * c), mul-add t (d * d) (2 * (d * c))) in
     let k : t * (2 * (d * c)) ≡ 2 * (d * (t * c)) = mul_left_comm t 2 (d * c) ∙ ap (λ n. 2 * n) (mul_left_comm t d c) in
     let l : (t * c) * (t * c) ≡ t * (t * (c * c)) = mul_assoc t c (t * c) ∙ ap (λ n. t * n) (mul_left_comm c t c) in
-    let m : t * ((t + 1) * (c * c)) ≡ t * (t * (c * c)) + t * (c * c) = ap (λ n. t * n) (add-mul t 1 (c * c)) ∙ omega (arith, mul-add t (t * (c * c)) (1 * (c * c))) in
+    let m : t * ((t + 1) * (c * c)) ≡ t * (t * (c * c)) + t * (c * c) = ap (λ n. t * n) (add-mul t 1 (c * c))
+    ∙ omega (arith, mul-add t (t * (c * c)) (1 * (c * c))) in
     let r : (t + 1) * (d * d) ≡ t * (d * d) + d * d = omega (arith, add-mul t 1 (d * d)) in
     omega (arith, two, e, f, k, l, m, r, ap (λ n. t * n) e)
 
@@ -40,7 +68,18 @@ weighted t d c =
 one_term : (t e d g : ℕ) → e * g + 1 ≤ d + g → t * (g * g * (e * e)) ≤ (t + 1) * (d * d) + t * ((t + 1) * (g * g))
 one_term t e d g le =
     let all : e * g ≤ d + g = omega arith in
-    let squares : g * g * (e * e) ≡ (e * g) * (e * g) = omega (arith, mul_assoc g g (e * e), mul_left_comm g e e, mul_assoc e g (e * g), mul_left_comm g e g, ap (λ n. g * n) (mul_left_comm g e e), mul_left_comm g e (g * e), ap (λ n. e * n) (mul_left_comm g e g), mul_comm e g) in
+    let squares : g * g * (e * e) ≡ (e * g) * (e * g) = omega (
+      arith,
+      mul_assoc g g (e * e),
+      mul_left_comm g e e,
+      mul_assoc e g (e * g),
+      mul_left_comm g e g,
+      ap (λ n. g * n)
+          (mul_left_comm g e e),
+      mul_left_comm g e (g * e),
+      ap (λ n. e * n) (mul_left_comm g e g),
+      mul_comm e g,
+    ) in
     let below : (e * g) * (e * g) ≤ (d + g) * (d + g) = mul-le _ _ _ _ all all in
     let times : t * ((e * g) * (e * g)) ≤ t * ((d + g) * (d + g)) = mul-le t _ t _ (omega arith) below in
     omega (arith, times, ap (λ n. t * n) squares, weighted t d g)
@@ -65,7 +104,11 @@ terms t g (suc n) e d h =
 past : (t s l c x q b : ℕ) → (t + 1) * (s * l) + x < q → q ≤ (t + 1) * b + x → b ≤ s * c → l < c
 past t s l c x q b lt le below = elim (cases_lt l c) [
   | inl less ↦ less
-  | inr more ↦ absurd (omega (arith, mul-le (t + 1) b (t + 1) (s * l) (omega arith) (omega (arith, mul-le s c s l (omega arith) more))))
+  | inr more ↦ absurd (omega (
+    arith,
+    mul-le (t + 1) b (t + 1) (s * l) (omega arith)
+        (omega (arith, mul-le s c s l (omega arith) more)),
+  ))
 ]
 
 pub floors_safe : FloorsAreSafe

@@ -1,9 +1,10 @@
 -- From which coarse sum on a pair gives nothing.
-use Rattle.std.proofs.Common.{◌≡◌, ℕ, ◌+◌, ◌*◌, ◌/◌, ◌^◌, ◌<◌, ◌≤◌, inl, inr, List, length, set, Bool, true, false, refl, sym, ap, ◌∙◌, arith}
+use Rattle.std.proofs.Common.{◌≡◌, ℕ, ◌+◌, ◌*◌, ◌/◌, ◌^◌, ◌<◌, ◌≤◌, inl, inr, List, length, set, Bool, true, false}
+use Rattle.std.proofs.Common.{refl, sym, ap, ◌∙◌, arith}
 use Rattle.std.proofs.Common.{subst}
 use Rattle.std.specs.Prelude.{Option, Some, None, IsSome, IsTrue, slice_index_or, ◌&&◌, ◌↔◌}
-use Rattle.std.proofs.Math.Nat.{mul_comm, add-mul}
-use Rattle.std.proofs.lemmas.Nat.{mul-le, div-add-mod', mod_below, div_below}
+use Rattle.std.proofs.Math.Nat.{mul_left_comm, add-mul}
+use Rattle.std.proofs.lemmas.Nat.{mul-le, pow-add, div-add-mod', mod_below}
 use Rattle.std.proofs.lemmas.List.{get_or-set_same, get_or-set_other}
 use Rattle.std.proofs.lemmas.Bool.{cases_lt, cases_eq}
 use Rattle.mp_defs.specs.Series.{Series, series_of}
@@ -23,9 +24,6 @@ use Rattle.mp_skips.specs.Blocks.{Reaches, height}
 use Rattle.mp_skips.specs.Needs.{IsNeedOf, IsRowNeed, IsColumnNeed, IsRowsNeed, AreColumnNeeds}
 use Rattle.mp_skips.specs.Needs.{AreGreatest, AreGroupNeeds}
 
-pub div_one : (n : ℕ) → n / 1 ≡ n
-div_one n = omega (arith, div-add-mod' n 1, mod_below n 1 (omega arith))
-
 pub above_by : (k square dist d need : ℕ) → k * dist < need * square → need * square ≤ k * d → dist < d
 above_by k square dist d need lt le = elim (cases_lt dist d) [
   | inl less ↦ less
@@ -37,38 +35,41 @@ units_above z by square e some =
     subst (λ n. z < (z / n + 1) * square) (sym e)
     (omega (arith, div-add-mod' z square, mod_below z square some, add-mul (z / square) 1 square))
 
-pub product_fits : (eights dist : ℕ) → eights ≤ 8 → dist < 2 ^ 96 → 8 * eights * dist < 2 ^ 103
+pub product_fits : (eights dist : ℕ) → eights ≤ 8 → dist < 2 ^ 120 → 8 * eights * dist < 2 ^ 127
 product_fits eights dist few lt =
-    omega (arith, mul-le (8 * eights) dist 64 (2 ^ 96) (omega (arith, few)) (omega (arith, lt)))
+    omega (arith, mul-le (8 * eights) dist 64 (2 ^ 120) (omega (arith, few)) (omega (arith, lt)))
 
 pub some_square : (grain : ℕ) → 1 ≤ grain → 1 ≤ grain * grain
 some_square grain some = omega (arith, mul-le 1 1 grain grain some some)
 
-pub most_reaches : (coarse : Coarse) (need d square : ℕ)
-    → square ≡ coarse.rows.units.grain * coarse.rows.units.grain → need * square / height coarse + 1 ≤ d
-    → Reaches coarse need d
-most_reaches coarse need d square is le =
+-- the square of a power of two
+pub square_of_power : (size shift : ℕ) → size ≡ 2 ^ shift → 2 ^ (2 * shift) ≡ size * size
+square_of_power size shift is =
+    let e : 2 * shift ≡ shift + shift = omega arith in
+    ap (λ n. 2 ^ n) e ∙ pow-add 2 shift shift ∙ sym (ap (λ n. size * n) is ∙ ap (λ n. n * 2 ^ shift) is)
+
+pub most_reaches : (coarse : Coarse) (need sum d square steps : ℕ)
+    → square ≡ coarse.rows.units.grain.size * coarse.rows.units.grain.size
+    → steps ≡ coarse.rows.units.step.size * coarse.rows.units.step.size → 1 ≤ steps
+    → need * square / (height coarse * steps) + 1 ≤ sum
+    → sum * (coarse.rows.units.step.size * coarse.rows.units.step.size) ≤ d → Reaches coarse need d
+most_reaches coarse need sum d square steps is are some le below =
     let k = height coarse in
-    let some : 1 ≤ k = omega (arith, coarse.rows.units.some) in
-    let units : need * square < (need * square / k + 1) * k = units_above (need * square) k k refl some in
-    let times : (need * square / k + 1) * k ≤ d * k = mul-le (need * square / k + 1) k d k le (omega arith) in
-    let same : need * square ≡ need * (coarse.rows.units.grain * coarse.rows.units.grain) = ap (λ n. need * n) is in
-    omega (arith, units, times, mul_comm d k, same)
+    let q = need * square / (k * steps) + 1 in
+    let whole : 1 ≤ k * steps = omega (arith, mul-le 1 1 k steps (omega (arith, coarse.rows.units.some)) some) in
+    let units : need * square < q * (k * steps) = units_above (need * square) (k * steps) (k * steps) refl whole in
+    let turn : q * (k * steps) ≡ k * (q * steps) = mul_left_comm q k steps in
+    let squares : q * steps ≤ d =
+    omega (arith, mul-le q steps sum steps le (omega arith), ap (λ n. sum * n) are, below) in
+    let times : k * (q * steps) ≤ k * d = mul-le k (q * steps) k d (omega arith) squares in
+    let same : need * square ≡ need * (coarse.rows.units.grain.size * coarse.rows.units.grain.size) =
+    ap (λ n. need * n) is in
+    omega (arith, units, turn, times, same)
 
-pub need_product : (coarse : Coarse) (need from square : ℕ) → need < NO_NEED → from ≡ need
-    → square ≡ coarse.rows.units.grain * coarse.rows.units.grain → from * square ≤ 2 ^ 74
-need_product coarse need from square lt e is =
-    let g : coarse.rows.units.grain ≤ 64 = omega (arith, coarse.rows.units.few_grains, coarse.rows.units.few) in
-    let square_few : square ≤ 64 * 64 =
-    omega (arith, is, mul-le coarse.rows.units.grain coarse.rows.units.grain 64 64 g g) in
-    omega (arith, mul-le from square (2 ^ 62) (64 * 64) (omega (arith, lt, e)) square_few)
-
-pub need_units : (coarse : Coarse) (need from square : ℕ) → need < NO_NEED → from ≡ need
-    → square ≡ coarse.rows.units.grain * coarse.rows.units.grain → from * square / height coarse < 2 ^ 75
-need_units coarse need from square lt e is =
-    let some : 1 ≤ height coarse = omega (arith, coarse.rows.units.some) in
-    div_below (from * square) (height coarse) (2 ^ 75) (omega (arith, some))
-    (omega (arith, need_product coarse need from square lt e is, some))
+pub need_product : (need from square : ℕ) → need < NO_NEED → from ≡ need → square ≤ 2 ^ 62
+    → from * square ≤ 2 ^ 124
+need_product need from square lt e small =
+    omega (arith, mul-le from square (2 ^ 62) (2 ^ 62) (omega (arith, lt, e)) small)
 
 -- a greater need does too
 reaches_less : (coarse : Coarse) (need more d : ℕ) → need ≤ more → Reaches coarse more d → Reaches coarse need d
@@ -76,7 +77,8 @@ reaches_less coarse need more d le h =
     omega (
       arith,
       h,
-      mul-le need (coarse.rows.units.grain * coarse.rows.units.grain) more (coarse.rows.units.grain * coarse.rows.units.grain) le (omega arith),
+      mul-le need (coarse.rows.units.grain.size * coarse.rows.units.grain.size) more
+          (coarse.rows.units.grain.size * coarse.rows.units.grain.size) le (omega arith),
     )
 
 pub row_need_more : (coarse : Coarse) (keeps : ℕ → ℕ → ℕ → Type 0) (first row need more : ℕ) → need ≤ more
@@ -104,6 +106,20 @@ pub column_need_later : (coarse : Coarse) (keeps : ℕ → ℕ → ℕ → Type 
     → IsColumnNeed coarse keeps first column need → IsColumnNeed coarse keeps later column need
 column_need_later coarse keeps first later column need le h = record {
   nothing = λ row d there after is some reach. h.nothing row d there (omega (arith, le, after)) is some reach;
+}
+
+-- and columns further on
+pub row_need_later : (coarse : Coarse) (keeps : ℕ → ℕ → ℕ → Type 0) (first later row need : ℕ) → first ≤ later
+    → IsRowNeed coarse keeps first row need → IsRowNeed coarse keeps later row need
+row_need_later coarse keeps first later row need le h = record {
+  nothing = λ column d there after is some reach. h.nothing column d there (omega (arith, le, after)) is some reach;
+}
+
+pub rows_need_later : (coarse : Coarse) (keeps : ℕ → ℕ → ℕ → Type 0) (first later row n count need : ℕ)
+    → first ≤ later → count ≤ n → IsRowsNeed coarse keeps first row n need
+    → IsRowsNeed coarse keeps later row count need
+rows_need_later coarse keeps first later row n count need le few h = record {
+  each = λ r lt. row_need_later coarse keeps first later (row + r) need le (h.each r (omega (arith, lt, few)));
 }
 
 -- a window of which a sample is missing has no distance

@@ -1,6 +1,7 @@
 -- The pairs of blocks, strips and diagonals, and what scans of them give together.
-use Rattle.std.proofs.Common.{◌≡◌, ℕ, zero, suc, inl, ◌+◌, ◌-◌, ◌*◌, ◌<◌, ◌≤◌, ◌⊎◌, min, max, List, length, Bool, true, false, arith, subst, ap, sym, ◌∙◌}
-use Rattle.std.specs.Prelude.{◌||◌, Some}
+use Rattle.std.proofs.Common.{◌≡◌, ℕ, zero, suc, inl, ◌+◌, ◌-◌, ◌*◌, ◌^◌, ◌<◌, ◌≤◌, ◌⊎◌, min, max, List, length, Bool}
+use Rattle.std.proofs.Common.{true, false, arith, subst, refl, ap, sym, ◌∙◌}
+use Rattle.std.specs.Prelude.{◌||◌, Option, Some, None, IsSome}
 use Rattle.std.proofs.lemmas.Bool.Decides.{nat_tests}
 use Rattle.mp_defs.specs.Series.{Series, series_of}
 use Rattle.mp_sums.specs.declared.distances.Grid.{Grid}
@@ -11,7 +12,9 @@ use Rattle.mp_skips.specs.declared.sums.Coarse.{Coarse}
 use Rattle.mp_skips.specs.declared.sums.TheConstants.{NO_NEED}
 use Rattle.mp_skips.specs.Sums.{number_in}
 use Rattle.mp_skips.specs.Blocks.{height, AreApart}
-use Rattle.mp_skips.specs.Needs.{IsRowNeed, IsRowsNeed, IsColumnNeed, AreGroupNeeds, AreStripNeeds}
+use Rattle.mp_skips.specs.Levels.{squares_in}
+use Rattle.mp_skips.specs.Needs.{IsRowNeed, IsRowsNeed, IsColumnNeed, AreGroupNeeds, AreStripNeeds, IsMost}
+use Rattle.mp_skips.proofs.LevelLemmas.{sum_is_least, sum_has_bits}
 use Rattle.mp_skips.proofs.NeedLemmas.{column_need_later, column_need_more, rows_need_more}
 use Rattle.mp_skips.proofs.NeedLemmas.{rows_need_stays, group_needs_stay}
 
@@ -108,6 +111,10 @@ row_is i j r c e = grind (arith, nat_tests)
 column_is : (i j r c : ℕ) → only i j r c ≡ true → j ≡ c
 column_is i j r c e = grind (arith, nat_tests)
 
+some_of : (x : Option ℕ) → IsSome x → (d : ℕ) × (x ≡ Some d)
+some_of None is = absurd (cc)
+some_of (Some d) is = (d, refl)
+
 some_same : (a b : ℕ) → Some a ≡ Some b → a ≡ b
 some_same a b e = cc
 
@@ -193,6 +200,36 @@ module _ {Into : Type 0} {least : ℕ} {fits : ℕ → Series → Series → Int
       laws.quiet _ _ _ (only i j) into there
       (λ r c e. omega (arith, row_is i j r c e, column_is i j r c e, apart))
       (λ r c d _ _ e found. same_pair i j r c dist d (row_is i j r c e) (column_is i j r c e) is found row column)
+
+  -- one pair that has a distance, and gives nothing at it
+  pub quiet_rounded : (i j : ℕ) → FitIn fits coarse.plan.grid into → i + least ≤ j
+      → IsSome (distance_in coarse.plan.grid i j)
+      → ((d : ℕ) → distance_in coarse.plan.grid i j ≡ Some d → keeps_row into i j d × keeps_column into j i d)
+      → AreScannedIn is_scanned coarse.plan.grid (only i j) into into
+  quiet_rounded i j there apart free h =
+      let found = some_of (distance_in coarse.plan.grid i j) free in
+      let both = h found.0 found.1 in
+      quiet_at i j found.0 there apart found.1 both.0 both.1
+
+  -- a row and a column whose sum tells that they reach a need of both
+  pub quiet_far : (i j need most sum : ℕ) → FitIn fits coarse.plan.grid into → i + least ≤ j
+      → IsRowNeed coarse (keeps_row into) j i need → IsColumnNeed coarse (keeps_column into) i j need
+      → IsMost coarse need most → sum ≡ squares_in coarse coarse.plan.grid.m i j → most ≤ sum
+      → AreScannedIn is_scanned coarse.plan.grid (only i j) into into
+  quiet_far i j need most sum there apart row column is e le =
+      laws.quiet _ _ _ (only i j) into there
+      (λ r c same. omega (arith, row_is i j r c same, column_is i j r c same, apart))
+      (λ r c d rw' cw same found.
+      let at : i ≡ r = row_is i j r c same in
+      let beside : j ≡ c = column_is i j r c same in
+      let here : distance_in coarse.plan.grid i j ≡ Some d =
+      ap (λ n. distance_in coarse.plan.grid n j) at ∙ ap (distance_in coarse.plan.grid r) beside ∙ found in
+      let small : sum < 2 ^ 63 = sum_has_bits coarse i j sum e in
+      let reach = is.far sum d small le (sum_is_least coarse i j d sum e here) in
+      let some = is.some sum small le in
+      same_pair i j r c d d at beside here found
+      (row.nothing j d (omega (arith, at, rw')) (omega arith) here some reach)
+      (column.nothing i d (omega (arith, beside, cw)) (omega arith) here some reach))
 
 -- ---- the pairs of a diagonal
 

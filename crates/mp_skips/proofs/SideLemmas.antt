@@ -21,39 +21,47 @@ column_low coarse =
     coarse.columns.lists.low_is)
 
 pub row_numbers : (coarse : Coarse)
-    → AreNumbers coarse.rows.units.low (series_of coarse.plan.grid.rows.now) coarse.rows.levels.now
+    → AreNumbers coarse.rows.units.low coarse.rows.units.step.size (series_of coarse.plan.grid.rows.now)
+    coarse.rows.levels.now
 row_numbers coarse =
-    subst (λ (xs : List Sample). AreNumbers coarse.rows.units.low (series_of xs) coarse.rows.levels.now)
+    subst (λ (xs : List Sample). AreNumbers coarse.rows.units.low coarse.rows.units.step.size
+    (series_of xs) coarse.rows.levels.now)
     coarse.row_samples coarse.rows.lists.are_levels
 
 pub column_numbers : (coarse : Coarse)
-    → AreNumbers coarse.rows.units.low (series_of coarse.plan.grid.columns.now) coarse.columns.levels.now
+    → AreNumbers coarse.rows.units.low coarse.rows.units.step.size (series_of coarse.plan.grid.columns.now)
+    coarse.columns.levels.now
 column_numbers coarse =
-    subst (λ (u : Units). AreNumbers u.low (series_of coarse.plan.grid.columns.now) coarse.columns.levels.now)
+    subst (λ (u : Units). AreNumbers u.low u.step.size (series_of coarse.plan.grid.columns.now)
+    coarse.columns.levels.now)
     coarse.same_units
-    (subst (λ (xs : List Sample). AreNumbers coarse.columns.units.low (series_of xs) coarse.columns.levels.now)
+    (subst (λ (xs : List Sample). AreNumbers coarse.columns.units.low coarse.columns.units.step.size
+    (series_of xs) coarse.columns.levels.now)
     coarse.column_samples coarse.columns.lists.are_levels)
 
 pub row_floors : (coarse : Coarse)
-    → AreFloors coarse.rows.units.low (height coarse) coarse.rows.units.grain (series_of coarse.plan.grid.rows.now)
+    → AreFloors coarse.rows.units.low (height coarse) coarse.rows.units.grain.size (series_of coarse.plan.grid.rows.now)
     coarse.rows.floors.now (length coarse.rows.floors.now)
 row_floors coarse =
-    subst (λ (xs : List Sample). AreFloors coarse.rows.units.low (height coarse) coarse.rows.units.grain (series_of xs)
+    subst (λ (xs : List Sample). AreFloors coarse.rows.units.low (height coarse) coarse.rows.units.grain.size
+    (series_of xs)
     coarse.rows.floors.now (length coarse.rows.floors.now)) coarse.row_samples coarse.rows.lists.are_floors
 
 pub column_groups : (coarse : Coarse)
-    → AreGroups coarse.rows.units.low (height coarse) coarse.rows.units.grain (series_of coarse.plan.grid.columns.now)
+    → AreGroups coarse.rows.units.low (height coarse) coarse.rows.units.grain.size
+    (series_of coarse.plan.grid.columns.now)
     coarse.columns.least.now coarse.columns.greatest.now (length coarse.columns.least.now)
 column_groups coarse =
-    subst (λ (u : Units). AreGroups u.low (8 * u.eights) u.grain (series_of coarse.plan.grid.columns.now)
+    subst (λ (u : Units). AreGroups u.low (8 * u.eights) u.grain.size (series_of coarse.plan.grid.columns.now)
     coarse.columns.least.now coarse.columns.greatest.now (length coarse.columns.least.now)) coarse.same_units
     (subst (λ (xs : List Sample). AreGroups coarse.columns.units.low (8 * coarse.columns.units.eights)
-    coarse.columns.units.grain (series_of xs) coarse.columns.least.now coarse.columns.greatest.now
+    coarse.columns.units.grain.size (series_of xs) coarse.columns.least.now coarse.columns.greatest.now
     (length coarse.columns.least.now)) coarse.column_samples coarse.columns.lists.are_groups)
 
 pub all_floors : (coarse : Coarse) → length coarse.plan.grid.rows.now ≤ length coarse.rows.floors.now
 all_floors coarse =
-    subst (λ (xs : List Sample). length xs ≤ length coarse.rows.floors.now) coarse.row_samples coarse.rows.lists.all_floors
+    subst (λ (xs : List Sample). length xs ≤ length coarse.rows.floors.now) coarse.row_samples
+    coarse.rows.lists.all_floors
 
 pub all_groups : (coarse : Coarse) → length coarse.plan.grid.columns.now ≤ 8 * length coarse.columns.least.now
 all_groups coarse =
@@ -62,7 +70,8 @@ all_groups coarse =
 
 pub more_rows : (coarse : Coarse) → length coarse.plan.grid.rows.now < length coarse.rows.levels.now
 more_rows coarse =
-    subst (λ (xs : List Sample). length xs < length coarse.rows.levels.now) coarse.row_samples coarse.rows.lists.more_levels
+    subst (λ (xs : List Sample). length xs < length coarse.rows.levels.now) coarse.row_samples
+    coarse.rows.lists.more_levels
 
 pub more_columns : (coarse : Coarse) → length coarse.plan.grid.columns.now < length coarse.columns.levels.now
 more_columns coarse =
@@ -97,13 +106,14 @@ column_places coarse =
     coarse.column_samples coarse.columns.lists.all_windows)
 
 pub column_floors : (coarse : Coarse)
-    → AreFloors coarse.rows.units.low (height coarse) coarse.rows.units.grain (series_of coarse.plan.grid.columns.now)
+    → AreFloors coarse.rows.units.low (height coarse) coarse.rows.units.grain.size
+    (series_of coarse.plan.grid.columns.now)
     coarse.columns.floors.now (length coarse.columns.floors.now)
 column_floors coarse =
-    subst (λ (u : Units). AreFloors u.low (8 * u.eights) u.grain (series_of coarse.plan.grid.columns.now)
+    subst (λ (u : Units). AreFloors u.low (8 * u.eights) u.grain.size (series_of coarse.plan.grid.columns.now)
     coarse.columns.floors.now (length coarse.columns.floors.now)) coarse.same_units
     (subst (λ (xs : List Sample). AreFloors coarse.columns.units.low (8 * coarse.columns.units.eights)
-    coarse.columns.units.grain (series_of xs) coarse.columns.floors.now (length coarse.columns.floors.now))
+    coarse.columns.units.grain.size (series_of xs) coarse.columns.floors.now (length coarse.columns.floors.now))
     coarse.column_samples coarse.columns.lists.are_floors)
 
 pub all_column_floors : (coarse : Coarse) → length coarse.plan.grid.columns.now ≤ length coarse.columns.floors.now

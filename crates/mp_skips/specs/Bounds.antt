@@ -17,7 +17,8 @@ SquareOfSumIsBelow = (f : ℕ → ℕ) (s : ℕ) → total f s * total f s ≤ s
 
 -- the squared differences of sums of s numbers each are together at most s times the sum of the squared differences
 abbrev pub GroupsAreBelow : Type 0
-GroupsAreBelow = (x y : ℕ → ℕ) (s n m i j : ℕ) → n * s ≤ m → group_squares x y s n i j ≤ s * squares_from x y m i j
+GroupsAreBelow = (x y : ℕ → ℕ) (s n m i j : ℕ) → n * s ≤ m
+    → group_squares x y s n i j ≤ s * squares_from x y m i j
 
 -- p is how often a grain goes into z, rounded down
 pub record IsFloor (grain z p : ℕ) : Type 0 where

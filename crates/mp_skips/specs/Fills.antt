@@ -1,5 +1,5 @@
--- Samples above a low number, and what is left where sums are rounded down.
-use Rattle.std.specs.Prelude.{ℕ, ◌+◌, ◌*◌, ◌<◌, ◌≤◌, List, length, ℤ}
+-- Samples above a low number, and the lists that are filled in.
+use Rattle.std.specs.Prelude.{ℕ, ◌<◌, ◌≤◌, List, length, ℤ}
 use Rattle.mp_nums.specs.declared.samples.Sample.{Sample}
 use Rattle.mp_defs.specs.Series.{Series, series_of}
 use Rattle.mp_skips.specs.Totals.{level}
@@ -11,15 +11,12 @@ pub record AreLevels (low : ℤ) (range : ℕ) (a : Series) : Type 0 where
   pub low_is : IsLow low a
   pub each : (t : ℕ) → level low a t ≤ range
 
--- none is left where grains are 1
-pub record IsSlack (grain slack : ℕ) : Type 0 where
-  pub enough : grain ≤ slack * grain + 1
-
 -- the lists of a series in plain numbers and in sums of s samples are filled
-pub record AreFilled (low : ℤ) (s grain : ℕ) (samples : List Sample) (levels floors least greatest : List ℕ) : Type 0
+pub record AreFilled (low : ℤ) (s step grain : ℕ) (samples : List Sample) (levels floors least greatest : List ℕ)
+    : Type 0
   where
     pub low_is : IsLow low (series_of samples)
-    pub are_levels : AreNumbers low (series_of samples) levels
+    pub are_levels : AreNumbers low step (series_of samples) levels
     pub small_levels : (p : ℕ) → number_in levels p < MOST_GRAINS
     pub are_floors : AreFloors low s grain (series_of samples) floors (length floors)
     pub small_floors : (p : ℕ) → number_in floors p ≤ MOST_GRAINS

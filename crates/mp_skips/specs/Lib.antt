@@ -1,5 +1,6 @@
 pub mod Totals
 pub mod Bounds
+pub mod Slack
 pub mod Sums
 pub mod Lists
 pub mod Fills

@@ -11,9 +11,9 @@ number_in xs p = slice_index_or xs p 0
 pub record IsLow (low : ℤ) (a : Series) : Type 0 where
   pub each : (t : ℕ) (x : ℤ) → number_at a t ≡ Some x → low ≤ℤ x
 
--- plain numbers tell how far the samples of a series lie above a low number
-pub record AreNumbers (low : ℤ) (a : Series) (numbers : List ℕ) : Type 0 where
-  pub each : (p : ℕ) → number_in numbers p ≡ level low a p
+-- plain numbers tell how many steps the samples of a series lie above a low number, rounded down
+pub record AreNumbers (low : ℤ) (step : ℕ) (a : Series) (numbers : List ℕ) : Type 0 where
+  pub each : (p : ℕ) → IsFloor step (level low a p) (number_in numbers p)
 
 -- the sums of s samples above a low number from each of n places on, rounded down to grains
 pub record AreFloors (low : ℤ) (s grain : ℕ) (a : Series) (floors : List ℕ) (n : ℕ) : Type 0 where

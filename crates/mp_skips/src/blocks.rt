@@ -7,7 +7,7 @@ ghost use Rattle.mp_skips.specs.Blocks.{squares_outside, squares_apart, AreApart
 ghost use Rattle.mp_skips.specs.declared.sums.TheConstants.{NO_NEED};
 
 use crate::sums::Coarse;
-use crate::vectors::add_squares;
+use crate::vectors::{add_gaps, add_squares};
 use std::simd::prelude::*;
 
 /// How far a number lies outside of two others.
@@ -62,7 +62,8 @@ impl<'a> Coarse<'a> {
         }
     }
 
-    /// The sums of squares of eight successive diagonals, one of each sum of the row and of the columns.
+    /// The sums of squares of eight successive diagonals: how far each sum of the row and of the columns are apart at
+    /// least.
     #[inline(always)]
     fn fill_apart(&self, row: usize, column: usize, sums: &mut u64x8)
         requires row { row + self.now.plan.grid.m ≤ length self.now.plan.grid.rows.now }
@@ -73,18 +74,18 @@ impl<'a> Coarse<'a> {
         *sums = u64x8::splat(0);
         for t in 0..self.terms {
             let behind = 8 * (self.rows.units.eights * (t + 1));
-            add_squares(
+            add_gaps(
                 sums,
                 &self.rows.floors[row + behind],
                 self.columns.floors,
-                self.columns.floors,
+                &self.rows.units.grain.slack,
                 column + behind,
             );
         }
     }
 
-    /// Coarse sums of squares of the rows of a block on each of eight successive diagonals, which tell nothing where
-    /// sums are rounded down.
+    /// Coarse sums of squares of the rows of a block on each of eight successive diagonals, which tell nothing at the
+    /// end of the columns.
     pub(crate) fn diagonal_sums(&self, row: usize, column: usize, sums: &mut u64x8)
         requires row { row + self.now.plan.grid.m ≤ length self.now.plan.grid.rows.now }
         requires column { column + self.now.plan.grid.m ≤ length self.now.plan.grid.columns.now }
@@ -93,9 +94,7 @@ impl<'a> Coarse<'a> {
         ensures small { (u : ℕ) → u < 8 → number_in sums.new u < NO_NEED }
     {
         *sums = u64x8::splat(0);
-        if self.rows.units.grain == 1
-            && column + 7 + self.plan.grid.m <= self.plan.grid.columns.len()
-        {
+        if column + 7 + self.plan.grid.m <= self.plan.grid.columns.len() {
             self.fill_apart(row, column, sums);
         }
     }

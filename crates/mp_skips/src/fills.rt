@@ -6,10 +6,11 @@ ghost use Rattle.mp_defs.specs.Series.{reading_of, series_of};
 ghost use Rattle.mp_skips.specs.Totals.{sum_from, raised, level};
 ghost use Rattle.mp_skips.specs.Bounds.{IsFloor};
 ghost use Rattle.mp_skips.specs.Sums.{number_in, AreNumbers, AreFloors, AreGroups};
-ghost use Rattle.mp_skips.specs.Fills.{AreLevels, IsSlack, AreFilled};
+ghost use Rattle.mp_skips.specs.Slack.{IsSlack};
+ghost use Rattle.mp_skips.specs.Fills.{AreLevels, AreFilled};
 ghost use Rattle.mp_skips.specs.declared.sums.TheConstants.{MOST_GRAINS};
 
-use crate::sums::{MOST_GRAINS, Units};
+use crate::sums::{MOST_GRAINS, Unit, Units};
 use mp_nums::{Sample, Whole};
 use mp_sums::sample_at;
 
@@ -62,15 +63,15 @@ fn next_sum(samples: &[Sample], low: Whole, count: usize, range: u64, place: usi
     sum + enters - leaves
 }
 
-/// How many whole grains a sum has.
+/// How many whole units a number has.
 #[inline]
-fn floor_of(sum: u64, grain: u32) -> u32
-    requires some { 1 ≤ grain }
-    requires fits { sum < MOST_GRAINS * grain }
-    ensures floor { IsFloor grain sum result }
+fn floor_of(number: u64, unit: u32) -> u32
+    requires some { 1 ≤ unit }
+    requires fits { number < MOST_GRAINS * unit }
+    ensures floor { IsFloor unit number result }
     ensures small { result < MOST_GRAINS }
 {
-    (sum / u64::from(grain)) as u32
+    (number / u64::from(unit)) as u32
 }
 
 /// Fills in the sums of `count` samples from each place on, in grains.
@@ -126,17 +127,18 @@ fn greatest_of(numbers: &[u32], place: usize) -> u32
     greatest
 }
 
-/// Fills in how far each sample lies above the low number.
-fn fill_levels(samples: &[Sample], low: Whole, range: u64, levels: &mut [u32])
+/// Fills in how many steps each sample lies above the low number.
+fn fill_levels(samples: &[Sample], low: Whole, range: u64, step: u32, levels: &mut [u32])
     requires levels { AreLevels low range (series_of samples.now) }
-    requires range { range < MOST_GRAINS }
+    requires some { 1 ≤ step }
+    requires range { range < MOST_GRAINS * step }
     requires places { length samples.now ≤ length levels.old }
-    ensures levels { AreNumbers low (series_of samples.now) levels.new }
+    ensures levels { AreNumbers low step (series_of samples.now) levels.new }
     ensures small { (p : ℕ) → number_in levels.new p < MOST_GRAINS }
     ensures places { length levels.new ≡ length levels.old }
 {
     for p in 0..levels.len() {
-        levels[p] = level_at(samples, low, p) as u32;
+        levels[p] = floor_of(level_at(samples, low, p), step);
     }
 }
 
@@ -162,25 +164,27 @@ fn fill_groups(floors: &[u32], slack: u32, least: &mut [u32], greatest: &mut [u3
     }
 }
 
-/// The least grain in which sums of `count` samples fit.
-pub(crate) fn grain_of(count: usize, range: u64) -> u32
-    requires some { 1 ≤ count }
-    requires few { count ≤ 64 }
-    requires range { range < MOST_GRAINS }
-    ensures some { 1 ≤ result }
-    ensures few { result ≤ count }
-    ensures fits { count * range < MOST_GRAINS * result }
+/// How many units are left for what rounding takes.
+fn slack_of(unit: u32) -> u32
+    ensures few { result ≤ 1 }
+    ensures slack { IsSlack unit result }
+    ensures exact { unit ≡ 1 → result ≡ 0 }
 {
-    let grains = count as u64 * range / u64::from(MOST_GRAINS);
-    grains as u32 + 1
+    if unit > 1 { 1 } else { 0 }
 }
 
-/// How many grains are left for what rounding takes.
-fn slack_of(grain: u32) -> u32
-    ensures few { result ≤ 1 }
-    ensures slack { IsSlack grain result }
+/// The least unit in which numbers fit that are no greater than the given one.
+pub(crate) fn unit_for(most: u64) -> Unit
+    requires { most < 2 ^ 55 }
+    ensures { most < MOST_GRAINS * result.size }
 {
-    if grain > 1 { 1 } else { 0 }
+    let shift = u64::BITS - (most / u64::from(MOST_GRAINS)).leading_zeros();
+    let size = 1 << shift;
+    Unit {
+        shift,
+        size,
+        slack: slack_of(size),
+    }
 }
 
 /// Fills in the lists of a series. Each group of eight floors has its least and its greatest one.
@@ -198,16 +202,16 @@ pub(crate) fn fill_lists(
     requires few_places { length floors.old < 2 ^ 62 }
     requires groups { length floors.old ≡ 8 * length least.old }
     requires same_groups { length greatest.old ≡ length least.old }
-    ensures lists { AreFilled units.now.low (8 * units.now.eights) units.now.grain samples.now levels.new floors.new
-        least.new greatest.new }
+    ensures lists { AreFilled units.now.low (8 * units.now.eights) units.now.step.size units.now.grain.size samples.now
+        levels.new floors.new least.new greatest.new }
     ensures level_places { length levels.new ≡ length levels.old }
     ensures floor_places { length floors.new ≡ length floors.old }
     ensures groups { length least.new ≡ length least.old }
     ensures same_groups { length greatest.new ≡ length greatest.old }
 {
     let count = 8 * units.eights;
-    let slack = slack_of(units.grain);
-    fill_levels(samples, units.low, units.width, levels);
-    fill_floors(samples, units.low, count, units.width, units.grain, floors);
-    fill_groups(floors, slack, least, greatest);
+    let (step, grain) = (units.step, units.grain);
+    fill_levels(samples, units.low, units.width, step.size, levels);
+    fill_floors(samples, units.low, count, units.width, grain.size, floors);
+    fill_groups(floors, grain.slack, least, greatest);
 }

@@ -1,10 +1,10 @@
-//! Sums of squared differences of plain numbers.
+//! Sums of squared differences of plain numbers, as rounding leaves them.
 
-ghost use Rattle.std.specs.Prelude.{◌≡◌, ◌+◌, ◌-◌, ◌*◌, ◌^◌, ◌<◌, ◌≤◌, length, IfSome, IfNone};
+ghost use Rattle.std.specs.Prelude.{◌≡◌, ℕ, ◌+◌, ◌-◌, ◌*◌, ◌^◌, ◌<◌, ◌≤◌, length, IfSome, IfNone};
 ghost use Rattle.mp_series.specs.declared.limits.TheConstants.{MAX_WINDOW};
-ghost use Rattle.mp_skips.specs.Totals.{square_gap};
+ghost use Rattle.mp_scans.specs.Windows.{row_windows, column_windows};
 ghost use Rattle.mp_skips.specs.Sums.{number_in};
-ghost use Rattle.mp_skips.specs.Levels.{squares_in};
+ghost use Rattle.mp_skips.specs.Levels.{square_at, squares_in};
 
 use crate::sums::Coarse;
 
@@ -12,20 +12,20 @@ use crate::sums::Coarse;
 const STEP: usize = 32;
 
 impl<'a> Coarse<'a> {
-    /// The squared difference of a sample of the rows and one of the columns.
+    /// The square of how far a sample of the rows and one of the columns are apart at least.
     #[inline]
     fn square(&self, row: usize, column: usize) -> u64
         requires row { row < length self.now.rows.levels.now }
         requires column { column < length self.now.columns.levels.now }
-        ensures square { result
-            ≡ square_gap (number_in self.now.rows.levels.now row) (number_in self.now.columns.levels.now column) }
+        ensures square { result ≡ square_at self.now row column }
         ensures small { result ≤ 2 ^ 48 }
     {
-        let gap = u64::from(self.rows.levels[row].abs_diff(self.columns.levels[column]));
-        gap * gap
+        let gap = self.rows.levels[row].abs_diff(self.columns.levels[column]);
+        let beyond = u64::from(gap.saturating_sub(self.rows.units.step.slack));
+        beyond * beyond
     }
 
-    /// The sum of the squared differences of some successive samples.
+    /// The sum of these squares of some successive samples.
     #[inline]
     fn squares(&self, row: usize, column: usize, count: usize) -> u64
         requires row { row + count ≤ length self.now.rows.levels.now }
@@ -41,8 +41,8 @@ impl<'a> Coarse<'a> {
         sum
     }
 
-    /// The sum of the squared differences behind the first `behind` samples of a row and a column, where it is below
-    /// `most`. It looks no further than to the samples that take it there.
+    /// The sum of the squares behind the first `behind` samples of a row and a column, where it is below `most`. It
+    /// looks no further than to the samples that take it there.
     pub(crate) fn core_within(
         &self,
         row: usize,
@@ -94,5 +94,21 @@ impl<'a> Coarse<'a> {
         let enters = self.square(row + self.plan.grid.m, column + self.plan.grid.m);
         let leaves = self.square(row, column);
         sum + enters - leaves
+    }
+
+    /// The sums of successive rows and columns, from one row and its column on, whose sum is known.
+    pub(crate) fn fill_sums(&self, row: usize, column: usize, sum: u64, sums: &mut [u64])
+        requires rows { row + length sums.old ≤ row_windows self.now.plan.grid }
+        requires columns { column + length sums.old ≤ column_windows self.now.plan.grid }
+        requires sum { sum ≡ squares_in self.now self.now.plan.grid.m row column }
+        ensures sums { (r : ℕ) → r < length sums.old
+            → number_in sums.new r ≡ squares_in self.now self.now.plan.grid.m (row + r) (column + r) }
+        ensures places { length sums.new ≡ length sums.old }
+    {
+        let mut sum = sum;
+        for r in 0..sums.len() {
+            sums[r] = sum;
+            sum = self.next_sum(row + r, column + r, sum);
+        }
     }
 }

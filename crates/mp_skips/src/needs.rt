@@ -1,6 +1,6 @@
 //! From which coarse sum on a pair gives its row or its column nothing.
 
-ghost use Rattle.std.specs.Prelude.{◌≡◌, ℕ, ◌+◌, ◌*◌, ◌/◌, ◌^◌, ◌<◌, ◌≤◌, length, slice_index_or, false};
+ghost use Rattle.std.specs.Prelude.{◌≡◌, ℕ, ◌+◌, ◌*◌, ◌^◌, ◌<◌, ◌≤◌, length, slice_index_or, false};
 ghost use Rattle.mp_defs.specs.Series.{series_of};
 ghost use Rattle.mp_defs.specs.Window.{is_free};
 ghost use Rattle.mp_scans.specs.Windows.{row_windows, column_windows};
@@ -11,7 +11,7 @@ ghost use Rattle.mp_skips.specs.declared.needs.TheConstants.{MOST_COLUMNS, MOST_
 ghost use Rattle.mp_skips.specs.Needs.{IsNeedOf, IsRowNeed, IsColumnNeed, IsRowsNeed, AreColumnNeeds, IsMost};
 ghost use Rattle.mp_skips.specs.Needs.{AreGreatest, AreGroupNeeds};
 
-use crate::sums::{Coarse, NO_NEED};
+use crate::sums::{Coarse, NO_NEED, Unit};
 use mp_scans::{GROUP, Offers, ROWS};
 use mp_sums::Limit;
 
@@ -21,29 +21,21 @@ pub(crate) const MOST_GROUPS: usize = (ROWS + GROUP) / 8 + 1;
 /// The most columns of these, with those that their blocks reach.
 const MOST_COLUMNS: usize = 8 * MOST_GROUPS + 64;
 
-/// The greatest distances that needs are told of.
-const MOST: u128 = 1 << 96;
+/// More than any distance.
+const MOST: u128 = 1 << 120;
 
 /// A sum that none reaches.
 const MOST_SUM: u128 = 1 << 63;
 
-/// The square of a grain.
+/// The square of a unit.
 #[inline]
-fn grain_square(coarse: &Coarse) -> u128
-    ensures square { result ≡ coarse.now.rows.units.grain * coarse.now.rows.units.grain }
+pub(crate) fn square_of(unit: &Unit) -> u128
+    ensures square { result ≡ unit.now.size * unit.now.size }
     ensures some { 1 ≤ result }
+    ensures small { result ≤ 2 ^ 62 }
 {
-    let grain = u128::from(coarse.rows.units.grain);
-    grain * grain
-}
-
-/// The quotient of a number by the square of a grain, which mostly is 1.
-#[inline]
-fn quotient(number: u128, square: u128) -> u128
-    requires { 1 ≤ square }
-    ensures { result ≡ number / square }
-{
-    if square == 1 { number } else { number / square }
+    let size = u128::from(unit.size);
+    size * size
 }
 
 /// The coarse sum that tells that a distance is above the given one.
@@ -52,9 +44,8 @@ fn need_above(coarse: &Coarse, dist: u128) -> u64
     ensures { (d : ℕ) → result < NO_NEED → Reaches coarse.now result d → dist < d }
 {
     if dist < MOST {
-        let square = grain_square(coarse);
         let product = (8 * coarse.rows.units.eights) as u128 * dist;
-        let units = quotient(product, square);
+        let units = product >> (2 * coarse.rows.units.grain.shift);
         (units + 1).min(u128::from(NO_NEED)) as u64
     } else {
         NO_NEED
@@ -85,14 +76,24 @@ fn need_of(coarse: &Coarse, limit: Limit) -> u64
     }
 }
 
-/// From which sum of squared differences on distances reach a need.
+/// A coarse sum of squares that tells that a pair gives nothing, and from which sum of squares in steps on pairs reach
+/// it.
+#[derive(Clone, Copy)]
+pub(crate) struct Need {
+    pub(crate) need: u64,
+    pub(crate) most: u64,
+}
+
+/// From which sum of squares in steps on distances reach a need.
 pub(crate) fn most_of(coarse: &Coarse, need: u64) -> u64
     ensures { IsMost coarse.now need result }
 {
     if need < NO_NEED {
-        let product = u128::from(need) * grain_square(coarse);
-        let units = product / (8 * coarse.rows.units.eights) as u128;
-        (units + 1).min(MOST_SUM) as u64
+        let units = &coarse.rows.units;
+        let grains = square_of(&units.grain);
+        let steps = square_of(&units.step);
+        let squares = u128::from(need) * grains / ((8 * units.eights) as u128 * steps);
+        (squares + 1).min(MOST_SUM) as u64
     } else {
         1 << 63
     }

@@ -1,14 +1,19 @@
 //! The pairs of some rows on one diagonal.
 
-ghost use Rattle.std.specs.Prelude.{◌≡◌, ◌+◌, ◌-◌, ◌^◌, ◌<◌, ◌≤◌, ◌↔◌, Some, IsSome, IsTrue};
+ghost use Rattle.std.specs.Prelude.{◌≡◌, ℕ, ◌+◌, ◌-◌, ◌^◌, ◌<◌, ◌≤◌, ◌↔◌, Some, IsSome, IsTrue, true};
 ghost use Rattle.mp_sums.specs.Grids.{distance_in};
+ghost use Rattle.mp_sums.specs.Limits.{IsBeyond};
 ghost use Rattle.mp_scans.specs.Offering.{only, in_block};
 ghost use Rattle.mp_scans.specs.Windows.{row_windows, column_windows, FitIn, AreScannedIn};
 ghost use Rattle.mp_skips.specs.Levels.{squares_in};
+ghost use Rattle.mp_skips.specs.Blocks.{height};
+ghost use Rattle.mp_skips.specs.Needs.{IsRowNeed, IsRowsNeed, IsColumnNeed, IsMost};
 
+use crate::needs::{Need, square_of};
 use crate::sums::Coarse;
 use mp_nums::Sq;
 use mp_scans::Offers;
+use mp_sums::Limit;
 
 /// Whether a row and a column have a distance: no sample of either is missing.
 #[inline]
@@ -22,23 +27,62 @@ fn are_free(coarse: &Coarse, row: usize, column: usize) -> bool
 
 /// Offers a row and a column at a distance to each other, where that may give one of them something.
 #[inline]
-fn offer_at<O: Offers>(coarse: &Coarse, row: usize, column: usize, dist: u64, into: &mut O::Into)
+fn offer_at<O: Offers>(coarse: &Coarse, row: usize, column: usize, dist: u128, into: &mut O::Into)
     requires row { row < row_windows coarse.now.plan.grid }
     requires column { column < column_windows coarse.now.plan.grid }
     requires apart { row + O.least ≤ column }
     requires dist { distance_in coarse.now.plan.grid row column ≡ Some dist }
+    requires small { dist + 1 < 2 ^ 110 }
     requires fits { FitIn O.fits coarse.now.plan.grid into.old }
     ensures scanned { AreScannedIn O.is_scanned coarse.now.plan.grid (only row column) into.old into.new }
 {
-    let dist = Sq(u128::from(dist));
+    let dist = Sq(dist);
     if O::may_give(into, row as u64, column as u64, dist) {
         O::offer(into, row as u64, column as u64, dist);
     }
 }
 
+/// Whether all distances from one on are beyond a limit.
+#[inline]
+fn is_beyond(limit: Limit, least: u128) -> bool
+    ensures { result ≡ true → (dist : ℕ) → least ≤ dist → IsBeyond limit dist }
+{
+    match limit {
+        Limit::Every => false,
+        Limit::Within(most) => most.0 < least,
+        Limit::Below(end) => end.0 <= least,
+    }
+}
+
+/// Offers a row and a column to each other whose sum doesn't tell their distance, but that it is so great at least.
+fn offer_rounded<O: Offers>(
+    coarse: &Coarse,
+    row: usize,
+    column: usize,
+    sum: u64,
+    into: &mut O::Into,
+)
+    requires row { row < row_windows coarse.now.plan.grid }
+    requires column { column < column_windows coarse.now.plan.grid }
+    requires apart { row + O.least ≤ column }
+    requires free { IsSome (distance_in coarse.now.plan.grid row column) }
+    requires sum { sum ≡ squares_in coarse.now coarse.now.plan.grid.m row column }
+    requires fits { FitIn O.fits coarse.now.plan.grid into.old }
+    ensures scanned { AreScannedIn O.is_scanned coarse.now.plan.grid (only row column) into.old into.new }
+{
+    let least = u128::from(sum) * square_of(&coarse.rows.units.step);
+    let to_row = O::row_limit(into, row as u64, column as u64);
+    let to_column = O::column_limit(into, column as u64, row as u64);
+    if is_beyond(to_row, least) && is_beyond(to_column, least) {
+        return;
+    }
+    let dist = coarse.plan.grid.free_distance(row, column);
+    offer_at::<O>(coarse, row, column, dist, into);
+}
+
 /// Offers a row and a column to each other, where no sample of either is missing.
 #[inline]
-fn take_pair<O: Offers>(coarse: &Coarse, row: usize, column: usize, sum: u64, into: &mut O::Into)
+fn offer_pair<O: Offers>(coarse: &Coarse, row: usize, column: usize, sum: u64, into: &mut O::Into)
     requires row { row < row_windows coarse.now.plan.grid }
     requires column { column < column_windows coarse.now.plan.grid }
     requires apart { row + O.least ≤ column }
@@ -47,30 +91,79 @@ fn take_pair<O: Offers>(coarse: &Coarse, row: usize, column: usize, sum: u64, in
     ensures scanned { AreScannedIn O.is_scanned coarse.now.plan.grid (only row column) into.old into.new }
 {
     if are_free(coarse, row, column) {
-        offer_at::<O>(coarse, row, column, sum, into);
+        if coarse.rows.units.step.size == 1 {
+            offer_at::<O>(coarse, row, column, u128::from(sum), into);
+        } else {
+            offer_rounded::<O>(coarse, row, column, sum, into);
+        }
     }
 }
 
-/// Offers successive rows and columns to each other, from one row and its column on, whose sum is known.
-pub(crate) fn scan_diagonal<O: Offers>(
+/// The same, unless their sum tells that they give each other nothing.
+#[inline]
+fn take_pair<O: Offers>(
     coarse: &Coarse,
     row: usize,
     column: usize,
-    count: usize,
     sum: u64,
+    need: &Need,
     into: &mut O::Into,
 )
-    requires rows { row + count ≤ row_windows coarse.now.plan.grid }
-    requires columns { column + count ≤ column_windows coarse.now.plan.grid }
+    requires row { row < row_windows coarse.now.plan.grid }
+    requires column { column < column_windows coarse.now.plan.grid }
     requires apart { row + O.least ≤ column }
     requires sum { sum ≡ squares_in coarse.now coarse.now.plan.grid.m row column }
+    requires row_need { IsRowNeed coarse.now (O.keeps_row into.old) column row need.now.need }
+    requires column_need { IsColumnNeed coarse.now (O.keeps_column into.old) row column need.now.need }
+    requires most { IsMost coarse.now need.now.need need.now.most }
+    requires fits { FitIn O.fits coarse.now.plan.grid into.old }
+    ensures scanned { AreScannedIn O.is_scanned coarse.now.plan.grid (only row column) into.old into.new }
+{
+    if sum < need.most {
+        offer_pair::<O>(coarse, row, column, sum, into);
+    }
+}
+
+/// Successive rows and their columns on one diagonal.
+#[derive(Clone, Copy)]
+pub(crate) struct Stretch {
+    pub(crate) row: usize,
+    pub(crate) column: usize,
+    pub(crate) count: usize,
+}
+
+/// The most rows of a block.
+const MOST_HEIGHT: usize = 64;
+
+/// Offers successive rows and columns to each other. The sum of the first two is known, and all need no more than the
+/// given number.
+pub(crate) fn scan_diagonal<O: Offers>(
+    coarse: &Coarse,
+    stretch: &Stretch,
+    sum: u64,
+    need: &Need,
+    into: &mut O::Into,
+)
+    requires rows { stretch.now.row + stretch.now.count ≤ row_windows coarse.now.plan.grid }
+    requires columns { stretch.now.column + stretch.now.count ≤ column_windows coarse.now.plan.grid }
+    requires few { stretch.now.count ≤ height coarse.now }
+    requires apart { stretch.now.row + O.least ≤ stretch.now.column }
+    requires sum { sum ≡ squares_in coarse.now coarse.now.plan.grid.m stretch.now.row stretch.now.column }
+    requires rows_need { IsRowsNeed coarse.now (O.keeps_row into.old) stretch.now.column stretch.now.row
+        stretch.now.count need.now.need }
+    requires columns_need { (c : ℕ) → c < stretch.now.count
+        → IsColumnNeed coarse.now (O.keeps_column into.old) stretch.now.row (stretch.now.column + c) need.now.need }
+    requires most { IsMost coarse.now need.now.need need.now.most }
     requires fits { FitIn O.fits coarse.now.plan.grid into.old }
     ensures scanned { AreScannedIn O.is_scanned coarse.now.plan.grid
-        (in_block (column - row) (column - row + 1) row (row + count)) into.old into.new }
+        (in_block (stretch.now.column - stretch.now.row) (stretch.now.column - stretch.now.row + 1) stretch.now.row
+        (stretch.now.row + stretch.now.count)) into.old into.new }
 {
-    let mut sum = sum;
-    for r in 0..count {
-        take_pair::<O>(coarse, row + r, column + r, sum, into);
-        sum = coarse.next_sum(row + r, column + r, sum);
+    let (row, column) = (stretch.row, stretch.column);
+    let mut places = [0; MOST_HEIGHT];
+    let sums = &mut places[..stretch.count];
+    coarse.fill_sums(row, column, sum, sums);
+    for r in 0..stretch.count {
+        take_pair::<O>(coarse, row + r, column + r, sums[r], need, into);
     }
 }

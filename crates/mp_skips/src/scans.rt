@@ -9,8 +9,8 @@ ghost use Rattle.mp_skips.specs.Sums.{number_in};
 ghost use Rattle.mp_skips.specs.Blocks.{height, squares_outside, AreApart};
 ghost use Rattle.mp_skips.specs.Needs.{IsRowsNeed, IsColumnNeed, IsMost, AreGroupNeeds, AreStripNeeds};
 
-use crate::needs::{MOST_GROUPS, fill_group_needs, most_of, rows_need};
-use crate::pairs::scan_diagonal;
+use crate::needs::{MOST_GROUPS, Need, fill_group_needs, most_of, rows_need};
+use crate::pairs::{Stretch, scan_diagonal};
 use crate::sums::{Coarse, NO_NEED};
 use crate::vectors::are_above;
 use mp_scans::{GROUP, Offers, ROWS};
@@ -33,13 +33,6 @@ struct Rows {
     end: usize,
     row: usize,
     count: usize,
-}
-
-/// A coarse sum of squares that tells that a pair gives nothing, and from which distance on pairs reach it.
-#[derive(Clone, Copy)]
-struct Need {
-    need: u64,
-    most: u64,
 }
 
 /// Whether a sum reaches a need.
@@ -83,9 +76,14 @@ fn take_diagonal<O: Offers>(
     let column = rows.row + behind;
     let height = 8 * coarse.rows.units.eights;
     if let Some(core) = coarse.core_within(rows.row, column, height, need.most) {
-        let count = rows.count.min(count_columns(coarse) - column);
         let sum = coarse.whole_sum(rows.row, column, height, core);
-        scan_diagonal::<O>(coarse, rows.row, column, count, sum, into);
+        let count = rows.count.min(count_columns(coarse) - column);
+        let stretch = Stretch {
+            row: rows.row,
+            column,
+            count,
+        };
+        scan_diagonal::<O>(coarse, &stretch, sum, need, into);
     }
 }
 

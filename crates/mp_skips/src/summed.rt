@@ -1,14 +1,14 @@
 //! A series with itself in coarse sums, and the memory that these take.
 
-ghost use Rattle.std.specs.Prelude.{◌≡◌, ◌+◌, ◌*◌, ◌^◌, ◌<◌, ◌≤◌, List, IfOk, IfSome};
+ghost use Rattle.std.specs.Prelude.{◌≡◌, ◌+◌, ◌*◌, ◌^◌, ◌<◌, ◌≤◌, List, IfOk};
 ghost use Rattle.mp_nums.specs.declared.samples.Sample.{Sample};
 ghost use Rattle.mp_defs.specs.Series.{series_of};
 ghost use Rattle.mp_sums.specs.Ranges.{AreSamplesWithin};
 ghost use Rattle.mp_skips.specs.Fills.{AreLevels};
 ghost use Rattle.mp_skips.specs.Lists.{AreLists};
 
-use crate::fills::{fill_lists, grain_of};
-use crate::sums::{Coarse, MOST_GRAINS, Side, Units};
+use crate::fills::{fill_lists, unit_for};
+use crate::sums::{Coarse, Side, Units};
 use mp_nums::{Memory, Sample};
 use mp_scans::{Plan, mark_free};
 use mp_sums::{Range, number_of, sample_at};
@@ -31,25 +31,22 @@ fn width_of(range: &Range) -> u64
     range.greatest.get().abs_diff(range.least.get())
 }
 
-/// The units of a series in sums of `8 * eights` samples. None where its samples lie too far apart.
-fn units_of(samples: &[Sample], eights: usize) -> Option<Units>
+/// The units of a series in sums of `8 * eights` samples.
+fn units_of(samples: &[Sample], eights: usize) -> Units
     requires some { 1 ≤ eights }
     requires few { eights ≤ 8 }
-    ensures levels { IfSome result (λ units. AreLevels units.low units.width (series_of samples.now)) }
-    ensures eights { IfSome result (λ units. units.eights ≡ eights) }
+    ensures levels { AreLevels result.low result.width (series_of samples.now) }
+    ensures eights { result.eights ≡ eights }
 {
     let range = range_of(samples);
     let width = width_of(&range);
-    if width >= u64::from(MOST_GRAINS) {
-        return None;
-    }
-    let grain = grain_of(8 * eights, width);
-    Some(Units {
+    Units {
         low: range.least,
         width,
         eights,
-        grain,
-    })
+        step: unit_for(width),
+        grain: unit_for(8 * eights as u64 * width),
+    }
 }
 
 /// How many sums a window has behind its first one.
@@ -73,8 +70,8 @@ pub struct Summed<'a> {
     free: Vec<bool>,
     ghost own: { plan.grid.columns.now ≡ plan.grid.rows.now },
     ghost wide: { 8 * units.eights ≤ plan.grid.m },
-    ghost lists: { AreLists units.low (8 * units.eights) units.grain plan.grid.m plan.grid.rows.now levels.items
-        floors.items least.items greatest.items free.items },
+    ghost lists: { AreLists units.low (8 * units.eights) units.step.size units.grain.size plan.grid.m plan.grid.rows.now
+        levels.items floors.items least.items greatest.items free.items },
 }
 
 /// The coarse sums of a series in these units.
@@ -112,19 +109,15 @@ fn sum_up<'a>(alloc: Global, plan: &Plan<'a>, units: &Units) -> Result<Summed<'a
 }
 
 impl<'a> Summed<'a> {
-    /// The coarse sums of a plan's series, of `8 * eights` samples each. None where its samples lie so far apart that
-    /// they don't fit.
-    pub fn of(alloc: Global, plan: &Plan<'a>, eights: usize) -> Result<Option<Summed<'a>>, Memory>
+    /// The coarse sums of a plan's series, of `8 * eights` samples each.
+    pub fn of(alloc: Global, plan: &Plan<'a>, eights: usize) -> Result<Summed<'a>, Memory>
         requires own { plan.now.grid.columns.now ≡ plan.now.grid.rows.now }
         requires some { 1 ≤ eights }
         requires few { eights ≤ 8 }
         requires wide { 8 * eights ≤ plan.now.grid.m }
-        ensures plan { IfOk result (λ found. IfSome found (λ summed. summed.plan ≡ plan.now)) }
+        ensures plan { IfOk result (λ summed. summed.plan ≡ plan.now) }
     {
-        match units_of(plan.grid.rows, eights) {
-            Some(units) => Ok(Some(sum_up(alloc, plan, &units)?)),
-            None => Ok(None),
-        }
+        sum_up(alloc, plan, &units_of(plan.grid.rows, eights))
     }
 
     /// The series as rows, or as columns.

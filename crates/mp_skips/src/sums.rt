@@ -1,18 +1,35 @@
 //! Two series in coarse sums.
 
-ghost use Rattle.std.specs.Prelude.{◌≡◌, ◌+◌, ◌*◌, ◌<◌, ◌≤◌};
+ghost use Rattle.std.specs.Prelude.{◌≡◌, ◌+◌, ◌*◌, ◌^◌, ◌<◌, ◌≤◌};
+ghost use Rattle.mp_skips.specs.Slack.{IsSlack};
 ghost use Rattle.mp_skips.specs.Lists.{AreLists};
 ghost use Rattle.mp_skips.specs.declared.sums.TheConstants.{MOST_GRAINS};
 
 use mp_nums::{Sample, Whole};
 use mp_scans::Plan;
 
-/// More grains than any sum has, and more than any sample lies above the low number. So the squares of those of a
+/// More units than any sum has, and more than any sample lies above the low number. So the squares of those of a
 /// window's rows and columns have 62 bits together.
 pub const MOST_GRAINS: u32 = 16_777_216;
 
 /// A coarse sum of squares that no block reaches.
 pub const NO_NEED: u64 = 4_611_686_018_427_387_904;
+
+/// A unit in which numbers are rounded down: a power of two, 1 where they are left as they are.
+#[derive(Clone, Copy)]
+pub struct Unit {
+    /// By how many bits numbers are shifted.
+    pub shift: u32,
+    pub size: u32,
+    /// How many units are left for what rounding takes.
+    pub slack: u32,
+    pub ghost power: { size ≡ 2 ^ shift },
+    pub ghost short: { shift ≤ 31 },
+    pub ghost some: { 1 ≤ size },
+    pub ghost few: { slack ≤ 1 },
+    pub ghost enough: { IsSlack size slack },
+    pub ghost exact: { size ≡ 1 → slack ≡ 0 },
+}
 
 /// In which units series are summed.
 #[derive(Clone, Copy)]
@@ -23,24 +40,25 @@ pub struct Units {
     pub width: u64,
     /// How many times eight samples a sum has.
     pub eights: usize,
+    /// In which unit samples are rounded down.
+    pub step: Unit,
     /// In which unit sums are rounded down.
-    pub grain: u32,
+    pub grain: Unit,
     pub ghost some: { 1 ≤ eights },
     pub ghost few: { eights ≤ 8 },
-    pub ghost some_grain: { 1 ≤ grain },
-    pub ghost few_grains: { grain ≤ 8 * eights },
-    pub ghost narrow: { width < MOST_GRAINS },
-    pub ghost fits: { 8 * eights * width < MOST_GRAINS * grain },
+    pub ghost narrow: { width < 2 ^ 49 },
+    pub ghost steps: { width < MOST_GRAINS * step.size },
+    pub ghost fits: { 8 * eights * width < MOST_GRAINS * grain.size },
 }
 
-/// A series in plain numbers, and in sums of successive ones that are rounded down to grains.
+/// A series in plain numbers and in sums of successive samples, both rounded down.
 #[derive(Clone, Copy)]
 pub struct Side<'a> {
     pub samples: &'a [Sample],
     /// How many samples a window has.
     pub m: usize,
     pub units: Units,
-    /// How far each sample lies above the low number. A missing one counts as 0.
+    /// How many steps each sample lies above the low number. A missing one counts as 0.
     pub levels: &'a [u32],
     /// The sums from each place on.
     pub floors: &'a [u32],
@@ -50,8 +68,8 @@ pub struct Side<'a> {
     pub greatest: &'a [u32],
     /// Whether no sample of a window is missing.
     pub free: &'a [bool],
-    pub ghost lists: { AreLists units.low (8 * units.eights) units.grain m samples.now levels.now floors.now least.now
-        greatest.now free.now },
+    pub ghost lists: { AreLists units.low (8 * units.eights) units.step.size units.grain.size m samples.now levels.now
+        floors.now least.now greatest.now free.now },
 }
 
 /// Two series whose windows are compared, in sums of successive samples. A block of pairs has as many successive rows

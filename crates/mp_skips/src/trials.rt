@@ -1,6 +1,6 @@
-//! Whether coarse sums tell of most blocks of a tile that they are far apart.
+//! Whether coarse sums tell of most diagonals of a tile's blocks that they are far apart.
 
-ghost use Rattle.std.specs.Prelude.{◌+◌, ◌≤◌, ◌<◌};
+ghost use Rattle.std.specs.Prelude.{◌+◌, ◌*◌, ◌≤◌, ◌<◌, length};
 ghost use Rattle.mp_scans.specs.Offering.{in_block};
 ghost use Rattle.mp_scans.specs.Windows.{row_windows, column_windows, FitIn, AreScannedIn};
 
@@ -8,12 +8,13 @@ use crate::needs::{column_need, is_marked, rows_need};
 use crate::scans::{count_columns, scan_apart};
 use crate::sums::Coarse;
 use mp_scans::{Offers, scan};
+use std::simd::prelude::*;
 
 /// How many blocks of a tile are tried.
-const TRIED: usize = 64;
+const TRIED: usize = 128;
 
-/// How many of these may stay. One that stays takes as long as some eight that are scanned with all others.
-const STAYING: usize = 8;
+/// How many of their diagonals may stay. One that stays takes as long as some hundred that are scanned with all others.
+const STAYING: usize = 40;
 
 /// The need of all columns that the blocks of a group reach, to which rows from `first` on are offered.
 fn group_need<O: Offers>(coarse: &Coarse, into: &O::Into, group: usize, first: usize) -> u64
@@ -28,30 +29,50 @@ fn group_need<O: Offers>(coarse: &Coarse, into: &O::Into, group: usize, first: u
     need
 }
 
-/// Whether the block of a row and of the columns around the one that starts so far behind it is told to be far apart,
-/// or has no pairs.
-fn is_apart<O: Offers>(
+/// How many of the diagonals of a block are not told to be far apart.
+fn count_near(coarse: &Coarse, row: usize, group: usize, need: u64) -> usize
+    requires row { row + coarse.now.plan.grid.m ≤ length coarse.now.plan.grid.rows.now }
+    requires group { 8 * group + coarse.now.plan.grid.m ≤ length coarse.now.plan.grid.columns.now }
+    ensures { result ≤ 8 }
+{
+    if coarse.is_quiet(row, group, need) {
+        return 0;
+    }
+    let mut sums = u64x8::splat(0);
+    coarse.diagonal_sums(row, 8 * group, &mut sums);
+    let mut near = 0;
+    for l in 0..8 {
+        if sums.as_array()[l] < need {
+            near += 1;
+        }
+    }
+    near
+}
+
+/// How many diagonals stay of the block of a row and of the columns around the one that starts so far behind it.
+fn count_staying<O: Offers>(
     coarse: &Coarse,
     row: usize,
     behind: usize,
     bottom: usize,
     into: &O::Into,
-) -> bool
+) -> usize
     requires bottom { bottom ≤ row_windows coarse.now.plan.grid }
     requires column { row + behind < column_windows coarse.now.plan.grid }
+    ensures { result ≤ 8 }
 {
     let height = 8 * coarse.rows.units.eights;
     if row + height > bottom {
-        return true;
+        return 0;
     }
     let group = (row + behind) / 8;
     let rows = rows_need::<O>(coarse, into, row, height, row + behind);
     let columns = group_need::<O>(coarse, into, group, row);
-    coarse.is_quiet(row, group, rows.max(columns))
+    count_near(coarse, row, group, rows.max(columns))
 }
 
-/// Whether most of some blocks are told to be far apart that are spread over a tile. All diagonals before `stop` have a
-/// column for the first row.
+/// Whether few diagonals stay of some blocks that are spread over a tile. All diagonals before `stop` have a column for
+/// the first row.
 fn are_mostly_apart<O: Offers>(
     coarse: &Coarse,
     first: usize,
@@ -70,8 +91,8 @@ fn are_mostly_apart<O: Offers>(
     for n in 0..TRIED {
         let row = top + (bottom - top) / TRIED * n;
         let behind = first + (stop - first) / 8 * (n % 8);
-        if row + behind < columns && !is_apart::<O>(coarse, row, behind, bottom, into) {
-            staying += 1;
+        if row + behind < columns {
+            staying += count_staying::<O>(coarse, row, behind, bottom, into);
         }
     }
     staying <= STAYING

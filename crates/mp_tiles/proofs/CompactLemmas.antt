@@ -1,6 +1,6 @@
 -- Slots in one number each: of two numbers the lesser stands for the window that comes first.
 use Rattle.std.proofs.Common.{◌≡◌, ℕ, ◌+◌, ◌*◌, ◌/◌, ◌%◌, ◌^◌, ◌<◌, ◌≤◌, inl, inr, true, false, sym, ap, ◌∙◌, arith}
-use Rattle.std.specs.Prelude.{Option, Some, None, ◌==◌, nat_lt, if◌then◌else◌}
+use Rattle.std.specs.Prelude.{Bool, Option, Some, None, ◌==◌, nat_lt, if◌then◌else◌}
 use Rattle.std.proofs.lemmas.Bool.{cases_lt}
 use Rattle.std.proofs.lemmas.Bool.Decides.{nat_tests}
 use Rattle.std.proofs.lemmas.Nat.{div-add-mod', div-mul-add, mod-mul-add, mod_below}
@@ -9,7 +9,7 @@ use Rattle.mp_nums.specs.Near.{comes_before, nearer_of}
 use Rattle.mp_nums.specs.NearLaws.{nearer_with_none}
 use Rattle.mp_series.specs.declared.limits.TheConstants.{MAX_SAMPLES}
 use Rattle.mp_defs.specs.Least.{near_at}
-use Rattle.mp_tiles.specs.Compact.{slot_by}
+use Rattle.mp_tiles.specs.Compact.{slot_before, slot_by}
 use Rattle.mp_tiles.specs.declared.compact.TheConstants.{NO_WINDOW}
 
 no_test : (n : ℕ) → n < NO_WINDOW → (n == NO_WINDOW) ≡ false
@@ -92,3 +92,41 @@ pub behind_by : (n k : ℕ) (s t : Option Near) → slot_by n ≡ s → slot_by 
 behind_by n k s t e f small is =
     let le : k ≤ n = grind (arith, nat_tests) in
     ap (λ x. nearer_of x s) (sym f) ∙ ap (nearer_of (slot_by k)) (sym e) ∙ greater_behind n k le small ∙ f
+
+-- which of two numbers is the lesser tells which slot comes before
+order_of : (n k : ℕ) → n ≤ NO_WINDOW → k ≤ NO_WINDOW → nat_lt n k ≡ slot_before (slot_by n) (slot_by k)
+order_of n k most most' = elim (cases_lt n NO_WINDOW) [
+  | inl less ↦
+      let near : Near = near_at (n % MAX_SAMPLES) (n / MAX_SAMPLES) in
+      elim (cases_lt k NO_WINDOW) [
+        | inl less' ↦
+            let other : Near = near_at (k % MAX_SAMPLES) (k / MAX_SAMPLES) in
+            tests_agree n k (n / 262144) (n % 262144) (k / 262144) (k % 262144) (start_small n) (start_small k)
+            (parts n) (parts k)
+            ∙ sym (ap (slot_before (Some near)) (some_by k less'))
+            ∙ sym (ap (λ s. slot_before s (slot_by k)) (some_by n less))
+        | inr more ↦ less_test n k (omega (arith, less, more))
+            ∙ sym (ap (slot_before (Some near)) (none_by k more most'))
+            ∙ sym (ap (λ s. slot_before s (slot_by k)) (some_by n less))
+      ]
+  | inr more ↦ not_less_test n k (omega (arith, more, most'))
+      ∙ sym (ap (λ s. slot_before s (slot_by k)) (none_by n more most))
+]
+  where
+    less_test : (n k : ℕ) → n < k → nat_lt n k ≡ true
+    less_test n k lt = grind (arith, nat_tests)
+
+    not_less_test : (n k : ℕ) → k ≤ n → nat_lt n k ≡ false
+    not_less_test n k le = grind (arith, nat_tests)
+
+    tests_agree : (n k d s e t : ℕ) → s < 262144 → t < 262144 → d * 262144 + s ≡ n → e * 262144 + t ≡ k
+        → nat_lt n k ≡ comes_before (near_at s d) (near_at t e)
+    tests_agree n k d s e t small small' here there = elim (cases_lt n k) [
+      | inl lt ↦ less_test n k lt ∙ sym (first_test d s e t small small' (omega (arith, here, there, lt)))
+      | inr le ↦ not_less_test n k le ∙ sym (behind_test d s e t small small' (omega (arith, here, there, le)))
+    ]
+
+pub order_by : (n k : ℕ) (s t : Option Near) → slot_by n ≡ s → slot_by k ≡ t → n ≤ NO_WINDOW → k ≤ NO_WINDOW
+    → nat_lt n k ≡ slot_before s t
+order_by n k s t e f most most' = order_of n k most most' ∙ ap (slot_before (slot_by n)) f
+    ∙ ap (λ x. slot_before x t) e

@@ -14,28 +14,33 @@ const NO_WINDOW: u128 = u128::MAX;
 /// A slot in one number, since the scan loads slots for each row and each column of a block: the distance of the window
 /// times the most samples that a series has, and its start. So of two windows the one with the lesser number is nearer,
 /// or as near and starts first.
-#[derive(Debug, Drop)]
-pub(crate) struct Compact {
+#[derive(Clone, Copy, Debug)]
+pub struct Compact {
     number: u128,
 }
 
 impl Model for Compact {
     ghost use Rattle.std.specs.Prelude.{Option};
     ghost use Rattle.mp_nums.specs.declared.nearest.Near.{Near};
-    ghost use Rattle.mp_tiles.specs.Compact.{slot_by};
+    ghost use Rattle.mp_tiles.specs.Compact.{slot_by, number_of, number_back};
 
     ghost Value = { Option Near };
 
     ghost view = { λ compact. slot_by compact.number };
+
+    ghost inverse = { λ slot. record { number = number_of slot } };
+
+    ghost inverse_ok = { λ compact _ i. record { number = number_back compact.number i } };
 }
 
 impl Compact {
     ghost use Rattle.std.specs.Prelude.{Some, true, false};
     ghost use Rattle.mp_nums.specs.Near.{nearer_of};
+    ghost use Rattle.mp_tiles.specs.Compact.{slot_before};
 
     /// No window.
     #[inline]
-    pub(crate) fn none() -> Compact
+    pub fn none() -> Compact
         ensures { result ≡ None }
     {
         Compact { number: NO_WINDOW }
@@ -43,7 +48,7 @@ impl Compact {
 
     /// A window.
     #[inline]
-    pub(crate) fn of(near: Near) -> Compact
+    pub fn of(near: Near) -> Compact
         requires start { near.index < MAX_SAMPLES }
         requires small { near.dist.0 + 1 < 2 ^ 110 }
         ensures { result ≡ Some near }
@@ -55,7 +60,7 @@ impl Compact {
 
     /// What stands there.
     #[inline]
-    pub(crate) fn slot(&self) -> Slot
+    pub fn slot(&self) -> Slot
         ensures { result ≡ self.now }
     {
         if self.number == NO_WINDOW {
@@ -81,7 +86,8 @@ impl Compact {
 
     /// Whether it is the lesser of this slot and another one, and not the same.
     #[inline]
-    pub(crate) fn comes_before(&self, other: &Compact) -> bool
+    pub fn comes_before(&self, other: &Compact) -> bool
+        ensures order { result ≡ slot_before self.now other.now }
         ensures before { result ≡ true → nearer_of other.now self.now ≡ self.now }
         ensures behind { result ≡ false → nearer_of other.now self.now ≡ other.now }
     {

@@ -194,7 +194,7 @@ pub(crate) fn take_tile(plan: &Plan, tile: &Tile, into: &mut Found)
 }
 
 /// The same in coarse sums.
-pub(crate) fn take_by_sums(coarse: &Coarse, tile: &Tile, into: &mut Found)
+pub(crate) fn take_by_sums(coarse: &Coarse, tile: &Tile, is_tried: bool, into: &mut Found)
     requires same { coarse.now.plan.grid.columns.now ≡ coarse.now.plan.grid.rows.now }
     requires tile { IsTileBetween (zone coarse.now.plan.grid.m + 1)
         (windows_in (length coarse.now.plan.grid.rows.now) coarse.now.plan.grid.m)
@@ -209,7 +209,7 @@ pub(crate) fn take_by_sums(coarse: &Coarse, tile: &Tile, into: &mut Found)
 {
     let _windows = into.len();
     into.round_by(&coarse.plan.rounding);
-    scan_blocks::<OnBothSides>(coarse, tile, into);
+    scan_blocks::<OnBothSides>(coarse, tile, is_tried, into);
 }
 
 /// Room for both sides of as many windows: memory that was taken, and that nothing was written to.

@@ -9,7 +9,7 @@ ghost use Rattle.mp_tiles.specs.Pieces.{sides_value};
 
 use crate::near::{Bands, NearTiles};
 use crate::sides::Sides;
-use crate::summed::SUMMED_TILE;
+use crate::summed::summed_tile;
 use mp_cuts::{Cut, MAX_TILE, MAX_TILES, cut_own};
 use mp_nums::{Memory, Sample};
 use mp_partial::{Kernel, Profile, run_in_order};
@@ -126,7 +126,7 @@ fn sides_in_order(alloc: Global, samples: &[Sample], m: u32, tile: u32) -> Resul
     let tiles = OwnTiles::new(samples, m, tile);
     match tiles.sums(alloc)? {
         Some(sums) => {
-            let wide = OwnTiles::new(samples, m, tile.max(SUMMED_TILE));
+            let wide = OwnTiles::new(samples, m, tile.max(summed_tile(tiles.size())));
             run_in_order(alloc, &wide.by_sums(&sums))
         }
         None => run_in_order(alloc, &tiles),
@@ -134,7 +134,7 @@ fn sides_in_order(alloc: Global, samples: &[Sample], m: u32, tile: u32) -> Resul
 }
 
 /// The matrix profile of the samples at window length `m`, computed in tiles of at most `tile` diagonals, one after
-/// another. Where blocks of pairs are passed over by coarse sums, a tile may have `SUMMED_TILE` diagonals.
+/// another. Where blocks of pairs are passed over by coarse sums, a tile may have `summed_tile` diagonals.
 pub fn profile(alloc: Global, samples: &[Sample], m: u32, tile: u32) -> Result<Profile, Memory>
     requires shortest { MIN_WINDOW ≤ m }
     requires longest { m ≤ MAX_WINDOW }

@@ -16,6 +16,7 @@ mod scans;
 mod sides;
 mod summed;
 
+pub use compact::Compact;
 pub use joins::{JoinTiles, join};
 pub use kernels::{OwnTiles, profile};
 pub use laws::{profiles_are_of_both_sides, tiles_make_the_join, tiles_make_the_profile};
@@ -26,4 +27,4 @@ pub use mp_cuts::{
 pub use near::{Bands, NearTiles};
 pub use scans::{scan_both, scan_own, scan_patch};
 pub use sides::Sides;
-pub use summed::{SUMMED_TILE, SummedTiles};
+pub use summed::{SUMMED_TILE, SummedTiles, summed_tile};

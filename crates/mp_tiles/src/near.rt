@@ -24,6 +24,9 @@ const DIAGONALS_FOR_A_NEAR_ONE: u64 = 16;
 /// The least number of diagonals that have near windows.
 const LEAST_NEAR: u64 = 256;
 
+/// The greatest number of these. Of a long series the others are passed over sooner than they are scanned.
+const MOST_NEAR: u64 = 1_024;
+
 /// The rows of some diagonals, band by band. The last band may have fewer.
 #[derive(Clone, Copy)]
 pub struct Bands {
@@ -43,7 +46,7 @@ impl Bands {
     {
         let first = excl + 1;
         let rows = windows.saturating_sub(first);
-        let near = (rows / DIAGONALS_FOR_A_NEAR_ONE).max(LEAST_NEAR);
+        let near = (rows / DIAGONALS_FOR_A_NEAR_ONE).clamp(LEAST_NEAR, MOST_NEAR);
         Bands {
             first,
             last: first + rows.clamp(1, near) - 1,

@@ -92,7 +92,7 @@ impl Sides {
     }
 
     /// The same in coarse sums.
-    pub(crate) fn take_by_sums(&mut self, coarse: &Coarse, tile: &Tile)
+    pub(crate) fn take_by_sums(&mut self, coarse: &Coarse, tile: &Tile, is_tried: bool)
         requires same { coarse.now.plan.grid.columns.now ≡ coarse.now.plan.grid.rows.now }
         requires tile { IsTileBetween (zone coarse.now.plan.grid.m + 1)
             (windows_in (length coarse.now.plan.grid.rows.now) coarse.now.plan.grid.m)
@@ -107,7 +107,7 @@ impl Sides {
         ensures room { self.new.room ≡ self.old.room }
     {
         fill(&mut self.room, &mut self.found);
-        take_by_sums(coarse, tile, &mut self.found);
+        take_by_sums(coarse, tile, is_tried, &mut self.found);
     }
 
     /// Puts what was found on the left into a column of no windows, which has room for it. It takes no memory.

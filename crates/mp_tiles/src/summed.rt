@@ -1,6 +1,7 @@
 //! The tiles of a series as the pieces of a kernel that passes over blocks of pairs by coarse sums.
 
 ghost use Rattle.std.specs.Prelude.{◌≡◌, ◌+◌, ◌*◌, ◌≤◌, length, IfOk, IfSome};
+ghost use Rattle.mp_cuts.specs.declared.cuts.TheConstants.{MAX_TILE};
 
 use crate::kernels::OwnTiles;
 use crate::sides::Sides;
@@ -13,14 +14,29 @@ use std::alloc::Global;
 use std::marker::Model;
 
 /// How many diagonals a tile is to have at least that is scanned in coarse sums: the limits of a row and of a column
-/// are looked up once for each.
+/// are looked up once for each. A tile of a long series has twice as many.
 pub const SUMMED_TILE: u32 = 1_024;
+
+/// How many windows a long series has at least.
+const LONG_SERIES: u64 = 131_072;
 
 /// How many windows a series has at least whose coarse sums are made.
 const LEAST_WINDOWS: u64 = 4_096;
 
 /// How many samples a window has at least for which they are.
 const LEAST_SAMPLES: usize = 16;
+
+/// How many diagonals a tile of so many windows is to have at least that is scanned in coarse sums.
+pub fn summed_tile(windows: u64) -> u32
+    ensures some { 1 ≤ result }
+    ensures few { result ≤ MAX_TILE }
+{
+    if windows < LONG_SERIES {
+        SUMMED_TILE
+    } else {
+        2 * SUMMED_TILE
+    }
+}
 
 /// How many times eight samples a coarse sum has, for windows of so many.
 fn eights_for(m: usize) -> usize
@@ -44,6 +60,8 @@ fn eights_for(m: usize) -> usize
 pub struct SummedTiles<'a> {
     coarse: Coarse<'a>,
     cut: Cut,
+    /// Whether some blocks of each tile are tried first.
+    is_tried: bool,
 }
 
 impl<'a> Model for SummedTiles<'a> {
@@ -70,7 +88,18 @@ impl<'a> OwnTiles<'a> {
         if self.size() < LEAST_WINDOWS || self.plan.grid.m < LEAST_SAMPLES {
             return Ok(None);
         }
-        Summed::of(alloc, &self.plan, eights_for(self.plan.grid.m))
+        Ok(Some(self.sums_of(alloc, eights_for(self.plan.grid.m))?))
+    }
+
+    /// The coarse sums of the series, of `8 * eights` samples each.
+    pub fn sums_of(&self, alloc: Global, eights: usize) -> Result<Summed<'a>, Memory>
+        requires some { 1 ≤ eights }
+        requires few { eights ≤ 8 }
+        requires wide { 8 * eights ≤ self.now.m }
+        ensures samples { IfOk result (λ sums. sums.plan.grid.rows.now ≡ self.now.samples) }
+        ensures m { IfOk result (λ sums. sums.plan.grid.m ≡ self.now.m) }
+    {
+        Summed::of(alloc, &self.plan, eights)
     }
 
     /// The same tiles in coarse sums. It takes no memory.
@@ -85,6 +114,19 @@ impl<'a> OwnTiles<'a> {
         SummedTiles {
             coarse: sums.coarse(),
             cut,
+            is_tried: true,
+        }
+    }
+}
+
+impl<'a> SummedTiles<'a> {
+    /// The same tiles, where no blocks are tried before a tile is scanned in coarse sums.
+    pub fn untried(self) -> SummedTiles<'a>
+        ensures { result ≡ self.entry }
+    {
+        SummedTiles {
+            is_tried: false,
+            ..self
         }
     }
 }
@@ -117,6 +159,6 @@ impl<'a> Kernel for SummedTiles<'a> {
     }
 
     fn run(&self, piece: u64, into: &mut Sides) {
-        into.take_by_sums(&self.coarse, &self.cut.tile(piece));
+        into.take_by_sums(&self.coarse, &self.cut.tile(piece), self.is_tried);
     }
 }

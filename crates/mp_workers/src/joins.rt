@@ -11,7 +11,7 @@ use mp_nums::{Memory, Sample, Slots};
 use mp_outside::Gate;
 use mp_partial::{Kernel, MAX_WORKERS, Profile};
 use mp_series::{MAX_SAMPLES, MAX_WINDOW, MIN_WINDOW};
-use mp_tiles::{JoinTiles, MAX_TILE, MAX_TILES, OwnTiles, SUMMED_TILE, Sides};
+use mp_tiles::{JoinTiles, MAX_TILE, MAX_TILES, OwnTiles, Sides, summed_tile};
 use std::alloc::Global;
 use std::thread::Threads;
 
@@ -37,7 +37,7 @@ fn pairs(first: &[Sample], second: &[Sample]) -> u64 {
 /// find lets most of the others be passed over, and each begins the tiles of the others, of at most `tile` diagonals,
 /// with what all of them found. There is a band of near windows for each worker: the windows behind a band's end are
 /// near to its last rows, and would be compared with little known of them once more for each band. Where the others are
-/// scanned in coarse sums, one worker does so too, and tiles may have `SUMMED_TILE` diagonals.
+/// scanned in coarse sums, one worker does so too, and tiles may have `summed_tile` diagonals.
 fn both_sides<R: Threads + Sync, G: Gate>(
     rt: &R,
     alloc: Global,
@@ -59,7 +59,9 @@ fn both_sides<R: Threads + Sync, G: Gate>(
 {
     if let Some(sums) = tiles.sums(alloc)? {
         let near = tiles.near(workers);
-        let others = near.others(tile.max(SUMMED_TILE)).by_sums(&sums);
+        let others = near
+            .others(tile.max(summed_tile(tiles.size())))
+            .by_sums(&sums);
         return run_one_after_another(rt, alloc, &near, &others, workers, gate);
     }
     if workers == 1 {

@@ -8,4 +8,6 @@ mod roundings;
 #[cfg(test)]
 mod series;
 #[cfg(test)]
+mod sums;
+#[cfg(test)]
 mod tiles;

@@ -68,3 +68,20 @@ pub(crate) fn spread(alloc: Global, count: u64, low: i64, high: i64) -> Result<V
     }
     Ok(samples)
 }
+
+/// A series of waves, in which near windows are alike, of numbers of so many bits, the lowest of which are random.
+pub(crate) fn waves(alloc: Global, count: u64, bits: u32) -> Result<Vec<Sample>, Memory>
+    ensures { IfOk result (λ samples. vec_len samples ≡ count) }
+{
+    let mut samples = Vec::new(alloc);
+    let mut state = count;
+    for k in 0..count {
+        state = state
+            .wrapping_mul(6_364_136_223_846_793_005)
+            .wrapping_add(1_442_695_040_888_963_407);
+        let rising = (k % 37).min(k / 5 % 29);
+        let number = (rising * 4_398_046_511_104 + (state >> 22)) >> 47_u32.saturating_sub(bits);
+        samples.push(sample((number % 140_737_488_355_328) as i64))?;
+    }
+    Ok(samples)
+}

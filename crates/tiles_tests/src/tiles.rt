@@ -42,7 +42,7 @@ fn expect_sides(
 }
 
 /// Expects the columns that every pair gives.
-fn expect_columns(rt: &impl Abort, profile: &Profile, every: &Columns) {
+pub(crate) fn expect_columns(rt: &impl Abort, profile: &Profile, every: &Columns) {
     assert_eq!(rt; profile.all(), every.all.as_slice());
     assert_eq!(rt; profile.left(), every.left.as_slice());
     assert_eq!(rt; profile.right(), every.right.as_slice());

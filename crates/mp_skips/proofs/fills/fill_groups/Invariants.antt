@@ -3,7 +3,7 @@ use Rattle.std.specs.Prelude.{ℤ}
 use Rattle.mp_nums.specs.declared.samples.Sample.{Sample}
 use Rattle.mp_defs.specs.Series.{series_of}
 use Rattle.mp_skips.specs.Sums.{number_in, AreFloors, AreGroups}
-use Rattle.mp_skips.specs.Fills.{IsSlack}
+use Rattle.mp_skips.specs.Slack.{IsSlack}
 use Rattle.mp_skips.specs.declared.sums.TheConstants.{MOST_GRAINS}
 use Rattle.mp_skips.proofs.fills.fill_groups.Given as goal
 

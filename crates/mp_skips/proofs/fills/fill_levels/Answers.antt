@@ -12,8 +12,9 @@ loop-p-init c = record {
   places = refl;
 }
 
-pub overflow_cast-levels : goal.overflow_cast-levels
-overflow_cast-levels c = omega (arith, c.level_at.ensures, c.requires.levels.each c.loop-p.p, c.requires.range)
+pub floor_of-requires-clause-fits : goal.floor_of-requires-clause-fits
+floor_of-requires-clause-fits c =
+    omega (arith, c.level_at.ensures, c.requires.levels.each c.loop-p.p, c.requires.range)
 
 pub loop-p-preserved : goal.loop-p-preserved
 loop-p-preserved c =
@@ -21,16 +22,16 @@ loop-p-preserved c =
     let p = c.loop-p.p in
     let there : p < length c.loop-p.levels = omega (arith, before.places) in
     record {
-      levels = levels_next c.args.low (series_of c.args.samples.now) c.loop-p.levels p c.level_at.result before.levels
-          c.level_at.ensures there;
-      small = small_next c.loop-p.levels p c.level_at.result MOST_GRAINS before.small
-          (omega (arith, c.level_at.ensures, c.requires.levels.each p, c.requires.range)) there;
-      places = length-set c.loop-p.levels p c.level_at.result ∙ before.places;
+      levels = levels_next c.args.low c.args.step (series_of c.args.samples.now) c.loop-p.levels p c.level_at.result
+          c.floor_of.result before.levels c.level_at.ensures c.floor_of.ensures.floor there;
+      small = small_next c.loop-p.levels p c.floor_of.result MOST_GRAINS before.small c.floor_of.ensures.small there;
+      places = length-set c.loop-p.levels p c.floor_of.result ∙ before.places;
     }
 
 pub returns-clause-levels : goal.returns-clause-levels
 returns-clause-levels c =
-    levels_all c.args.low c.args.samples.now c.loop-p.levels c.loop-p.p c.loop-p.invariant.levels
+    levels_all c.args.low c.args.step c.args.samples.now c.loop-p.levels c.loop-p.p c.requires.some
+    c.loop-p.invariant.levels
     (omega (arith, c.loop-p.invariant.places, c.loop-p-test.false))
     (omega (arith, c.requires.places, c.loop-p.invariant.places))
 

@@ -9,7 +9,7 @@ returns-clause-lists c =
     let s = 8 * units.eights in
     let a = series_of c.args.samples.now in
     let floors = c.fill_floors.new.floors in
-    let are_floors = subst (AreFloors units.low s units.grain a floors) (sym c.fill_floors.ensures.places)
+    let are_floors = subst (AreFloors units.low s units.grain.size a floors) (sym c.fill_floors.ensures.places)
     c.fill_floors.ensures.floors in
     record {
       low_is = c.requires.levels.low_is;
@@ -17,9 +17,9 @@ returns-clause-lists c =
       small_levels = c.fill_levels.ensures.small;
       are_floors = are_floors;
       small_floors = λ p. omega (arith, c.fill_floors.ensures.small p);
-      are_groups = subst (AreGroups units.low s units.grain a c.fill_groups.new.least c.fill_groups.new.greatest)
+      are_groups = subst (AreGroups units.low s units.grain.size a c.fill_groups.new.least c.fill_groups.new.greatest)
           (sym c.fill_groups.ensures.places)
-          (c.fill_groups.ensures.groups units.low s units.grain c.args.samples.now c.slack_of-slack.ensures.slack
+          (c.fill_groups.ensures.groups units.low s units.grain.size c.args.samples.now units.grain.enough
           are_floors);
       small_groups = c.fill_groups.ensures.small;
     }

@@ -1,6 +1,6 @@
-use Rattle.std.proofs.Common.{◌≡◌, ◌+◌, ◌*◌, ◌/◌, ◌<◌, subst, arith}
+use Rattle.std.proofs.Common.{◌≡◌, ◌+◌, ◌*◌, ◌/◌, ◌^◌, ◌<◌, subst, arith}
 use Rattle.mp_skips.specs.Blocks.{height}
-use Rattle.mp_skips.proofs.NeedLemmas.{above_by, units_above, product_fits, some_square}
+use Rattle.mp_skips.proofs.NeedLemmas.{above_by, units_above, product_fits, some_square, square_of_power}
 use Rattle.mp_skips.proofs.needs.need_above.Goals as goal
 
 pub overflow_mul-product : goal.overflow_mul-product
@@ -11,10 +11,11 @@ overflow_mul-product c =
 pub returns-then-dist-lt-MOST : goal.returns-then-dist-lt-MOST
 returns-then-dist-lt-MOST c = λ d some reach.
     let coarse = c.args.coarse.now in
-    let square = coarse.rows.units.grain * coarse.rows.units.grain in
+    let grain = coarse.rows.units.grain in
+    let square = grain.size * grain.size in
     let product = height coarse * c.args.dist in
-    let by = c.grain_square-square.result in
-    let units = units_above product by square c.grain_square-square.ensures.square
-    (some_square coarse.rows.units.grain coarse.rows.units.some_grain) in
+    let by = 2 ^ (2 * grain.shift) in
+    let units = units_above product by square (square_of_power grain.size grain.shift grain.power)
+    (some_square grain.size grain.some) in
     let is : product / by + 1 ≡ c.min.result = omega (arith, c.min.ensures, c.from.ensures, some) in
     above_by (height coarse) square c.args.dist d c.min.result (subst (λ n. product < n * square) is units) reach

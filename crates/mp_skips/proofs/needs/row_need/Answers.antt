@@ -9,5 +9,5 @@ returns-then-free g c =
 
 pub returns-else-free : goal.returns-else-free
 returns-else-free g c =
-    no_row c.args.coarse.now (g.O.Offers.keeps_row c.args.into.now) c.args.first c.args.row 0
-    (sym c.requires.free ∙ c.if-free.false)
+    no_row c.args.coarse.now (g.O.Offers.keeps_row c.args.into.now) c.args.first c.args.row
+    0 (sym c.requires.free ∙ c.if-free.false)

@@ -1,14 +1,10 @@
-use Rattle.mp_skips.proofs.LevelLemmas.{sum_tells}
-use Rattle.mp_skips.proofs.NeedLemmas.{free_sum, none_there}
+use Rattle.std.proofs.Common.{arith}
+use Rattle.mp_skips.proofs.PairLemmas.{quiet_far}
 use Rattle.mp_skips.proofs.pairs.take_pair.Goals as goal
 
-pub offer_at-requires-clause-dist : goal.offer_at-requires-clause-dist
-offer_at-requires-clause-dist g c =
-    free_sum _ c.args.sum (c.are_free.ensures.0 c.if-are_free.true)
-    (λ d there. sum_tells c.args.coarse.now c.args.row c.args.column d c.args.sum c.requires.sum there)
-
-pub returns-else-are_free : goal.returns-else-are_free
-returns-else-are_free g c = record {
-  scanned = g.met.O.Offers.laws.skipped _ _ _ c.args.row c.args.column c.args.into.now c.requires.fits c.requires.row
-      c.requires.column c.requires.apart (none_there _ _ c.if-are_free.false c.are_free.ensures);
+pub returns-else-sum-need : goal.returns-else-sum-need
+returns-else-sum-need g c = record {
+  scanned = quiet_far g.met.O.Offers.limits c.args.coarse.now c.args.into.now c.args.row c.args.column
+      c.args.need.now.need c.args.need.now.most c.args.sum c.requires.fits c.requires.apart c.requires.row_need
+      c.requires.column_need c.requires.most c.requires.sum (omega arith);
 }

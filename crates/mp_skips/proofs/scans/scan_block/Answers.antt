@@ -1,11 +1,12 @@
-use Rattle.std.proofs.Common.{◌≡◌, ℕ, List, ◌+◌, ◌-◌, ◌*◌, ◌<◌, ◌≤◌, inl, arith, subst}
+use Rattle.std.proofs.Common.{◌≡◌, ℕ, List, ◌+◌, ◌-◌, ◌*◌, ◌<◌, ◌≤◌, ◌∙◌, min, max, inl, arith, subst}
 use Rattle.mp_scans.specs.Offering.{in_block}
+use Rattle.mp_scans.specs.Windows.{column_windows}
 use Rattle.mp_skips.specs.Sums.{number_in}
 use Rattle.mp_skips.specs.Blocks.{AreApart}
 use Rattle.mp_skips.specs.Needs.{IsColumnNeed}
 use Rattle.mp_skips.proofs.BlockLemmas.{row_within, column_within}
 use Rattle.mp_skips.proofs.NeedLemmas.{rows_need_stays, column_need_stays}
-use Rattle.mp_skips.proofs.PairLemmas.{scanned_next, diagonals_next}
+use Rattle.mp_skips.proofs.PairLemmas.{scanned_next, diagonals_next, diagonals_cut, same_block}
 use Rattle.mp_skips.proofs.scans.scan_block.Goals as goal
 
 pub take_diagonal-requires-clause-columns_need : goal.take_diagonal-requires-clause-columns_need
@@ -63,3 +64,20 @@ take_diagonal-requires-clause-sum g c = λ le.
     subst (λ n. AreApart c.args.coarse.now row n 1 c.args.need) there
     (c.diagonal_sums.ensures.apart (place - base) c.args.need (omega (arith, after, before))
     (subst (λ (v : List ℕ). c.args.need ≤ number_in v (place - base)) c.as_array.ensures le))
+
+pub returns : goal.returns
+returns g c =
+    let r = c.args.rows.now in
+    let wb = column_windows c.args.coarse.now.plan.grid in
+    let bottom = r.row + r.count in
+    let first = max r.first (8 * c.args.group - r.row) in
+    let end = min r.end (8 * c.args.group + 8 - r.row) in
+    record {
+      scanned = g.met.O.Offers.laws.same _ _ _ _ _ _ _ c.requires.fits c.loop-behind.invariant.scanned
+          (λ i j _ lt. diagonals_cut c.max-first.result c.min-end.result c.min-stop.result c.loop-behind.behind r.row
+          bottom wb i j (omega (arith, c.min-stop.ensures, c.saturating_sub-3.ensures, c.count_columns.ensures))
+          (omega (arith, c.loop-behind-test.false)) c.loop-behind.invariant.order lt
+          ∙ same_block c.max-first.result first c.min-end.result end r.row bottom i j
+          (omega (arith, c.max-first.ensures, c.saturating_sub.ensures))
+          (omega (arith, c.min-end.ensures, c.saturating_sub-2.ensures)));
+    }

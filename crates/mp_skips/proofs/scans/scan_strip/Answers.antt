@@ -44,7 +44,8 @@ loop-group-preserved g c =
       scanned = scanned_next laws c.args.coarse.now.plan.grid _ done _ _ _ _ c.requires.fits before.scanned next.scanned
           (λ i j _ _. strip_next r.first r.end r.row (r.row + r.count) group c.take_groups-group.result i j
           (omega (arith, next.behind)));
-      needs_stay = strip_needs_stay g.met.O.Offers.limits c.args.coarse.now done _ _ before.fits next.scanned _ _ _ _ _ _
+      needs_stay = strip_needs_stay g.met.O.Offers.limits c.args.coarse.now done _ _ before.fits next.scanned _
+          _ _ _ _ _
           before.needs_stay;
     }
 

@@ -31,7 +31,8 @@ returns-then-are_above g c =
     let group = c.args.group in
     let sums = c.eight_sums.new.sums in
     record {
-      scanned = groups_quiet g.met.O.Offers.laws coarse c.args.into.now c.requires.fits r.first r.end r.row r.count group 8
+      scanned = groups_quiet g.met.O.Offers.laws coarse c.args.into.now c.requires.fits r.first r.end r.row
+          r.count group 8
           (λ l lt.
           let own = number_in needs.groups.now (group - needs.base + l) in
           let need = max needs.rows own in
@@ -44,7 +45,8 @@ returns-then-are_above g c =
           c.requires.apart c.requires.count
           (strip_row_need coarse _ _ r.first r.row r.count needs.base needs.rows needs.groups.now need c.requires.needs
           (omega arith))
-          (λ q few. strip_column_need coarse _ _ r.first r.row r.count needs.base needs.rows needs.groups.now (group + l)
+          (λ q few. strip_column_need coarse _ _ r.first r.row r.count needs.base needs.rows needs.groups.now
+          (group + l)
           need q c.requires.needs (omega (arith, c.requires.base)) (omega (arith, c.requires.places, lt))
           (omega (arith, here)) few)
           (reached coarse r.row (group + l) need
@@ -104,5 +106,6 @@ loop-l-preserved g c =
       fits = laws.still_fits _ _ _ done _ _ before.fits next;
       scanned = scanned_next laws coarse.plan.grid _ done _ _ _ _ c.requires.fits before.scanned next
           (λ i j _ _. groups_next r.first r.end r.row (r.row + r.count) group c.loop-l.l i j);
-      needs_stay = strip_needs_stay g.met.O.Offers.limits coarse done _ _ before.fits next _ _ _ _ _ _ before.needs_stay;
+      needs_stay = strip_needs_stay g.met.O.Offers.limits coarse done _ _ before.fits next _ _ _ _ _ _
+          before.needs_stay;
     }

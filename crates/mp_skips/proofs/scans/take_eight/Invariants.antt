@@ -12,7 +12,8 @@ invariant-loop-l g l =
     record {
       fits : FitIn offers.fits grid l.into;
       scanned : AreScannedIn offers.is_scanned grid
-          (in_block (max r.first (8 * l.group - r.row)) (min r.end (8 * (l.group + l.l) - r.row)) r.row (r.row + r.count))
+          (in_block (max r.first (8 * l.group - r.row)) (min r.end (8 * (l.group + l.l) - r.row)) r.row
+          (r.row + r.count))
           l.initial.into l.into;
       needs_stay : AreStripNeeds l.coarse (offers.keeps_row l.into) (offers.keeps_column l.into) r.first r.row r.count
           l.needs.base l.needs.rows l.needs.groups.now;

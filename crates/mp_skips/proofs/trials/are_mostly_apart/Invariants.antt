@@ -1,5 +1,5 @@
-use Rattle.std.proofs.Common.{◌≤◌}
+use Rattle.std.proofs.Common.{◌*◌, ◌≤◌}
 use Rattle.mp_skips.proofs.trials.are_mostly_apart.Given as goal
 
 abbrev pub invariant-loop-n : goal.invariant-loop-n
-invariant-loop-n g l = l.staying ≤ l.n
+invariant-loop-n g l = l.staying ≤ 8 * l.n

@@ -1,7 +1,8 @@
 use Rattle.std.proofs.Common.{◌+◌, ◌*◌, sym, ap, arith}
 use Rattle.mp_skips.specs.Blocks.{outside_at, squares_outside}
 use Rattle.mp_skips.proofs.TotalLemmas.{total_zero}
-use Rattle.mp_skips.proofs.BlockLemmas.{lane_column, lane_place, lane_order, lane_more, lane_small, lane_more_small, sum_small}
+use Rattle.mp_skips.proofs.BlockLemmas.{lane_column, lane_place, lane_order, lane_more, lane_small, lane_more_small}
+use Rattle.mp_skips.proofs.BlockLemmas.{sum_small}
 use Rattle.mp_skips.proofs.VectorLemmas.{lanes_all, lanes_same}
 use Rattle.mp_skips.proofs.sums.Coarse.eight_sums.Goals as goal
 

@@ -15,30 +15,26 @@ loop-t-init c =
       small = λ u lt. omega (arith, (lanes_all 0).each u lt);
     }
 
-pub add_squares-requires-clause-least : goal.add_squares-requires-clause-least
-add_squares-requires-clause-least c =
+pub add_gaps-requires-clause-numbers : goal.add_gaps-requires-clause-numbers
+add_gaps-requires-clause-numbers c =
     apart_lane_place c.args.self.now c.args.column c.loop-t.t c.loop-t-test.true c.requires.columns
 
-pub add_squares-requires-clause-greatest : goal.add_squares-requires-clause-greatest
-add_squares-requires-clause-greatest c =
-    apart_lane_place c.args.self.now c.args.column c.loop-t.t c.loop-t-test.true c.requires.columns
+pub add_gaps-requires-clause-slack : goal.add_gaps-requires-clause-slack
+add_gaps-requires-clause-slack c = omega (arith, c.args.self.now.rows.units.grain.few)
 
-pub add_squares-requires-clause-order : goal.add_squares-requires-clause-order
-add_squares-requires-clause-order c = λ u lt. omega arith
-
-pub add_squares-requires-clause-fits : goal.add_squares-requires-clause-fits
-add_squares-requires-clause-fits c = λ u lt.
+pub add_gaps-requires-clause-fits : goal.add_gaps-requires-clause-fits
+add_gaps-requires-clause-fits c = λ u lt.
     apart_small c.args.self.now c.args.row c.args.column c.loop-t.t u _ c.loop-t-test.true
     (c.loop-t.invariant.small u lt)
 
 pub loop-t-preserved : goal.loop-t-preserved
 loop-t-preserved c = record {
-  sums = lanes_same _ _ _ c.add_squares.ensures
+  sums = lanes_same _ _ _ c.add_gaps.ensures
       (λ u lt. apart_lane_more c.args.self.now c.args.row c.args.column c.loop-t.t u _
       (c.loop-t.invariant.sums.each u lt));
   small = λ u lt. omega (
     arith,
-    c.add_squares.ensures.each u lt,
+    c.add_gaps.ensures.each u lt,
     apart_more_small c.args.self.now c.args.row c.args.column c.loop-t.t u _ (c.loop-t.invariant.small u lt),
   );
 }

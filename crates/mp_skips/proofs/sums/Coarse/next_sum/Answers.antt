@@ -1,5 +1,5 @@
 use Rattle.std.proofs.Common.{arith}
-use Rattle.mp_skips.specs.Sums.{number_in}
+use Rattle.mp_skips.specs.Levels.{square_at}
 use Rattle.mp_skips.proofs.LevelLemmas.{squares_on, first_square, squares_small}
 use Rattle.mp_skips.proofs.sums.Coarse.next_sum.Goals as goal
 
@@ -27,8 +27,7 @@ overflow_sub-result c =
       arith,
       c.requires.sum,
       c.square-leaves.ensures.square,
-      first_square (number_in coarse.rows.levels.now) (number_in coarse.columns.levels.now) coarse.plan.grid.m c.args.row
-          c.args.column coarse.plan.some_samples,
+      first_square (square_at coarse) coarse.plan.grid.m c.args.row c.args.column coarse.plan.some_samples,
     )
 
 pub returns : goal.returns
@@ -39,8 +38,6 @@ returns c =
       c.requires.sum,
       c.square-enters.ensures.square,
       c.square-leaves.ensures.square,
-      squares_on (number_in coarse.rows.levels.now) (number_in coarse.columns.levels.now) coarse.plan.grid.m c.args.row
-          c.args.column,
-      first_square (number_in coarse.rows.levels.now) (number_in coarse.columns.levels.now) coarse.plan.grid.m c.args.row
-          c.args.column coarse.plan.some_samples,
+      squares_on (square_at coarse) coarse.plan.grid.m c.args.row c.args.column,
+      first_square (square_at coarse) coarse.plan.grid.m c.args.row c.args.column coarse.plan.some_samples,
     )

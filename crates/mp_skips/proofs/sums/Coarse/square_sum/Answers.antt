@@ -20,7 +20,8 @@ loop-t-preserved c =
     let coarse = c.args.self.now in
     let t = c.loop-t.t in
     let gap = c.distance_outside-gap.result in
-    let squares : ℕ → ℕ = λ n. outside_at coarse c.args.row c.args.group n * outside_at coarse c.args.row c.args.group n in
+    let squares : ℕ → ℕ = λ n. outside_at coarse c.args.row c.args.group n * outside_at coarse c.args.row
+    c.args.group n in
     let here : gap ≤ MOST_GRAINS =
     omega (
       arith,

@@ -1,5 +1,5 @@
 use Rattle.std.proofs.Common.{arith}
-use Rattle.mp_skips.specs.Sums.{number_in}
+use Rattle.mp_skips.specs.Levels.{square_at}
 use Rattle.mp_skips.proofs.LevelLemmas.{no_squares, squares_more}
 use Rattle.mp_skips.proofs.sums.Coarse.squares.Goals as goal
 
@@ -7,7 +7,7 @@ pub loop-t-init : goal.loop-t-init
 loop-t-init c =
     let coarse = c.args.self.now in
     record {
-      sum = no_squares (number_in coarse.rows.levels.now) (number_in coarse.columns.levels.now) c.args.row c.args.column;
+      sum = no_squares (square_at coarse) c.args.row c.args.column;
       small = omega arith;
     }
 
@@ -15,8 +15,8 @@ pub loop-t-preserved : goal.loop-t-preserved
 loop-t-preserved c =
     let coarse = c.args.self.now in
     record {
-      sum = squares_more (number_in coarse.rows.levels.now) (number_in coarse.columns.levels.now) c.loop-t.t c.args.row
-          c.args.column c.loop-t.sum c.square-sum.result c.loop-t.invariant.sum c.square-sum.ensures.square;
+      sum = squares_more (square_at coarse) c.loop-t.t c.args.row c.args.column c.loop-t.sum c.square-sum.result
+          c.loop-t.invariant.sum c.square-sum.ensures.square;
       small = omega (arith, c.loop-t.invariant.small, c.square-sum.ensures.small);
     }
 

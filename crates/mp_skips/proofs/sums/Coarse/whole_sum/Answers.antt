@@ -17,5 +17,6 @@ overflow_add-result c =
 
 pub returns : goal.returns
 returns c =
-    whole c.args.self.now c.args.row c.args.column c.args.behind c.args.self.now.plan.grid.m c.squares.result c.args.core
+    whole c.args.self.now c.args.row c.args.column c.args.behind c.args.self.now.plan.grid.m c.squares.result
+    c.args.core
     c.requires.behind c.squares.ensures.sum c.requires.core
