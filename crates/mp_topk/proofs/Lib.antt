@@ -3,3 +3,6 @@ pub mod Places
 pub mod Taken
 pub mod Through
 pub mod NearLemmas
+pub mod Numbers
+pub mod Whole
+pub mod Merging

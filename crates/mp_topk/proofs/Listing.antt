@@ -1,12 +1,14 @@
 -- Windows that are appended slot by slot.
-use Rattle.std.proofs.Common.{◌≡◌, ℕ, ◌+◌, ◌<◌, ◌≤◌, List, [], ◌∷◌, ◌++◌, length, get_or, drop, map, refl, sym, ap, ◌∙◌}
-use Rattle.std.proofs.lemmas.List.{append_assoc, append-nil}
+use Rattle.std.proofs.Common.{◌≡◌, ℕ, ◌+◌, ◌<◌, ◌≤◌, List, [], ◌∷◌, ◌++◌, length, get_or, drop, map, refl, sym, take}
+use Rattle.std.proofs.Common.{ap, ◌∙◌}
+use Rattle.std.proofs.lemmas.List.{append_assoc, append-nil, map-append, take-append-drop}
 use Rattle.std.specs.Prelude.{Option, Some, None}
 use Rattle.mp_nums.specs.declared.nearest.Near.{Near}
+use Rattle.mp_nums.specs.Listed.{Listed}
 use Rattle.mp_defs.specs.Series.{Series}
 use Rattle.mp_partial.specs.Values.{Value}
 use Rattle.mp_results.specs.Ranks.{ranks_of}
-use Rattle.mp_topk.specs.Ranking.{slots_of, those_in}
+use Rattle.mp_topk.specs.Ranking.{lists_in, slots_of, those_in}
 use Rattle.mp_topk.specs.RankLaws.{those_in_slots}
 use Rattle.mp_topk.proofs.Through.{those_from_end, those_from_none, those_from_some}
 
@@ -37,6 +39,16 @@ pub ends : (place : ℕ) (list all : List Near) (slots : List (Option Near)) →
     → list ++ those_in (drop place slots) ≡ all → list ≡ all
 ends place list all slots le h = sym (append-nil list)
     ∙ ap (λ xs. list ++ xs) (sym (those_from_end place slots le)) ∙ h
+
+-- the lists of the first places and those of the others behind them
+pub listed_together : (n : ℕ) (places low high : List (List (Option Near))) (lists others all : List (Listed Near))
+    → low ≡ take n places → high ≡ drop n places → lists_in lists ≡ map those_in low
+    → lists_in others ≡ map those_in high → all ≡ lists ++ others → lists_in all ≡ map those_in places
+listed_together n places low high lists others all d e f g h = ap lists_in h
+    ∙ map-append (λ (l : Listed Near). l.items) lists others
+    ∙ ap (λ xs. xs ++ lists_in others) (f ∙ ap (map those_in) d)
+    ∙ ap (λ xs. map those_in (take n places) ++ xs) (g ∙ ap (map those_in) e)
+    ∙ sym (map-append those_in (take n places) (drop n places)) ∙ ap (map those_in) (take-append-drop n places)
 
 -- lists that give the same slots are the same
 pub same_lists : (xs ys : List (List Near)) → map slots_of xs ≡ map slots_of ys → xs ≡ ys

@@ -116,7 +116,7 @@ pub none_ranked : (k : ℕ) → AreRanked k (replicate k None)
 unfolding is_rising
 none_ranked k = subst (AreRanked k) (padded_none k) (padded_ranked k [] (omega arith) refl)
 
-none_listed : (k n : ℕ) → map those_in (replicate n (replicate k None)) ≡ replicate n []
+pub none_listed : (k n : ℕ) → map those_in (replicate n (replicate k None)) ≡ replicate n []
 none_listed k zero = refl
 none_listed k (suc n) = cc (
   ap those_in (sym (padded_none k)) ∙ those_padded k [] (omega arith),

@@ -47,7 +47,7 @@ all_passed zero c (y ∷ ys) le = absurd (omega (arith, le))
 all_passed (suc place) c [] le = refl
 all_passed (suc place) c (y ∷ ys) le = ap (λ xs. y ∷ xs) (all_passed place c ys (omega (arith, le)))
 
-none_passes : (slots : List (Option Near)) → through None slots ≡ slots
+pub none_passes : (slots : List (Option Near)) → through None slots ≡ slots
 unfolding through
 none_passes [] = refl
 none_passes (None ∷ slots) = ap (λ xs. None ∷ xs) (none_passes slots)

@@ -105,7 +105,7 @@ put_before x (y ∷ ys) h = ap (λ t. if t then x ∷ y ∷ ys else if comes_bef
     y ∷ ys) h
 
 -- they are what they give, put one by one
-put_in_order : (xs : List Near) → is_rising xs ≡ true → put_all [] xs ≡ xs
+pub put_in_order : (xs : List Near) → is_rising xs ≡ true → put_all [] xs ≡ xs
 unfolding put_all
 put_in_order [] h = refl
 put_in_order (x ∷ xs) h = ap (put x) (put_in_order xs (rising_tail x xs h))

@@ -1,6 +1,6 @@
 -- What a part that keeps ranks stands for, and what two of them have together.
 use Rattle.std.specs.Prelude.{◌≡◌, ℕ, zero, suc, ◌≤◌, Bool, true, ◌&&◌, if◌then◌else◌, List, [], ◌∷◌, All, length, map}
-use Rattle.std.specs.Prelude.{take, replicate}
+use Rattle.std.specs.Prelude.{take, replicate, ◌++◌, ◌-◌}
 use Rattle.std.specs.Prelude.{Option, Some, None, slice_set, slice_index_or}
 use Rattle.std.specs.Simd.Lanes.{zip2}
 use Rattle.mp_nums.specs.declared.nearest.Near.{Near}
@@ -87,6 +87,10 @@ no_ranks size = replicate size []
 -- the list of each place
 abbrev pub lists_of : Value → List (List Near)
 lists_of value = map those_in value
+
+-- so many places, of which the first ones have these slots and the others no window
+abbrev pub whole : ℕ → ℕ → List (List (Option Near)) → List (List (Option Near))
+whole k size places = places ++ replicate (size - length places) (replicate k None)
 
 -- place i has the first k of what it had and of one window more
 abbrev pub put_at : ℕ → List (List Near) → ℕ → Near → List (List Near)

@@ -6,8 +6,8 @@ ghost use Rattle.mp_defs.specs.Series.{series_of};
 ghost use Rattle.mp_results.specs.Ranks.{ranks_of};
 ghost use Rattle.mp_topk.specs.Ranking.{merged_ranks, slots_of};
 
+use crate::compact_ranks::CompactRanks;
 use crate::near::NearRanks;
-use crate::ranks::Ranks;
 use crate::scans::take_tile;
 use mp_cuts::{Cut, MAX_TILE, MAX_TILES, cut_own};
 use mp_nums::Sample;
@@ -88,7 +88,7 @@ impl<'a, const K: usize> Kernel for RankTiles<'a, K> {
     ghost use Rattle.mp_topk.specs.Tiling.{rank_value};
     ghost use Rattle.mp_topk.specs.TileLaws.{value_has_ranks};
 
-    type Out = Ranks<K>;
+    type Out = CompactRanks<K>;
 
     ghost size_of = { own_size };
 
@@ -107,7 +107,7 @@ impl<'a, const K: usize> Kernel for RankTiles<'a, K> {
         self.cut.count()
     }
 
-    fn run(&self, piece: u64, into: &mut Ranks<K>) {
+    fn run(&self, piece: u64, into: &mut CompactRanks<K>) {
         take_tile(&self.plan, &self.cut.tile(piece), into);
     }
 }

@@ -1,6 +1,10 @@
 //! The nearest windows of each window, in their order: the first of them is the entry of the matrix profile.
 #![tactic(auto)]
 
+mod compact_lists;
+mod compact_merging;
+mod compact_placing;
+mod compact_ranks;
 mod examples;
 mod kernels;
 mod laws;

@@ -7,7 +7,7 @@ use mp_nums::{Items, Memory, NearList, Slot};
 use std::alloc::Global;
 
 /// Appends the window, where there is one.
-fn push_slot(list: &mut NearList, slot: Slot) -> Result<(), Memory>
+pub(crate) fn push_slot(list: &mut NearList, slot: Slot) -> Result<(), Memory>
     ensures { OnOk result (list.new.items ≡ list.old.items ++ those_in (slot ∷ [])) }
 {
     if let Some(near) = slot {
@@ -29,7 +29,7 @@ fn push_slots<const K: usize>(list: &mut NearList, slots: &[Slot; K]) -> Result<
 fn list_of<const K: usize>(alloc: Global, slots: &[Slot; K]) -> Result<NearList, Memory>
     ensures { IfOk result (λ list. list.items ≡ those_in slots.now) }
 {
-    let mut list = Items::new(alloc);
+    let mut list = Items::from(Vec::with_capacity(alloc, K)?);
     push_slots(&mut list, slots)?;
     Ok(list)
 }

@@ -6,8 +6,8 @@ ghost use Rattle.mp_results.specs.Ranks.{ranks_of};
 ghost use Rattle.mp_topk.specs.Ranking.{merged_ranks, slots_of};
 ghost use Rattle.mp_topk.specs.Tiling.{ranks_together};
 
+use crate::compact_ranks::CompactRanks;
 use crate::kernels::RankTiles;
-use crate::ranks::Ranks;
 use crate::scans::take_tile;
 use mp_cuts::{MAX_TILE, MAX_TILES, cut_own};
 use mp_partial::Kernel;
@@ -65,7 +65,7 @@ impl<'a, const K: usize> Kernel for NearRanks<'a, K> {
     ghost use Rattle.mp_topk.specs.Tiling.{rank_value};
     ghost use Rattle.mp_topk.specs.TileLaws.{value_has_ranks};
 
-    type Out = Ranks<K>;
+    type Out = CompactRanks<K>;
 
     ghost size_of = { own_size };
 
@@ -84,7 +84,7 @@ impl<'a, const K: usize> Kernel for NearRanks<'a, K> {
         self.bands.count()
     }
 
-    fn run(&self, piece: u64, into: &mut Ranks<K>) {
+    fn run(&self, piece: u64, into: &mut CompactRanks<K>) {
         take_tile(&self.plan, &self.bands.tile(piece), into);
     }
 }

@@ -7,8 +7,9 @@ ghost use Rattle.mp_results.specs.Ranks.{ranks_of};
 ghost use Rattle.mp_topk.specs.Ranking.{lists_in, slots_of};
 ghost use Rattle.mp_topk.specs.Tiling.{ranks_together};
 
+use crate::compact_ranks::CompactRanks;
 use crate::kernels::RankTiles;
-use crate::ranks::{MAX_RANKS, Ranks};
+use crate::ranks::MAX_RANKS;
 use mp_cuts::{MAX_TILE, MAX_TILES};
 use mp_nums::{Memory, NearList, Sample};
 use mp_outside::Gate;
@@ -28,7 +29,7 @@ fn run_tiles<R: Threads + Sync, G: Gate, const K: usize>(
     tile: u32,
     workers: u32,
     gate: &G,
-) -> Result<Ranks<K>, Memory>
+) -> Result<CompactRanks<K>, Memory>
     requires few { length tiles.now.tiles ≤ MAX_TILES }
     requires least { 1 ≤ tile }
     requires greatest { tile ≤ MAX_TILE }
@@ -47,7 +48,7 @@ fn run_tiles<R: Threads + Sync, G: Gate, const K: usize>(
     run_one_after_another(rt, alloc, &near, &near.others(tile), workers, gate)
 }
 
-/// The lists of the tiles' ranks.
+/// The lists of the tiles' ranks, made by as many workers.
 fn lists_of_tiles<R: Threads + Sync, G: Gate, const K: usize>(
     rt: &R,
     alloc: Global,
@@ -65,7 +66,7 @@ fn lists_of_tiles<R: Threads + Sync, G: Gate, const K: usize>(
         ≡ map slots_of (ranks_of K tiles.now.m (series_of tiles.now.samples)) }
     ensures { IfOk result (λ lists. map slots_of (lists_in lists.items) ≡ ranks_together K tiles.now) }
 {
-    run_tiles(rt, alloc, tiles, tile, workers, gate)?.lists(alloc)
+    run_tiles(rt, alloc, tiles, tile, workers, gate)?.lists(rt, alloc, workers)
 }
 
 /// For each window of length `m` the `k` nearest ones outside its exclusion zone with their distances, all of them

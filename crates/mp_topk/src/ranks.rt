@@ -8,11 +8,9 @@ ghost use Rattle.mp_topk.specs.Ranking.{slots_of, those_in};
 ghost use Rattle.mp_topk.specs.RankLaws.{ranks_merge};
 
 use crate::lists::lists_of;
-use crate::offers::limit_at;
 use crate::placing::{put_each, put_found};
 use mp_nums::{Items, Memory, Near, NearList, Slot, Sq};
 use mp_partial::Part;
-use mp_sums::Limit;
 use std::alloc::Global;
 use std::marker::Model;
 
@@ -61,24 +59,11 @@ impl<const K: usize> Ranks<K> {
 }
 
 impl<const K: usize> Ranks<K> {
-    ghost use Rattle.std.specs.Prelude.{ℕ};
-    ghost use Rattle.mp_sums.specs.Limits.{IsBeyond};
-    ghost use Rattle.mp_topk.specs.TakingLaws.{GivesNothing};
-
     /// For each place the list of its windows.
     pub fn lists(&self, alloc: Global) -> Result<Vec<NearList>, Memory>
         ensures { IfOk result (λ lists. lists_in lists.items ≡ self.now.lists) }
     {
         lists_of(alloc, self.places.as_slice())
-    }
-
-    /// Which distances of windows from `first` on may still give a place something.
-    #[inline]
-    pub(crate) fn limit(&self, i: u64, first: u64) -> Limit
-        ensures { (index dist : ℕ) → first ≤ index → IsBeyond result dist
-            → GivesNothing K (slice_index_or self.now.lists i []) (near_at index dist) }
-    {
-        limit_at(self.places.as_slice(), i, first)
     }
 }
 

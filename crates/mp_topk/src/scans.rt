@@ -8,15 +8,15 @@ ghost use Rattle.mp_tiles.specs.Among.{either_way};
 ghost use Rattle.mp_topk.specs.Ranking.{HasRanks, merged_ranks, slots_of};
 ghost use Rattle.mp_topk.specs.Tiling.{among_value};
 
+use crate::compact_ranks::CompactRanks;
 use crate::offers::EachToOther;
-use crate::ranks::Ranks;
 use mp_cuts::Tile;
 use mp_partial::Part;
 use mp_scans::{Plan, scan};
 
 /// Merges the ranks by the tile's pairs into these: each two windows of a pair, where no sample is missing, are offered
 /// to each other.
-pub(crate) fn take_tile<const K: usize>(plan: &Plan, tile: &Tile, into: &mut Ranks<K>)
+pub(crate) fn take_tile<const K: usize>(plan: &Plan, tile: &Tile, into: &mut CompactRanks<K>)
     requires same { plan.now.grid.columns.now ≡ plan.now.grid.rows.now }
     requires tile { IsTileBetween (excl plan.now.grid.m + 1)
         (windows (length plan.now.grid.rows.now) plan.now.grid.m)

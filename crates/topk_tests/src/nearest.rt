@@ -124,6 +124,46 @@ fn several_workers(rt: HostRuntime) -> Result<(), Fail> {
     Ok(())
 }
 
+/// Expects the same windows in each of two lists of lists.
+fn expect_same(rt: &impl Abort, lists: &[NearList], others: &[NearList]) {
+    assert_eq!(rt; lists.len(), others.len());
+    for i in 0..lists.len() {
+        let other = others.get(i).expect(rt, "a list for each window");
+        assert_eq!(rt; lists[i].as_slice(), other.as_slice());
+    }
+}
+
+/// The lists of so many windows are made by several workers.
+#[test]
+fn several_workers_make_lists(rt: HostRuntime) -> Result<(), Fail> {
+    let samples = ties(rt.alloc(), 4_500, 1_000, 7)?;
+    assert!(rt; samples.len() as u64 <= MAX_SAMPLES);
+    let lists = nearest(
+        &rt,
+        rt.alloc(),
+        samples.as_slice(),
+        16,
+        3,
+        256,
+        1,
+        &OpenGate,
+    )?;
+    for workers in [2, 4] {
+        let others = nearest(
+            &rt,
+            rt.alloc(),
+            samples.as_slice(),
+            16,
+            3,
+            256,
+            workers,
+            &OpenGate,
+        )?;
+        expect_same(&rt, others.as_slice(), lists.as_slice());
+    }
+    Ok(())
+}
+
 #[test]
 fn two_workers_of_ranks_meet(rt: HostRuntime) -> Result<(), Fail> {
     let samples = ties(rt.alloc(), 1_500, 1_000, 5)?;
