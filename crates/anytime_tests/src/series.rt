@@ -83,3 +83,24 @@ pub(crate) fn numbers(alloc: Global, count: u64, seed: u64) -> Result<Vec<u64>, 
     }
     Ok(numbers)
 }
+
+/// So many samples that go up and down by chance, in steps of a unit. One in 97 is missing.
+pub(crate) fn walked(
+    alloc: Global,
+    count: u64,
+    unit: i64,
+    seed: u64,
+) -> Result<Vec<Sample>, Memory> {
+    let mut samples = Vec::new(alloc);
+    let (mut state, mut level): (u64, i64) = (seed, 0);
+    for place in 0..count {
+        state = after(state);
+        level = level.wrapping_add((state >> 60) as i64).wrapping_sub(7);
+        samples.push(if place % 97 == 95 {
+            Sample::Missing
+        } else {
+            sample(level.wrapping_mul(unit))
+        })?;
+    }
+    Ok(samples)
+}

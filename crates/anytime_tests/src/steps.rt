@@ -3,7 +3,7 @@ ghost use Rattle.mp_partial.specs.declared.limits.TheConstants.{MAX_WORKERS};
 ghost use Rattle.mp_series.specs.declared.limits.TheConstants.{MAX_WINDOW, MIN_WINDOW};
 
 use crate::plain::{nearest, next};
-use crate::series::{drawn, lazy, numbers, sample_of};
+use crate::series::{drawn, lazy, numbers, sample_of, walked};
 use mp_anytime::Anytime;
 use mp_nums::{Sample, Slot};
 use mp_outside::{MeetGate, OpenGate};
@@ -181,6 +181,34 @@ fn cover_all<R: Abort + AllocGlobal + Threads + Sync>(
         workers,
     )?;
     expect_profile(rt, anytime.profile(), samples, m, covered.as_slice());
+    Ok(())
+}
+
+/// A series whose samples go up and down, with windows of a block and more.
+fn expect_walked<R: Abort + AllocGlobal + Threads + Sync>(
+    rt: &R,
+    m: u32,
+    unit: i64,
+    workers: u32,
+) -> Result<(), Fail>
+    requires shortest { MIN_WINDOW ≤ m }
+    requires longest { m ≤ MAX_WINDOW }
+    requires some { 1 ≤ workers }
+    requires workers { workers ≤ MAX_WORKERS }
+{
+    let samples = walked(rt.alloc(), 420, unit, u64::from(m))?;
+    let mut anytime = lazy(rt.alloc(), samples.as_slice(), m)?;
+    cover_all(rt, &mut anytime, samples.as_slice(), m, workers)
+}
+
+#[test]
+fn blocks_of_pairs(rt: HostRuntime) -> Result<(), Fail> {
+    for unit in [1, 50_000, 500_000_000_000] {
+        for m in [31, 32, 70, 150] {
+            expect_walked(&rt, m, unit, 1)?;
+        }
+        expect_walked(&rt, 40, unit, 3)?;
+    }
     Ok(())
 }
 

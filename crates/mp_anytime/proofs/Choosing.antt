@@ -1,18 +1,21 @@
 -- Which diagonals aren't covered, place by place.
 use Rattle.std.proofs.Common.{◌≡◌, ℕ, zero, suc, ◌+◌, ◌<◌, ◌≤◌, inl, inr, List, [], ◌∷◌, ◌++◌, length, get_or, set}
-use Rattle.std.proofs.Common.{take}
-use Rattle.std.proofs.Common.{Bool, true, false, refl, sym, ap, ◌∙◌, arith, subst, get_or-set_same, get_or-set_other}
+use Rattle.std.proofs.Common.{take, drop, ◌*◌, ◌/◌, ◌%◌, length-drop}
+use Rattle.std.proofs.Common.{◌⊎◌, Bool, true, false, refl, sym, ap, ◌∙◌, arith, subst, get_or-set_same, get_or-set_other}
 use Rattle.std.specs.Prelude.{if◌then◌else◌, ◌&&◌, ◌||◌, ◌==◌, nat_lt, filter, All}
 use Rattle.std.proofs.Math.Bool.{not}
 use Rattle.std.proofs.lemmas.Bool.{cases_eq}
 use Rattle.std.proofs.lemmas.Bool.Decides.{nat_tests}
-use Rattle.std.proofs.lemmas.List.{get_or-take, length-take, take_all, take-append-le, length-append}
+use Rattle.std.proofs.lemmas.List.{get_or-take, get_or-drop, length-take, length-set, take_all, take-append-le}
+use Rattle.std.proofs.lemmas.List.{length-append}
+use Rattle.std.proofs.lemmas.Nat.{div-add-mod'}
 use Rattle.std.proofs.lemmas.List.Folds.{list_any-append}
 use Rattle.std.proofs.lemmas.List.FromFn.{filter_of_map_range_with_len_more}
 use Rattle.mp_defs.specs.Window.{excl}
 use Rattle.mp_results.specs.Reversal.{reversal, numbers}
 use Rattle.mp_results.specs.Covering.{by_reversal, is_covered, is_uncovered, uncovered}
 use Rattle.mp_anytime.specs.Kept.{IsDiagonal}
+use Rattle.mp_anytime.specs.Waiting.{AreMarks}
 use Rattle.mp_anytime.proofs.Digits.{reversal_back}
 
 pub same_test : (x y : ℕ) → x ≡ y → (x == y) ≡ true
@@ -39,6 +42,96 @@ put_at waiting diagonal at now e small long lt place within = elim (cases_eq pla
       get_or-set_other waiting at place now false other
       ∙ sym (ap (λ t. if t then now else get_or waiting place false) (other_test (reversal place) diagonal away))
 ]
+
+-- ---- blocks of places
+
+pub or_false : (s t : Bool) → (s || t) ≡ false → s ≡ false
+or_false true t e = absurd (cc)
+or_false false t e = refl
+
+pub or_second : (s t : Bool) → (s || t) ≡ false → t ≡ false
+or_second true t e = absurd (cc)
+or_second false t e = e
+
+-- a block is marked where one comes to wait in it
+pub marks_put : (places marks : List Bool) (at : ℕ) (now : Bool) → AreMarks places marks → at < numbers
+    → AreMarks (set places at now) (set marks (at / 512) (now || get_or marks (at / 512) false))
+marks_put places marks at now h within = record {
+  all = length-set places at now ∙ h.all;
+  blocks = length-set marks (at / 512) (now || get_or marks (at / 512) false) ∙ h.blocks;
+  each = λ place lt none. elim (cases_eq place at) [
+    | inl same ↦
+        subst (λ k. get_or (set places at now) k false ≡ false) (sym same)
+        (get_or-set_same places at now false (omega (arith, h.all, within))
+        ∙ or_false now (get_or marks (at / 512) false)
+        (sym (get_or-set_same marks (at / 512) (now || get_or marks (at / 512) false) false
+        (omega (arith, h.blocks, block_of at within)))
+        ∙ ap (λ k. get_or (set marks (at / 512) (now || get_or marks (at / 512) false)) (k / 512) false) (sym same)
+        ∙ none))
+    | inr other ↦ get_or-set_other places at place now false other
+        ∙ h.each place lt (before place lt none)
+  ];
+}
+  where
+    block_of : (at : ℕ) → at < numbers → at / 512 < 512
+    block_of at lt = omega (arith, lt)
+
+    before : (place : ℕ) → place < numbers
+        → get_or (set marks (at / 512) (now || get_or marks (at / 512) false)) (place / 512) false ≡ false
+        → get_or marks (place / 512) false ≡ false
+    before place lt none = elim (cases_eq (place / 512) (at / 512)) [
+      | inl same ↦
+          ap (λ k. get_or marks k false) same
+          ∙ or_second now (get_or marks (at / 512) false)
+          (sym (get_or-set_same marks (at / 512) (now || get_or marks (at / 512) false) false
+          (omega (arith, h.blocks, block_of at within)))
+          ∙ ap (λ k. get_or (set marks (at / 512) (now || get_or marks (at / 512) false)) k false) (sym same)
+          ∙ none)
+      | inr other ↦
+          sym (get_or-set_other marks (at / 512) (place / 512) (now || get_or marks (at / 512) false) false other)
+          ∙ none
+    ]
+
+-- a block is marked anew
+pub marked_anew : (places marks : List Bool) (block : ℕ) (is_any : Bool) → AreMarks places marks → block < 512
+    → (is_any ≡ false → (k : ℕ) → k < 512 → get_or places (512 * block + k) false ≡ false)
+    → AreMarks places (set marks block is_any)
+marked_anew places marks block is_any h within none_waits = record {
+  all = h.all;
+  blocks = length-set marks block is_any ∙ h.blocks;
+  each = λ place lt none. elim (cases_eq (place / 512) block) [
+    | inl same ↦
+        let is : place ≡ 512 * block + place % 512 = omega (arith, same, div-add-mod' place 512) in
+        subst (λ k. get_or places k false ≡ false) (sym is)
+        (none_waits
+        (sym (get_or-set_same marks block is_any false (omega (arith, h.blocks, within)))
+        ∙ ap (λ k. get_or (set marks block is_any) k false) (sym same) ∙ none)
+        (place % 512) (omega arith))
+    | inr other ↦
+        h.each place lt (sym (get_or-set_other marks block (place / 512) is_any false other) ∙ none)
+  ];
+}
+
+-- one more that doesn't wait
+pub none_with : (places : List Bool) (n : ℕ) (was now : Bool)
+    → (was ≡ false → (k : ℕ) → k < n → get_or places k false ≡ false) → now ≡ (was || get_or places n false)
+    → now ≡ false → (k : ℕ) → k < n + 1 → get_or places k false ≡ false
+none_with places n was now before e none k lt = elim (cases_eq k n) [
+  | inl same ↦ ap (λ q. get_or places q false) same ∙ or_second was (get_or places n false) (sym e ∙ none)
+  | inr other ↦ before (or_false was (get_or places n false) (sym e ∙ none)) k (omega (arith, lt, other))
+]
+
+-- a part of all places
+pub part_none : (places : List Bool) (start n : ℕ)
+    → ((k : ℕ) → k < length (take n (drop start places)) → get_or (take n (drop start places)) k false ≡ false)
+    → start + n ≤ length places → (k : ℕ) → k < n → get_or places (start + k) false ≡ false
+part_none places start n none within k lt =
+    sym (get_or-take n (drop start places) k false lt ∙ get_or-drop start places k false)
+    ∙ none k (omega (arith, lt, within, length-take n (drop start places), length-drop start places))
+
+pub marked_or_not : (t : Bool) → (t ≡ true) ⊎ (t ≡ false)
+marked_or_not true = inl refl
+marked_or_not false = inr refl
 
 -- a window more
 pub add_at : (m w : ℕ) (covered : List ℕ) (x : ℕ) (old : Bool) → is_covered covered w ≡ false
@@ -205,21 +298,17 @@ chosen_lie m w count covered chosen e = subst (All (IsDiagonal m w)) (sym e) tak
         (lies m w (get_or (uncovered m w covered) k d) (not (is_covered covered (get_or (uncovered m w covered) k d)))
         (passing (is_uncovered m w covered) (by_reversal numbers) k d within))
 
--- how many there are
-pub none_counted : (p : ℕ → Bool) → 0 ≡ length (filter p (by_reversal 0))
-none_counted p = sym (ap length (none_yet p))
-
-pub count_more : (p : ℕ → Bool) (n count : ℕ) (t : Bool) → count ≡ length (filter p (by_reversal n))
-    → p (reversal n) ≡ t → (if t then count + 1 else count) ≡ length (filter p (by_reversal (n + 1)))
-count_more p n count true e passes =
-    e_more (filter p (by_reversal n)) (reversal n) count e
-    ∙ ap length (sym (one_more p n ∙ ap (λ t. filter p (by_reversal n) ++ (if t then reversal n ∷ [] else [])) passes))
-  where
-    e_more : (xs : List ℕ) (x count : ℕ) → count ≡ length xs → count + 1 ≡ length (xs ++ x ∷ [])
-    e_more xs x count e = omega (arith, length-append xs (x ∷ []), e)
-count_more p n count false e fails =
-    e ∙ none_more (filter p (by_reversal n))
-    ∙ ap length (sym (one_more p n ∙ ap (λ t. filter p (by_reversal n) ++ (if t then reversal n ∷ [] else [])) fails))
-  where
-    none_more : (xs : List ℕ) → length xs ≡ length (xs ++ [])
-    none_more xs = omega (arith, length-append {A = ℕ} xs [])
+-- nothing more is chosen from successive places of which none waits, or where enough are chosen
+pub chosen_on : (p : ℕ → Bool) (start n count : ℕ) (chosen : List ℕ)
+    → chosen ≡ take count (filter p (by_reversal start))
+    → ((k : ℕ) → k < n → p (reversal (start + k)) ≡ true → count ≤ length chosen)
+    → chosen ≡ take count (filter p (by_reversal (start + n)))
+chosen_on p start zero count chosen e full =
+    let same : start ≡ start + 0 = omega arith in
+    subst (λ q. chosen ≡ take count (filter p (by_reversal q))) same e
+chosen_on p start (suc n) count chosen e full =
+    let more : start + n + 1 ≡ start + suc n = omega arith in
+    subst (λ q. chosen ≡ take count (filter p (by_reversal q))) more
+    (chosen_same p (start + n) count chosen
+    (chosen_on p start n count chosen e (λ k lt. full k (omega (arith, lt))))
+    (p (reversal (start + n))) refl (full n (omega arith)))

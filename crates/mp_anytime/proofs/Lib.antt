@@ -1,9 +1,16 @@
 pub mod Digits
 pub mod Choosing
 pub mod Stepping
+pub mod Counting
 pub mod LazyLemmas
 pub mod Appending
 pub mod Distances
+pub mod Greatest
+pub mod Moves
+pub mod Free
+pub mod Quiet
+pub mod SlotLemmas
+pub mod Entries
 pub mod Scans
 pub mod Reading
 pub mod Windows

@@ -8,12 +8,14 @@ use Rattle.std.proofs.Math.ListN.{get_or-append}
 use Rattle.std.proofs.Math.Seq.{get_or-append_seam}
 use Rattle.std.proofs.lemmas.Bool.{cases_lt}
 use Rattle.std.proofs.lemmas.List.{length-map, length-append, length-take, map-append, take_all, take_more}
+use Rattle.std.proofs.lemmas.Simd.{length-zip2}
+use Rattle.mp_nums.specs.Near.{nearer_of}
 use Rattle.mp_nums.specs.declared.samples.Sample.{Sample}
 use Rattle.mp_nums.specs.declared.samples.Sample.TheVariants.{Missing}
 use Rattle.mp_defs.specs.Series.{Series, reading_of, series_of}
 use Rattle.mp_defs.specs.ColumnLaws.{columns_have_places}
 use Rattle.mp_defs.specs.Window.{is_allowed, windows}
-use Rattle.mp_defs.specs.Profile.{column, entry, left_entry, nearest_column, profile, right_entry, windows_of}
+use Rattle.mp_defs.specs.Profile.{column, left_entry, nearest_column, profile, right_entry, windows_of}
 use Rattle.mp_partial.specs.Profiled.{Profiled}
 use Rattle.mp_defs.specs.NearestLaws.{zone_is_mutual}
 use Rattle.mp_defs.specs.SeriesLaws.{series_are_of_samples}
@@ -22,16 +24,21 @@ use Rattle.mp_stream.specs.Appended.{EntriesGrow, with_one}
 use Rattle.mp_tiles.specs.Among.{columns_value, either_way}
 use Rattle.mp_tiles.specs.Scanning.{IsScanned}
 use Rattle.mp_tiles.specs.SideLaws.{profiles_are_of_both_sides}
+use Rattle.mp_results.specs.Reversal.{numbers}
 use Rattle.mp_results.specs.Covering.{is_covered}
 use Rattle.mp_results.specs.LazyProfile.{is_allowed_along, lazy_profile}
-use Rattle.mp_anytime.specs.Scanning.{lie_along}
-use Rattle.mp_anytime.specs.Kept.{AreSums, AreWaiting, IsAlongCovered, IsDiagonal, IsOf, IsSumAt, is_last_pair}
+use Rattle.mp_anytime.specs.Scanning.{AreEarlier, AreLater, lie_along}
+use Rattle.mp_anytime.specs.Bounds.{both_sides, columns_of, kept_sides, numbered, numbered_slots}
+use Rattle.mp_anytime.specs.Waiting.{AreWaiting, IsCounted}
+use Rattle.mp_anytime.specs.Kept.{AreSums, IsAlongCovered, IsDiagonal, IsOf, IsSumAt, is_last_pair}
 use Rattle.mp_anytime.specs.Kept.{IsListed, last_place, without_last}
 use Rattle.mp_anytime.specs.declared.coverage.Coverage.{Coverage}
 use Rattle.mp_anytime.proofs.Choosing.{other_test}
+use Rattle.mp_anytime.proofs.Entries.{each_merged, each_numbered, kept_is, left_is_earlier, merged_again, right_is_later}
+use Rattle.mp_anytime.proofs.Counting.{counted_more, none_counted}
 use Rattle.mp_anytime.proofs.Appending.{first_pairs, grown_left, grown_right, joined_column}
 use Rattle.mp_anytime.proofs.Distances.{sum_front}
-use Rattle.mp_anytime.proofs.LazyLemmas.{all_of, along_both, left_of, lazy_is_along, right_of, value_none}
+use Rattle.mp_anytime.proofs.LazyLemmas.{along_both, left_of, lazy_is_along, right_of, value_none}
 
 -- ---- one sample more
 
@@ -153,13 +160,33 @@ kept_places m items covered p h =
     (windows_of m (series_of items))
     ∙ series_are_of_samples.windows_are m items
 
-pub found_places : (m : ℕ) (items : List Sample) (chosen : List ℕ) (found : Profiled)
-    → ◌≡◌ {A = Value} (found.all ∷ found.left ∷ found.right ∷ [])
-    (columns_value (profile (lie_along chosen) m (series_of items))) → length found.all ≡ windows (length items) m
-found_places m items chosen found e =
-    ap length (all_of _ _ _ _ _ _ e)
-    ∙ columns_have_places.count (entry (lie_along chosen) m (series_of items)) (windows_of m (series_of items))
-    ∙ series_are_of_samples.windows_are m items
+-- what was found is of both sides of what was kept and of the chosen diagonals
+abbrev pub IsFoundOf : ℕ → List Sample → List ℕ → Profiled → Profiled → Type 0
+IsFoundOf m items chosen old found =
+    columns_of found ≡ merged_columns (columns_of (both_sides (numbered_slots old.left) (numbered_slots old.right) 0))
+    (columns_value (profile (lie_along chosen) m (series_of items)))
+
+pub is_found : (m : ℕ) (items : List Sample) (chosen : List ℕ) (old found : Profiled) → length old.left ≡ length old.all
+    → length old.right ≡ length old.all
+    → columns_of found ≡ merged_columns (columns_of (kept_sides old))
+    (columns_value (profile (lie_along chosen) m (series_of items))) → IsFoundOf m items chosen old found
+is_found m items chosen old found left right e =
+    e ∙ ap (λ (p : Profiled). merged_columns (columns_of p)
+    (columns_value (profile (lie_along chosen) m (series_of items)))) (kept_is old left right)
+
+pub found_places : (m : ℕ) (items : List Sample) (covered chosen : List ℕ) (old found : Profiled)
+    → IsAlongCovered m items covered old
+    → IsFoundOf m items chosen old found → length found.left ≡ windows_of m (series_of items)
+found_places m items covered chosen old found was e =
+    let a = series_of items in
+    let p = profile (lie_along chosen) m a in
+    let kept : length (numbered_slots old.left) ≡ windows_of m a =
+    length-map old.left numbered ∙ ap length was.left
+    ∙ columns_have_places.count (left_entry (is_allowed_along covered m) m a) (windows_of m a) in
+    ap length (left_of _ _ _ _ _ _ e)
+    ∙ length-zip2 nearer_of (numbered_slots old.left) p.left
+    (kept ∙ sym (columns_have_places.count (left_entry (lie_along chosen) m a) (windows_of m a)))
+    ∙ kept
 
 -- what was written to a part of a list that is all of it
 pub written_back : (xs ys : List ℕ) → length xs ≡ length ys → take (length ys) (xs ++ drop (length xs) ys) ≡ xs
@@ -201,35 +228,68 @@ all_entries m covered a all left right e f g =
 
 pub covers_more : (m w : ℕ) (items : List Sample) (covered chosen : List ℕ) (old found new : Profiled)
     → All (IsDiagonal m w) covered → All (IsDiagonal m w) chosen → IsAlongCovered m items covered old
-    → ◌≡◌ {A = Value} (found.all ∷ found.left ∷ found.right ∷ [])
-    (columns_value (profile (lie_along chosen) m (series_of items)))
-    → ◌≡◌ {A = Value} (new.all ∷ new.left ∷ new.right ∷ [])
-    (merged_columns (old.all ∷ old.left ∷ old.right ∷ []) (found.all ∷ found.left ∷ found.right ∷ []))
+    → IsFoundOf m items chosen old found
+    → new.left ≡ merged_column old.left found.left → new.right ≡ merged_column old.right found.right
     → IsAlongCovered m items (covered ++ chosen) new
-covers_more m w items covered chosen old found new all all' was e f =
+covers_more m w items covered chosen old found new all all' was e l r =
     let a = series_of items in
     let both = diagonals_both m w covered chosen all all' in
     let whole = along_both covered chosen m a in
+    let p = profile (lie_along chosen) m a in
     record {
-      left = left_of _ _ _ _ _ _ f
-          ∙ ap (λ (c : Column). merged_column c found.left) (was.left ∙ left_along m w covered a all)
-          ∙ ap (merged_column (profile (lie_along covered) m a).left) (left_of _ _ _ _ _ _ e)
+      left = l ∙ ap (merged_column old.left) (left_of _ _ _ _ _ _ e) ∙ merged_again old.left p.left
+          ∙ ap (λ (c : Column). merged_column c p.left) (was.left ∙ left_along m w covered a all)
           ∙ sym (left_of _ _ _ _ _ _ whole)
           ∙ sym (left_along m w (covered ++ chosen) a both);
-      right = right_of _ _ _ _ _ _ f
-          ∙ ap (λ (c : Column). merged_column c found.right) (was.right ∙ right_along m w covered a all)
-          ∙ ap (merged_column (profile (lie_along covered) m a).right) (right_of _ _ _ _ _ _ e)
+      right = r ∙ ap (merged_column old.right) (right_of _ _ _ _ _ _ e) ∙ merged_again old.right p.right
+          ∙ ap (λ (c : Column). merged_column c p.right) (was.right ∙ right_along m w covered a all)
           ∙ sym (right_of _ _ _ _ _ _ whole)
           ∙ sym (right_along m w (covered ++ chosen) a both);
     }
+
+-- on which sides windows were found
+pub found_earlier : (m : ℕ) (items : List Sample) (covered chosen : List ℕ) (old found : Profiled)
+    → IsAlongCovered m items covered old
+    → IsFoundOf m items chosen old found → AreEarlier found.left
+found_earlier m items covered chosen old found was e =
+    let a = series_of items in
+    let p = profile (lie_along chosen) m a in
+    let kept : AreEarlier old.left =
+    subst AreEarlier (sym was.left) (left_is_earlier (is_allowed_along covered m) m a) in
+    let long : length p.left ≡ length (numbered_slots old.left) =
+    columns_have_places.count (left_entry (lie_along chosen) m a) (windows_of m a)
+    ∙ sym (length-map old.left numbered ∙ ap length was.left
+    ∙ columns_have_places.count (left_entry (is_allowed_along covered m) m a) (windows_of m a)) in
+    subst AreEarlier (sym (left_of _ _ _ _ _ _ e))
+    (each_merged (λ k near. near.index < k) (numbered_slots old.left) p.left long
+    (each_numbered (λ k near. near.index < k) old.left kept) (left_is_earlier (lie_along chosen) m a))
+
+pub found_later : (m : ℕ) (items : List Sample) (covered chosen : List ℕ) (old found : Profiled)
+    → IsAlongCovered m items covered old
+    → IsFoundOf m items chosen old found
+    → AreLater (windows_of m (series_of items)) found.right
+found_later m items covered chosen old found was e =
+    let a = series_of items in
+    let w = windows_of m a in
+    let p = profile (lie_along chosen) m a in
+    let kept : AreLater w old.right =
+    subst (AreLater w) (sym was.right) (right_is_later (is_allowed_along covered m) m a) in
+    let long : length p.right ≡ length (numbered_slots old.right) =
+    columns_have_places.count (right_entry (lie_along chosen) m a) w
+    ∙ sym (length-map old.right numbered ∙ ap length was.right
+    ∙ columns_have_places.count (right_entry (is_allowed_along covered m) m a) w) in
+    subst (AreLater w) (sym (right_of _ _ _ _ _ _ e))
+    (each_merged (λ k near. (k < near.index) × (near.index < w)) (numbered_slots old.right) p.right long
+    (each_numbered (λ k near. (k < near.index) × (near.index < w)) old.right kept)
+    (right_is_later (lie_along chosen) m a))
 
 -- what is kept where no diagonal is covered
 pub none_kept : (m count : ℕ) (items : List Sample) (coverage : Coverage) → windows (length items) m ≡ count
     → ◌≡◌ {A = Value} (coverage.profile.all ∷ coverage.profile.left ∷ coverage.profile.right ∷ [])
     (empty_columns 3 count)
-    → coverage.covered.items ≡ [] → coverage.sums.items ≡ [] → AreWaiting m count [] coverage.waiting.items
+    → coverage.covered.items ≡ [] → coverage.sums.items ≡ [] → AreWaiting m count [] coverage.waiting → count ≤ numbers
     → IsOf m items coverage
-none_kept m count items coverage is value no_covered no_sums waiting = record {
+none_kept m count items coverage is value no_covered no_sums waiting few = record {
   listed = record {
     diagonals = subst (λ ds. All (IsDiagonal m (windows (length items) m)) ds) (sym no_covered)
         (λ k d lt. absurd (omega (arith, lt)));
@@ -237,9 +297,11 @@ none_kept m count items coverage is value no_covered no_sums waiting = record {
       places = ap length no_sums ∙ sym (ap length no_covered);
       each = λ k lt. absurd (omega (arith, lt, ap length no_covered));
     };
-    waiting = subst (λ ds. AreWaiting m (windows (length items) m) ds coverage.waiting.items) (sym no_covered)
-        (subst (λ w. AreWaiting m w [] coverage.waiting.items) (sym is) waiting);
+    waiting = subst (λ ds. AreWaiting m (windows (length items) m) ds coverage.waiting) (sym no_covered)
+        (subst (λ w. AreWaiting m w [] coverage.waiting) (sym is) waiting);
   };
+  counted = subst (IsCounted m (windows (length items) m)) (sym no_covered)
+      (none_counted m (windows (length items) m) (omega (arith, is, few)));
   profile = subst (λ ds. IsAlongCovered m items ds coverage.profile) (sym no_covered)
       (none_along m items coverage.profile (value ∙ ap (empty_columns 3) (sym is)));
 }
@@ -252,8 +314,8 @@ pub window_added : (grow : EntriesGrow) (m : ℕ) (items front : List Sample) (s
     → grown.left ≡ old.profile.left ++ None ∷ [] → grown.right ≡ old.profile.right ++ None ∷ []
     → IsScanned (is_last_pair old.covered.items last) m (series_of items) grown new.profile
     → AreSums m (series_of items) old.covered.items last new.sums.items
-    → AreWaiting m (last + 1) old.covered.items new.waiting.items → IsOf m items new
-window_added grow m items front sample old new grown last e least long is was same left right scanned sums waiting =
+    → AreWaiting m (last + 1) old.covered.items new.waiting → length items ≤ numbers → IsOf m items new
+window_added grow m items front sample old new grown last e least long is was same left right scanned sums waiting few =
     let covered = old.covered.items in
     let a = series_of front in
     let s = reading_of sample in
@@ -274,9 +336,13 @@ window_added grow m items front sample old new grown last e least long is was sa
             (diagonals_stay m last (last + 1) covered (omega arith) all));
         lasts = subst (λ ds. AreSums m (series_of items) ds (last_place m items) new.sums.items) (sym same)
             (subst (λ j. AreSums m (series_of items) covered j new.sums.items) place sums);
-        waiting = subst (λ ds. AreWaiting m (windows (length items) m) ds new.waiting.items) (sym same)
-            (subst (λ w. AreWaiting m w covered new.waiting.items) (sym more) waiting);
+        waiting = subst (λ ds. AreWaiting m (windows (length items) m) ds new.waiting) (sym same)
+            (subst (λ w. AreWaiting m w covered new.waiting) (sym more) waiting);
       };
+      counted = subst (IsCounted m (windows (length items) m)) (sym same)
+          (subst (λ w. IsCounted m w covered) (sym more)
+          (counted_more m last covered (omega (arith, more, least, long, few)) (not_covered m last covered all)
+          (subst (λ w. IsCounted m w covered) (sym is) was.counted)));
       profile = subst (λ ds. IsAlongCovered m items ds new.profile) (sym same)
           (record {
             left = subst (λ (x : Series). new.profile.left ≡ (lazy_profile m covered x).left) (sym whole)
@@ -306,8 +372,9 @@ sample_added m items front sample coverage e short was =
           places = was.listed.lasts.places;
           each = λ k lt. absurd (omega (arith, (was.listed.diagonals k 0 lt).1, many, short));
         };
-        waiting = subst (λ w. AreWaiting m w covered coverage.waiting.items) none was.listed.waiting;
+        waiting = subst (λ w. AreWaiting m w covered coverage.waiting) none was.listed.waiting;
       };
+      counted = subst (λ w. IsCounted m w covered) none was.counted;
       profile = record {
         left = was.profile.left ∙ ap (column (left_entry (is_allowed_along covered m) m (series_of front))) before
             ∙ sym (ap (column (left_entry (is_allowed_along covered m) m (series_of items))) counted);
@@ -322,7 +389,7 @@ pub listed_more : (m : ℕ) (items : List Sample) (diagonal sum : ℕ) (old new 
     → IsDiagonal m (windows (length items) m) diagonal → IsListed m items old
     → new.covered.items ≡ old.covered.items ++ diagonal ∷ [] → new.sums.items ≡ old.sums.items ++ sum ∷ []
     → IsSumAt m (series_of items) (last_place m items - diagonal) (last_place m items) sum
-    → AreWaiting m (windows (length items) m) (old.covered.items ++ diagonal ∷ []) new.waiting.items
+    → AreWaiting m (windows (length items) m) (old.covered.items ++ diagonal ∷ []) new.waiting
     → IsListed m items new
 listed_more m items diagonal sum old new is was more sums here waiting =
     let covered = old.covered.items in
@@ -341,7 +408,7 @@ listed_more m items diagonal sum old new is was more sums here waiting =
             (get_or xs k 0))
             (sym sums) (placed k (omega (arith, lt, ap length more, long))));
       };
-      waiting = subst (λ ds. AreWaiting m (windows (length items) m) ds new.waiting.items) (sym more) waiting;
+      waiting = subst (λ ds. AreWaiting m (windows (length items) m) ds new.waiting) (sym more) waiting;
     }
   where
     only_one : (k d : ℕ) → k < length (diagonal ∷ [])

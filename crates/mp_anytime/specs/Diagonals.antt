@@ -1,13 +1,13 @@
 -- The diagonals of a series as the pieces of a kernel.
-use Rattle.std.specs.Prelude.{◌≡◌, ℕ, ◌<◌, ◌≤◌, List, length, slice_index, All, Bool}
+use Rattle.std.specs.Prelude.{ℕ, ◌<◌, ◌≤◌, List, length, slice_index, All}
 use Rattle.mp_nums.specs.declared.samples.Sample.{Sample}
 use Rattle.mp_defs.specs.Series.{series_of}
 use Rattle.mp_defs.specs.Window.{windows}
 use Rattle.mp_defs.specs.Profile.{profile}
 use Rattle.mp_partial.specs.Values.{Value}
-use Rattle.mp_sums.specs.declared.distances.Grid.{Grid}
 use Rattle.mp_tiles.specs.Among.{columns_value}
-use Rattle.mp_anytime.specs.Scanning.{AreFree, lie_apart}
+use Rattle.mp_anytime.specs.declared.rounded.Rounded.{Rounded}
+use Rattle.mp_anytime.specs.Scanning.{lie_apart}
 
 -- what is seen of the kernel: the samples, the length of a window, and how far the windows of each piece start apart
 pub record Along : Type 0 where
@@ -16,12 +16,9 @@ pub record Along : Type 0 where
   pub offsets : List ℕ
 
 -- what its fields keep to
-pub record IsAlong (grid : Grid) (free : List Bool) (offsets : List ℕ) : Type 0 where
-  pub some : 1 ≤ grid.m
-  pub same : grid.columns.now ≡ grid.rows.now
-  pub are_free : AreFree grid.m (series_of grid.rows.now) free
+pub record IsAlong (rounded : Rounded) (offsets : List ℕ) : Type 0 where
   pub apart : All (λ offset. 1 ≤ offset) offsets
-  pub within : All (λ offset. offset < length free) offsets
+  pub within : All (λ offset. offset < length rounded.free.now) offsets
 
 -- the number of windows
 abbrev pub along_size : Along → ℕ

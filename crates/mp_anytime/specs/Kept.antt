@@ -1,5 +1,5 @@
 -- What is kept of a series of which some diagonals are covered.
-use Rattle.std.specs.Prelude.{◌≡◌, ℕ, ◌+◌, ◌-◌, ◌<◌, ◌≤◌, List, Bool, false, length, slice_index, slice_index_or, All}
+use Rattle.std.specs.Prelude.{◌≡◌, ℕ, ◌+◌, ◌-◌, ◌<◌, ◌≤◌, List, Bool, length, slice_index, All}
 use Rattle.std.specs.Prelude.{◌==◌, ◌&&◌, take}
 use Rattle.std.specs.Int.{abs_diff}
 use Rattle.mp_nums.specs.declared.samples.Sample.{Sample}
@@ -9,16 +9,10 @@ use Rattle.mp_defs.specs.Window.{excl, windows}
 use Rattle.mp_series.specs.Samples.{Counted}
 use Rattle.mp_partial.specs.Profiled.{Profiled}
 use Rattle.mp_sums.specs.Sums.{IsSum, numbers_of}
-use Rattle.mp_results.specs.Reversal.{reversal, numbers}
-use Rattle.mp_results.specs.Covering.{is_covered, is_uncovered}
+use Rattle.mp_results.specs.Covering.{is_covered}
 use Rattle.mp_results.specs.LazyProfile.{lazy_profile}
+use Rattle.mp_anytime.specs.Waiting.{AreWaiting, IsCounted}
 use Rattle.mp_anytime.specs.declared.coverage.Coverage.{Coverage}
-
--- by the reversal of each diagonal, whether that isn't covered
-pub record AreWaiting (m w : ℕ) (covered : List ℕ) (waiting : List Bool) : Type 0 where
-  pub places : length waiting ≡ numbers
-  pub each : (place : ℕ) → place < numbers
-      → slice_index_or waiting place false ≡ is_uncovered m w covered (reversal place)
 
 -- the sum of windows i and j of a series, in which a missing sample counts as 0
 abbrev pub IsSumAt : ℕ → Series → ℕ → ℕ → ℕ → Type 0
@@ -50,11 +44,12 @@ pub record IsAlongCovered (m : ℕ) (items : List Sample) (covered : List ℕ) (
 pub record IsListed (m : ℕ) (items : List Sample) (coverage : Coverage) : Type 0 where
   pub diagonals : All (IsDiagonal m (windows (length items) m)) coverage.covered.items
   pub lasts : AreSums m (series_of items) coverage.covered.items (last_place m items) coverage.sums.items
-  pub waiting : AreWaiting m (windows (length items) m) coverage.covered.items coverage.waiting.items
+  pub waiting : AreWaiting m (windows (length items) m) coverage.covered.items coverage.waiting
 
--- and so is the profile
+-- and so is the profile, and no diagonal is covered twice
 pub record IsOf (m : ℕ) (items : List Sample) (coverage : Coverage) : Type 0 where
   pub listed : IsListed m items coverage
+  pub counted : IsCounted m (windows (length items) m) coverage.covered.items
   pub profile : IsAlongCovered m items coverage.covered.items coverage.profile
 
 -- samples were read, and no more than so often

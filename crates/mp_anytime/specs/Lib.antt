@@ -1,4 +1,8 @@
 pub mod Scanning
+pub mod Rounded
+pub mod Bounds
+pub mod Exacts
+pub mod Waiting
 pub mod Kept
 pub mod Diagonals
 pub mod DiagonalLaws

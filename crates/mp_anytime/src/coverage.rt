@@ -7,10 +7,14 @@ ghost use Rattle.mp_defs.specs.Profile.{profile};
 ghost use Rattle.mp_series.specs.declared.limits.TheConstants.{MIN_WINDOW, MAX_WINDOW};
 ghost use Rattle.mp_anytime.specs.Kept.{IsDiagonal, IsListed, IsOf, OnlyReads, room_of, without_last};
 ghost use Rattle.mp_defs.specs.Limits.{max_samples};
+ghost use Rattle.mp_results.specs.Covering.{uncovered};
+ghost use Rattle.mp_partial.specs.Values.{merged_columns};
+ghost use Rattle.mp_anytime.specs.Bounds.{columns_of, kept_sides};
 ghost use Rattle.mp_tiles.specs.Among.{columns_value};
 
 use crate::extending::{extend_each, sum_of};
-use crate::waiting::{add_window, cover, none_covered};
+use crate::found::Found;
+use crate::waiting::Waiting;
 use mp_nums::{Items, Memory};
 use mp_partial::{Part, Profile};
 use mp_series::{Samples, windows};
@@ -24,7 +28,7 @@ pub(crate) struct Coverage {
     pub(crate) profile: Profile,
     pub(crate) covered: Items<u64>,
     pub(crate) sums: Items<u128>,
-    pub(crate) waiting: Vec<bool>,
+    pub(crate) waiting: Waiting,
 }
 
 impl Coverage {
@@ -43,7 +47,7 @@ impl Coverage {
             profile: Profile::unit(alloc, count)?,
             covered: Items::new(alloc),
             sums: Items::new(alloc),
-            waiting: none_covered(alloc, m, count)?,
+            waiting: Waiting::none_covered(alloc, m, count)?,
         })
     }
 
@@ -72,7 +76,7 @@ impl Coverage {
             self.sums.as_mut_slice(),
             &mut self.profile,
         );
-        add_window(self.waiting.as_mut_slice(), m, last);
+        self.waiting.add_window(m, last);
     }
 
     /// Adds what the last sample brings.
@@ -136,11 +140,11 @@ impl Coverage {
         let sum = sum_of(samples, m, last - diagonal, last);
         self.covered.push(diagonal).unwrap();
         self.sums.push(sum).unwrap();
-        cover(self.waiting.as_mut_slice(), diagonal);
+        self.waiting.cover(diagonal);
     }
 
-    /// Covers the diagonals, of whose pairs this was found.
-    pub(crate) fn cover(&mut self, samples: &mut Samples, m: u32, chosen: &[u64], found: &Profile)
+    /// Covers the diagonals, of whose pairs, and of those that were covered before, this was found.
+    pub(crate) fn cover(&mut self, samples: &mut Samples, m: u32, chosen: &[u64], found: &Found)
         requires shortest { MIN_WINDOW ≤ m }
         requires longest { m ≤ MAX_WINDOW }
         requires few { length samples.old.items ≤ max_samples }
@@ -148,15 +152,18 @@ impl Coverage {
         requires covered_room { length chosen.now ≤ self.old.covered.spare }
         requires sums_room { length chosen.now ≤ self.old.sums.spare }
         requires is_of { IsOf m samples.old.items self.old }
-        requires found { found.now.all ∷ found.now.left ∷ found.now.right ∷ []
-            ≡ columns_value (profile (lie_along chosen.now) m (series_of samples.old.items)) }
+        requires left { length (uncovered m (windows_in (length samples.old.items) m)
+            (self.old.covered.items ++ chosen.now)) + length chosen.now
+            ≡ length (uncovered m (windows_in (length samples.old.items) m) self.old.covered.items) }
+        requires found { columns_of found.now.profile ≡ merged_columns (columns_of (kept_sides self.old.profile))
+            (columns_value (profile (lie_along chosen.now) m (series_of samples.old.items))) }
         ensures is_of { IsOf m samples.old.items self.new }
         ensures covered { self.new.covered.items ≡ self.old.covered.items ++ chosen.now }
         ensures room { room_of self.new ≡ room_of self.old }
         ensures read { OnlyReads (2 * m * length chosen.now) samples.old samples.new }
     {
         let _windows = self.profile.len();
-        self.profile.merge(found);
+        found.put_into(&mut self.profile);
         for diagonal in chosen {
             self.cover_one(samples, m, *diagonal);
         }

@@ -10,14 +10,19 @@ ghost use Rattle.mp_partial.specs.declared.limits.TheConstants.{MAX_PIECES, MAX_
 ghost use Rattle.mp_tiles.specs.Among.{columns_value};
 ghost use Rattle.mp_anytime.specs.Scanning.{AreFree, lie_along};
 ghost use Rattle.mp_anytime.specs.Kept.{IsDiagonal};
+ghost use Rattle.mp_anytime.specs.Bounds.{columns_of, kept_sides};
+ghost use Rattle.mp_partial.specs.Values.{merged_columns};
 
-use crate::along::offer_along;
+use crate::found::Found;
+use crate::kept::Kept;
+use crate::rounded::{Lists, Rounded};
 use mp_nums::{Memory, Sample};
 use mp_outside::Gate;
-use mp_partial::{Kernel, Profile};
+use mp_partial::{Kernel, Part, Profile};
+use mp_scans::Plan;
 use mp_series::{Samples, windows};
 use mp_sums::Grid;
-use mp_workers::{run_all, workers_for};
+use mp_workers::{run_one_after_another, workers_for};
 use std::alloc::Global;
 use std::marker::Model;
 use std::thread::Threads;
@@ -26,8 +31,7 @@ use std::thread::Threads;
 #[derive(Drop)]
 pub(crate) struct Diagonals<'a> {
     /// The windows, each a row and a column.
-    pub(crate) grid: Grid<'a>,
-    pub(crate) free: &'a [bool],
+    pub(crate) rounded: Rounded<'a>,
     pub(crate) offsets: &'a [u64],
 }
 
@@ -36,38 +40,25 @@ impl<'a> Model for Diagonals<'a> {
 
     ghost Value = { Along };
 
-    ghost view = { λ d. record { samples = d.grid.rows.now; m = d.grid.m; offsets = d.offsets.now } };
+    ghost view = { λ d. record {
+      samples = d.rounded.plan.grid.rows.now;
+      m = d.rounded.plan.grid.m;
+      offsets = d.offsets.now;
+    } };
 
-    ghost invariant = { λ d. IsAlong d.grid d.free.now d.offsets.now };
+    ghost invariant = { λ d. IsAlong d.rounded d.offsets.now };
 }
 
 impl<'a> Diagonals<'a> {
-    /// The diagonals of the samples' windows of length `m` on which windows start so far apart. It is known of each
-    /// window whether it is free.
-    pub(crate) fn new(
-        samples: &'a [Sample],
-        m: u32,
-        free: &'a [bool],
-        offsets: &'a [u64],
-    ) -> Diagonals<'a>
-        requires shortest { 1 ≤ m }
-        requires longest { m ≤ MAX_WINDOW }
-        requires free { AreFree m (series_of samples.now) free.now }
-        requires diagonals { All (IsDiagonal m (windows_in (length samples.now) m)) offsets.now }
-        ensures samples { result.samples ≡ samples.now }
-        ensures m { result.m ≡ m }
+    /// The diagonals on which windows of a series start so far apart.
+    pub(crate) fn new(rounded: Rounded<'a>, offsets: &'a [u64]) -> Diagonals<'a>
+        requires { All (IsDiagonal rounded.plan.grid.m
+            (windows_in (length rounded.plan.grid.rows.now) rounded.plan.grid.m)) offsets.now }
+        ensures samples { result.samples ≡ rounded.entry.plan.grid.rows.now }
+        ensures m { result.m ≡ rounded.entry.plan.grid.m }
         ensures offsets { result.offsets ≡ offsets.now }
     {
-        let grid = Grid {
-            rows: samples,
-            columns: samples,
-            m: m as usize,
-        };
-        Diagonals {
-            grid,
-            free,
-            offsets,
-        }
+        Diagonals { rounded, offsets }
     }
 }
 
@@ -77,7 +68,7 @@ impl<'a> Kernel for Diagonals<'a> {
     ghost use Rattle.mp_anytime.specs.Diagonals.{along_size, along_value};
     ghost use Rattle.mp_anytime.specs.DiagonalLaws.{columns_have_places};
 
-    type Out = Profile;
+    type Out = Found;
 
     ghost size_of = { along_size };
 
@@ -89,21 +80,16 @@ impl<'a> Kernel for Diagonals<'a> {
         columns_have_places (lie_apart (slice_index along.offsets piece)) along.m along.samples };
 
     fn size(&self) -> u64 {
-        self.free.len() as u64
+        self.rounded.free.len() as u64
     }
 
     fn pieces(&self) -> u64 {
         self.offsets.len() as u64
     }
 
-    fn run(&self, piece: u64, into: &mut Profile) {
-        let _windows = into.len();
-        offer_along(
-            &self.grid,
-            self.free,
-            self.offsets[piece as usize] as usize,
-            into,
-        );
+    fn run(&self, piece: u64, into: &mut Found) {
+        let _windows = into.size();
+        into.take_along(&self.rounded, self.offsets[piece as usize] as usize);
     }
 }
 
@@ -120,33 +106,54 @@ fn free_windows(alloc: Global, samples: &Samples, m: u32) -> Result<Vec<bool>, M
     Ok(free)
 }
 
-/// What the pairs of windows on the diagonals have together, found by so many workers. A few pairs are left to fewer.
+/// A plan for the windows of a series.
+fn own_plan<'a>(samples: &'a [Sample], m: u32) -> Plan<'a>
+    requires shortest { 1 ≤ m }
+    requires longest { m ≤ MAX_WINDOW }
+    requires few { length samples.now ≤ max_samples }
+    ensures rows { result.grid.rows.now ≡ samples.now }
+    ensures columns { result.grid.columns.now ≡ samples.now }
+    ensures m { result.grid.m ≡ m }
+{
+    Plan::of(Grid {
+        rows: samples,
+        columns: samples,
+        m: m as usize,
+    })
+}
+
+/// What the pairs of windows on the diagonals have together, with what is kept of others, found by so many workers. A
+/// few pairs are left to fewer.
 pub(crate) fn found_along<R: Threads + Sync, G: Gate>(
     rt: &R,
     alloc: Global,
     samples: &mut Samples,
     m: u32,
+    kept: &Profile,
     offsets: &[u64],
     workers: u32,
     gate: &G,
-) -> Result<Profile, Memory>
+) -> Result<Found, Memory>
     requires shortest { 1 ≤ m }
     requires longest { m ≤ MAX_WINDOW }
     requires few { length offsets.now ≤ MAX_PIECES }
     requires diagonals { All (IsDiagonal m (windows_in (length samples.old.items) m)) offsets.now }
     requires some { 1 ≤ workers }
     requires workers { workers ≤ MAX_WORKERS }
-    ensures found { IfOk result (λ found. found.all ∷ found.left ∷ found.right ∷ []
-        ≡ columns_value (profile (lie_along offsets.now) m (series_of samples.old.items))) }
+    requires places { length kept.now.left ≡ windows_in (length samples.old.items) m }
+    ensures found { IfOk result (λ found. columns_of found.profile ≡ merged_columns (columns_of (kept_sides kept.now))
+        (columns_value (profile (lie_along offsets.now) m (series_of samples.old.items)))) }
     ensures few { IfOk result (λ _. length samples.old.items ≤ max_samples) }
     ensures items { samples.new.items ≡ samples.old.items }
     ensures spare { samples.new.spare ≡ samples.old.spare }
     ensures reads_rise { samples.old.reads ≤ samples.new.reads }
 {
+    let _windows = kept.len();
     let free = free_windows(alloc, samples, m)?;
-    let diagonals = Diagonals::new(samples.lend(), m, free.as_slice(), offsets);
-    let pieces = diagonals.pieces();
-    let workers = workers_for(pieces.saturating_mul(diagonals.size()), workers);
-    let found = run_all(rt, alloc, &diagonals, pieces, workers, gate)?;
-    Ok(found)
+    let plan = own_plan(samples.lend(), m);
+    let lists = Lists::of(alloc, &plan, free)?;
+    let diagonals = Diagonals::new(lists.rounded(), offsets);
+    let workers = workers_for(diagonals.pieces().saturating_mul(diagonals.size()), workers);
+    let first = Kept::new(kept, plan.rounding, u64::from(workers));
+    run_one_after_another(rt, alloc, &first, &diagonals, workers, gate)
 }

@@ -12,11 +12,10 @@ ghost use Rattle.mp_results.specs.LazyProfile.{lazy_profile};
 
 use crate::coverage::Coverage;
 use crate::diagonals::found_along;
-use crate::waiting::{choose, count_waiting};
 use mp_nums::{Memory, Sample};
 use mp_outside::Gate;
 use mp_partial::{MAX_WORKERS, Profile};
-use mp_series::{MAX_SAMPLES, MAX_WINDOW, MIN_WINDOW, Samples, windows};
+use mp_series::{MAX_SAMPLES, MAX_WINDOW, MIN_WINDOW, Samples, excl, windows};
 use std::alloc::Global;
 use std::marker::Model;
 use std::thread::Threads;
@@ -117,7 +116,9 @@ impl Anytime {
         ensures succeeds { 0 < self.old.spare → length self.old.items < max_samples → IsOk result }
         ensures reads_rise { self.old.reads ≤ self.new.reads }
         ensures reads { self.new.reads ≤ self.old.reads + 4 * (length self.old.covered + self.old.m) }
+        ensures few { length self.new.covered ≤ windows_in (length self.new.items) self.new.m }
     {
+        let _covered = &self.coverage;
         if self.len() == MAX_SAMPLES {
             return Err(AppendRefusal::Full);
         }
@@ -147,12 +148,22 @@ impl Anytime {
         ensures m { self.new.m ≡ self.old.m }
         ensures spare { self.new.spare ≡ self.old.spare }
         ensures reads_rise { self.old.reads ≤ self.new.reads }
+        ensures few { length self.new.covered ≤ windows_in (length self.new.items) self.new.m }
     {
-        let chosen = choose(alloc, self.coverage.waiting.as_slice(), k)?;
+        let chosen = self.coverage.waiting.choose(alloc, k)?;
         let count = chosen.len() as u64;
         self.coverage.reserve_covered(count)?;
         let chosen = chosen.as_slice();
-        let found = found_along(rt, alloc, &mut self.samples, self.m, chosen, workers, gate)?;
+        let found = found_along(
+            rt,
+            alloc,
+            &mut self.samples,
+            self.m,
+            &self.coverage.profile,
+            chosen,
+            workers,
+            gate,
+        )?;
         self.coverage
             .cover(&mut self.samples, self.m, chosen, &found);
         Ok(count)
@@ -180,7 +191,8 @@ impl Anytime {
         ensures { result
             ≡ length (uncovered self.now.m (windows_in (length self.now.items) self.now.m) self.now.covered) }
     {
-        count_waiting(self.coverage.waiting.as_slice())
+        let diagonals = windows(self.len(), self.m).saturating_sub(excl(self.m) + 1);
+        diagonals - self.covered()
     }
 
     /// How many samples there are. It is no read.

@@ -5,14 +5,19 @@
 //! of the windows that were compared so far, as in SCRIMP, but over a set of pairs that is known.
 #![tactic(auto)]
 
-mod along;
+mod bounds;
 mod coverage;
 mod diagonals;
+mod exacts;
 mod extending;
+mod found;
+mod kept;
 mod laws;
 mod lazy;
 mod pairs;
 mod reversals;
+mod rounded;
+mod sides;
 mod waiting;
 
 pub use laws::{covers_the_next, entries_never_rise, whole_is_the_profile};

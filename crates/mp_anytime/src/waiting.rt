@@ -1,120 +1,229 @@
 //! Which diagonals aren't covered, by their reversals.
 
-ghost use Rattle.std.specs.Prelude.{◌≡◌, ℕ, ◌+◌, ◌<◌, ◌≤◌, ◌==◌, [], ◌∷◌, ◌++◌, if◌then◌else◌};
+ghost use Rattle.std.specs.Prelude.{◌≡◌, ℕ, ◌+◌, ◌*◌, ◌<◌, ◌≤◌, ◌==◌, [], ◌∷◌, ◌++◌, if◌then◌else◌};
 ghost use Rattle.std.specs.Prelude.{List, filter, take, length, slice_index_or, Bool, false, IfOk, OnOk};
 ghost use Rattle.mp_results.specs.Reversal.{reversal as reversal_of};
 ghost use Rattle.mp_results.specs.Covering.{by_reversal, is_covered, uncovered};
-ghost use Rattle.mp_anytime.specs.Kept.{AreWaiting};
+ghost use Rattle.mp_anytime.specs.Waiting.{AreMarks, AreWaiting};
 
 use crate::reversals::{NUMBERS, reversal};
 use mp_nums::Memory;
 use mp_series::excl;
 use std::alloc::Global;
+use std::marker::Model;
 
-/// Notes whether a diagonal isn't covered.
-fn put(waiting: &mut [bool], diagonal: u64, is_waiting: bool)
-    requires places { length waiting.old ≡ NUMBERS }
+/// How many places a block has.
+const PLACES: usize = 512;
+
+/// How many blocks of places there are.
+const BLOCKS: usize = 512;
+
+/// For the reversal of each diagonal, its place, whether the diagonal waits to be covered. What comes next is sought
+/// among the marked blocks alone.
+#[derive(Debug, Drop)]
+pub(crate) struct Waiting {
+    places: Vec<bool>,
+    /// Whether a diagonal may be waiting at one of the places of a block.
+    marks: Vec<bool>,
+}
+
+impl Model for Waiting {
+    ghost Value = { List Bool };
+
+    ghost view = { λ waiting. waiting.places.items };
+
+    ghost invariant = { λ waiting. AreMarks waiting.places.items waiting.marks.items };
+}
+
+/// So many marks, none of which is set.
+fn none_marked(alloc: Global, count: usize) -> Result<Vec<bool>, Memory>
+    ensures places { IfOk result (λ marks. length marks.items ≡ count) }
+    ensures none { IfOk result (λ marks. (place : ℕ) → slice_index_or marks.items place false ≡ false) }
+{
+    Ok(vec![in alloc; false; count]?)
+}
+
+/// Notes whether a diagonal waits.
+fn put(places: &mut [bool], marks: &mut [bool], diagonal: u64, is_waiting: bool)
+    requires marks { AreMarks places.old marks.old }
     requires diagonal { diagonal < NUMBERS }
-    ensures { (place : ℕ) → place < NUMBERS → slice_index_or waiting.new place false
-        ≡ (if reversal_of place == diagonal then is_waiting else slice_index_or waiting.old place false) }
+    ensures marks { AreMarks places.new marks.new }
+    ensures places { (place : ℕ) → place < NUMBERS → slice_index_or places.new place false
+        ≡ (if reversal_of place == diagonal then is_waiting else slice_index_or places.old place false) }
 {
-    waiting[reversal(diagonal) as usize] = is_waiting;
+    let place = reversal(diagonal) as usize;
+    places[place] = is_waiting;
+    marks[place / PLACES] = is_waiting | marks[place / PLACES];
 }
 
-/// With one window more there is one diagonal more, unless it lies in the exclusion zone.
-pub(crate) fn add_window(waiting: &mut [bool], m: u32, windows: u64)
-    requires places { length waiting.old ≡ NUMBERS }
-    requires few { windows < NUMBERS }
-    ensures { (covered : List ℕ) → is_covered covered windows ≡ false → AreWaiting m windows covered waiting.old
-        → AreWaiting m (windows + 1) covered waiting.new }
+/// Whether a diagonal waits at one of some places.
+fn is_any_waiting(places: &[bool]) -> bool
+    ensures { result ≡ false → (k : ℕ) → k < length places.now → slice_index_or places.now k false ≡ false }
 {
-    put(waiting, windows, excl(m) < windows);
-}
-
-/// The diagonals of so many windows, none of which is covered.
-pub(crate) fn none_covered(alloc: Global, m: u32, windows: u64) -> Result<Vec<bool>, Memory>
-    requires { windows ≤ NUMBERS }
-    ensures { IfOk result (λ waiting. AreWaiting m windows [] waiting.items) }
-{
-    let mut waiting = none_waiting(alloc, NUMBERS)?;
-    add_windows(waiting.as_mut_slice(), m, windows);
-    Ok(waiting)
-}
-
-/// So many places, at none of which a diagonal is waiting.
-fn none_waiting(alloc: Global, count: u64) -> Result<Vec<bool>, Memory>
-    ensures places { IfOk result (λ waiting. length waiting.items ≡ count) }
-    ensures none { IfOk result (λ waiting. (place : ℕ) → slice_index_or waiting.items place false ≡ false) }
-{
-    Ok(vec![in alloc; false; count as usize]?)
-}
-
-/// Adds so many windows to none.
-fn add_windows(waiting: &mut [bool], m: u32, windows: u64)
-    requires few { windows ≤ NUMBERS }
-    requires none { AreWaiting m 0 [] waiting.old }
-    ensures { AreWaiting m windows [] waiting.new }
-{
-    for window in 0..windows {
-        add_window(waiting, m, window);
+    let mut is_any = false;
+    for k in 0..places.len() {
+        is_any = is_any | places[k];
     }
+    is_any
 }
 
-/// Covers a diagonal.
-pub(crate) fn cover(waiting: &mut [bool], diagonal: u64)
-    requires places { length waiting.old ≡ NUMBERS }
-    requires diagonal { diagonal < NUMBERS }
-    ensures { (m windows : ℕ) (covered : List ℕ) → AreWaiting m windows covered waiting.old
-        → AreWaiting m windows (covered ++ diagonal ∷ []) waiting.new }
+/// Marks a block where a diagonal waits in it, and no other way.
+fn mark(places: &[bool], marks: &mut [bool], block: usize)
+    requires marks { AreMarks places.now marks.old }
+    requires block { block < BLOCKS }
+    ensures { AreMarks places.now marks.new }
 {
-    put(waiting, diagonal, false);
+    marks[block] = is_any_waiting(&places[PLACES * block..PLACES * block + PLACES]);
 }
 
 /// Chooses the diagonal at a place, where it is waiting and fewer than `count` are chosen.
-fn choose_at(
-    waiting: &[bool],
-    place: usize,
-    count: u64,
-    chosen: &mut Vec<u64>,
-) -> Result<(), Memory>
-    requires place { place < length waiting.now }
-    ensures chosen { (is_waiting : ℕ → Bool) → slice_index_or waiting.now place false ≡ is_waiting (reversal_of place)
+fn choose_at(places: &[bool], place: usize, count: u64, chosen: &mut Vec<u64>) -> Result<(), Memory>
+    requires place { place < length places.now }
+    ensures chosen { (is_waiting : ℕ → Bool) → slice_index_or places.now place false ≡ is_waiting (reversal_of place)
         → chosen.old.items ≡ take count (filter is_waiting (by_reversal place))
         → OnOk result (chosen.new.items ≡ take count (filter is_waiting (by_reversal (place + 1)))) }
     ensures few { length chosen.new.items ≤ length chosen.old.items + 1 }
 {
-    let is_chosen = waiting[place] & ((chosen.len() as u64) < count);
+    let is_chosen = places[place] & ((chosen.len() as u64) < count);
     if is_chosen {
         chosen.push(reversal(place as u64))?;
     }
     Ok(())
 }
 
-/// The next `count` diagonals, or all that aren't covered where these are fewer.
-pub(crate) fn choose(alloc: Global, waiting: &[bool], count: u64) -> Result<Vec<u64>, Memory>
-    requires { length waiting.now ≡ NUMBERS }
+/// The same of all places of a block.
+fn choose_in(places: &[bool], block: usize, count: u64, chosen: &mut Vec<u64>) -> Result<(), Memory>
+    requires block { PLACES * block + PLACES ≤ length places.now }
+    ensures chosen { (is_waiting : ℕ → Bool)
+        → ((place : ℕ) → place < length places.now
+        → slice_index_or places.now place false ≡ is_waiting (reversal_of place))
+        → chosen.old.items ≡ take count (filter is_waiting (by_reversal (PLACES * block)))
+        → OnOk result (chosen.new.items ≡ take count (filter is_waiting (by_reversal (PLACES * block + PLACES)))) }
+    ensures few { length chosen.new.items ≤ length chosen.old.items + PLACES }
+{
+    for k in 0..PLACES {
+        choose_at(places, PLACES * block + k, count, chosen)?;
+    }
+    Ok(())
+}
+
+/// The same, where the block is marked and fewer than `count` are chosen. Else there is nothing to choose in it.
+fn choose_marked(
+    places: &[bool],
+    marks: &[bool],
+    block: usize,
+    count: u64,
+    chosen: &mut Vec<u64>,
+) -> Result<(), Memory>
+    requires marks { AreMarks places.now marks.now }
+    requires block { block < BLOCKS }
+    ensures chosen { (is_waiting : ℕ → Bool)
+        → ((place : ℕ) → place < length places.now
+        → slice_index_or places.now place false ≡ is_waiting (reversal_of place))
+        → chosen.old.items ≡ take count (filter is_waiting (by_reversal (PLACES * block)))
+        → OnOk result (chosen.new.items ≡ take count (filter is_waiting (by_reversal (PLACES * block + PLACES)))) }
+    ensures few { length chosen.new.items ≤ length chosen.old.items + PLACES }
+{
+    let is_asked = marks[block] & ((chosen.len() as u64) < count);
+    if is_asked {
+        choose_in(places, block, count, chosen)?;
+    }
+    Ok(())
+}
+
+/// The same of all blocks.
+fn choose_from(
+    alloc: Global,
+    places: &[bool],
+    marks: &[bool],
+    count: u64,
+) -> Result<Vec<u64>, Memory>
+    requires { AreMarks places.now marks.now }
     ensures chosen { IfOk result (λ chosen. (m windows : ℕ) (covered : List ℕ)
-        → AreWaiting m windows covered waiting.now → chosen.items ≡ take count (uncovered m windows covered)) }
+        → AreWaiting m windows covered places.now → chosen.items ≡ take count (uncovered m windows covered)) }
     ensures few { IfOk result (λ chosen. length chosen.items ≤ NUMBERS) }
 {
     let mut chosen = Vec::new(alloc);
-    for place in 0..waiting.len() {
-        choose_at(waiting, place, count, &mut chosen)?;
+    for block in 0..BLOCKS {
+        choose_marked(places, marks, block, count, &mut chosen)?;
     }
     Ok(chosen)
 }
 
-/// How many diagonals aren't covered.
-pub(crate) fn count_waiting(waiting: &[bool]) -> u64
-    requires { length waiting.now ≡ NUMBERS }
-    ensures { (m windows : ℕ) (covered : List ℕ) → AreWaiting m windows covered waiting.now
-        → result ≡ length (uncovered m windows covered) }
-{
-    let mut count = 0;
-    for place in 0..waiting.len() {
-        if waiting[place] {
-            count += 1;
-        }
+impl Waiting {
+    /// Of no windows no diagonal waits.
+    fn nothing(alloc: Global) -> Result<Waiting, Memory>
+        ensures { IfOk result (λ waiting. (m : ℕ) → AreWaiting m 0 [] waiting) }
+    {
+        Ok(Waiting {
+            places: none_marked(alloc, NUMBERS as usize)?,
+            marks: none_marked(alloc, BLOCKS)?,
+        })
     }
-    count
+
+    /// The diagonals of so many windows, none of which is covered.
+    pub(crate) fn none_covered(alloc: Global, m: u32, windows: u64) -> Result<Waiting, Memory>
+        requires { windows ≤ NUMBERS }
+        ensures { IfOk result (λ waiting. AreWaiting m windows [] waiting) }
+    {
+        let mut waiting = Waiting::nothing(alloc)?;
+        for window in 0..windows {
+            waiting.add_window(m, window);
+        }
+        Ok(waiting)
+    }
+
+    /// Notes whether a diagonal waits.
+    fn put(&mut self, diagonal: u64, is_waiting: bool)
+        requires { diagonal < NUMBERS }
+        ensures each { (place : ℕ) → place < NUMBERS → slice_index_or self.new place false
+            ≡ (if reversal_of place == diagonal then is_waiting else slice_index_or self.old place false) }
+        ensures places { length self.new ≡ NUMBERS }
+    {
+        put(
+            self.places.as_mut_slice(),
+            self.marks.as_mut_slice(),
+            diagonal,
+            is_waiting,
+        );
+    }
+
+    /// With one window more there is one diagonal more, unless it lies in the exclusion zone.
+    pub(crate) fn add_window(&mut self, m: u32, windows: u64)
+        requires { windows < NUMBERS }
+        ensures { (covered : List ℕ) → is_covered covered windows ≡ false → AreWaiting m windows covered self.old
+            → AreWaiting m (windows + 1) covered self.new }
+    {
+        self.put(windows, excl(m) < windows);
+    }
+
+    /// Marks the block of a diagonal where one still waits in it.
+    fn mark(&mut self, diagonal: u64)
+        ensures { self.new ≡ self.old }
+    {
+        mark(
+            self.places.as_slice(),
+            self.marks.as_mut_slice(),
+            reversal(diagonal) as usize / PLACES,
+        );
+    }
+
+    /// Covers a diagonal.
+    pub(crate) fn cover(&mut self, diagonal: u64)
+        requires { diagonal < NUMBERS }
+        ensures { (m windows : ℕ) (covered : List ℕ) → AreWaiting m windows covered self.old
+            → AreWaiting m windows (covered ++ diagonal ∷ []) self.new }
+    {
+        self.put(diagonal, false);
+        self.mark(diagonal);
+    }
+
+    /// The next `count` diagonals, or all that aren't covered where these are fewer.
+    pub(crate) fn choose(&self, alloc: Global, count: u64) -> Result<Vec<u64>, Memory>
+        ensures chosen { IfOk result (λ chosen. (m windows : ℕ) (covered : List ℕ)
+            → AreWaiting m windows covered self.now → chosen.items ≡ take count (uncovered m windows covered)) }
+        ensures few { IfOk result (λ chosen. length chosen.items ≤ NUMBERS) }
+    {
+        choose_from(alloc, self.places.as_slice(), self.marks.as_slice(), count)
+    }
 }

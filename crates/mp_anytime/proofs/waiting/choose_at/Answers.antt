@@ -6,7 +6,7 @@ use Rattle.mp_anytime.proofs.waiting.choose_at.Goals as goal
 
 pub returns-in_ok-push-clause-chosen : goal.returns-in_ok-push-clause-chosen
 returns-in_ok-push-clause-chosen c = λ p is was.
-    let waits = get_or c.args.waiting.now c.args.place false in
+    let waits = get_or c.args.places.now c.args.place false in
     let is_few = nat_lt c.len.result c.args.count in
     let few : c.len.result < c.args.count =
     less_of c.len.result c.args.count (second_true waits is_few c.if-is_chosen.true) in
@@ -17,7 +17,7 @@ returns-in_ok-push-clause-chosen c = λ p is was.
 
 pub returns-else-is_chosen-clause-chosen : goal.returns-else-is_chosen-clause-chosen
 returns-else-is_chosen-clause-chosen c = λ p is was.
-    let waits = get_or c.args.waiting.now c.args.place false in
+    let waits = get_or c.args.places.now c.args.place false in
     let is_few = nat_lt c.len.result c.args.count in
     chosen_same p c.args.place c.args.count c.args.chosen.now.items was waits (sym is)
     (λ yes. omega (

@@ -1,13 +1,12 @@
 use Rattle.std.proofs.Common.{◌≡◌, ◌+◌, ◌-◌, ◌∙◌, arith, drop, get_or, length, refl, subst, sym, take, ◌++◌}
 use Rattle.std.specs.Prelude.{All}
-use Rattle.std.specs.Vec.{with_items}
-use Rattle.std.proofs.lemmas.List.{with_items_is}
 use Rattle.mp_nums.specs.declared.samples.Sample.TheVariants.{Missing}
 use Rattle.mp_defs.specs.Series.{reading_of, series_of}
 use Rattle.mp_defs.specs.SeriesLaws.{series_are_of_samples}
 use Rattle.mp_defs.specs.Window.{windows}
 use Rattle.mp_tiles.specs.Scanning.{IsScanned}
-use Rattle.mp_anytime.specs.Kept.{AreSums, AreWaiting, IsDiagonal, is_last_pair, without_last}
+use Rattle.mp_anytime.specs.Waiting.{AreWaiting}
+use Rattle.mp_anytime.specs.Kept.{AreSums, IsDiagonal, is_last_pair, without_last}
 use Rattle.mp_anytime.proofs.Windows.{front_long, kept_places, last_sample, not_covered, series_with, sums_front}
 use Rattle.mp_anytime.proofs.Windows.{window_added, written_back}
 use Rattle.mp_anytime.proofs.coverage.Coverage.add_window.Goals as goal
@@ -54,8 +53,8 @@ extend_each-requires-clause-sums c =
     (subst (λ xs. AreSums m (series_of items) covered (c.len-last.result - 1) xs) (sym c.as_mut_slice.ensures.value)
     (subst (λ n. AreSums m (series_of items) covered (n - 1) sums) (sym last) here))
 
-pub add_window-requires-clause-few : goal.add_window-requires-clause-few
-add_window-requires-clause-few c =
+pub add_window-requires : goal.add_window-requires
+add_window-requires c =
     let items = c.args.samples.now.items in
     omega (
       arith,
@@ -87,13 +86,10 @@ returns-clause-is_of c =
     let sums : AreSums m (series_of items) covered last c.extend_each.new.sums =
     subst (λ ds. AreSums m (series_of items) ds last c.extend_each.new.sums) c.as_slice.ensures
     c.extend_each.ensures.sums in
-    let waits : AreWaiting m last covered c.as_mut_slice-2.result.now =
-    subst (AreWaiting m last covered) (sym c.as_mut_slice-2.ensures.value)
-    (subst (λ w. AreWaiting m w covered old.waiting.items) (sym place) c.requires.is_of.listed.waiting) in
-    let kept : AreWaiting m (last + 1) covered c.add_window.new.waiting =
+    let waits : AreWaiting m last covered old.waiting =
+    subst (λ w. AreWaiting m w covered old.waiting) (sym place) c.requires.is_of.listed.waiting in
+    let kept : AreWaiting m (last + 1) covered c.add_window.new.self =
     c.add_window.ensures covered (not_covered m last covered all) waits in
-    let written : length c.add_window.new.waiting ≡ old.waiting.len =
-    omega (arith, kept.places, c.requires.is_of.listed.waiting.places, old.waiting.ok.0) in
     window_added c.entries_grow.ensures m items front sample old
     (record {
       profile = c.extend_each.new.profile;
@@ -103,7 +99,7 @@ returns-clause-is_of c =
             (c.extend_each.new.sums ++ drop (length c.extend_each.new.sums) old.sums.items);
         spare = old.sums.spare;
       };
-      waiting = with_items old.waiting c.add_window.new.waiting;
+      waiting = c.add_window.new.self;
     })
     c.grow.new.self last
     (last_sample items (omega arith)) (omega arith) c.requires.long place c.requires.is_of refl c.grow.ensures.left
@@ -111,4 +107,4 @@ returns-clause-is_of c =
     (subst (AreSums m (series_of items) covered last)
     (sym (written_back c.extend_each.new.sums old.sums.items (sums.places ∙ sym c.requires.is_of.listed.lasts.places)))
     sums)
-    (subst (AreWaiting m (last + 1) covered) (sym (with_items_is old.waiting c.add_window.new.waiting written)) kept)
+    kept c.requires.few

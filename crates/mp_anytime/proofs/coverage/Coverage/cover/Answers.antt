@@ -1,22 +1,40 @@
 use Rattle.std.proofs.Common.{◌≡◌, ◌∙◌, ◌++◌, ap, arith, length, subst, sym}
 use Rattle.std.proofs.lemmas.List.{take_all}
+use Rattle.mp_defs.specs.Series.{series_of}
+use Rattle.mp_defs.specs.Profile.{windows_of}
+use Rattle.mp_defs.specs.SeriesLaws.{series_are_of_samples}
 use Rattle.mp_defs.specs.Window.{windows}
+use Rattle.mp_anytime.specs.Waiting.{IsCounted}
 use Rattle.mp_anytime.specs.Kept.{IsAlongCovered}
-use Rattle.mp_anytime.proofs.LazyLemmas.{three}
-use Rattle.mp_anytime.proofs.Windows.{covers_more, found_places, kept_places}
+use Rattle.mp_anytime.proofs.Counting.{counted_behind}
+use Rattle.mp_anytime.specs.Scanning.{AreLater}
+use Rattle.mp_anytime.proofs.Windows.{covers_more, found_earlier, found_later, found_places, is_found, kept_places}
 use Rattle.mp_anytime.proofs.coverage.Coverage.cover.Goals as goal
 
-pub merge-requires : goal.merge-requires
-merge-requires c =
+pub put_into-requires : goal.put_into-requires
+put_into-requires c =
+    let m = c.args.m in
     let items = c.args.samples.now.items in
     let old = c.args.self.now in
+    let chosen = c.args.chosen.now in
+    let found = c.args.found.now.profile in
+    let was = c.requires.is_of.profile in
+    let is = is_found m items chosen old.profile found (sym c.len-windows.ensures.left ∙ c.len-windows.ensures.all)
+    (sym c.len-windows.ensures.right ∙ c.len-windows.ensures.all) c.requires.found in
+    let count : length old.profile.all ≡ windows_of m (series_of items) =
     omega (
       arith,
       c.len-windows.ensures.all,
       c.len-windows.ensures.left,
-      found_places c.args.m items c.args.chosen.now c.args.found.now c.requires.found,
-      kept_places c.args.m items old.covered.items old.profile c.requires.is_of.profile,
-    )
+      kept_places m items old.covered.items old.profile was,
+      series_are_of_samples.windows_are m items,
+    ) in
+    record {
+      places = count ∙ sym (found_places m items old.covered.items chosen old.profile found was is);
+      left = found_earlier m items old.covered.items chosen old.profile found was is;
+      right = subst (λ w. AreLater w found.right) (sym count)
+          (found_later m items old.covered.items chosen old.profile found was is);
+    }
 
 pub returns-clause-is_of : goal.returns-clause-is_of
 returns-clause-is_of c =
@@ -24,15 +42,20 @@ returns-clause-is_of c =
     let items = c.args.samples.now.items in
     let old = c.args.self.now in
     let chosen = c.args.chosen.now in
+    let found = c.args.found.now.profile in
+    let is = is_found m items chosen old.profile found (sym c.len-windows.ensures.left ∙ c.len-windows.ensures.all)
+    (sym c.len-windows.ensures.right ∙ c.len-windows.ensures.all) c.requires.found in
     let covered : c.loop-diagonal.self.covered.items ≡ old.covered.items ++ chosen =
     c.loop-diagonal.invariant.covered
     ∙ ap (λ ds. old.covered.items ++ ds) (take_all c.loop-diagonal.diagonal-index chosen (omega arith)) in
     record {
       listed = c.loop-diagonal.invariant.listed;
+      counted = subst (IsCounted m (windows (length items) m)) (sym covered)
+          (counted_behind m (windows (length items) m) old.covered.items chosen c.requires.left
+          c.requires.is_of.counted);
       profile = subst (λ ds. IsAlongCovered m items ds c.loop-diagonal.self.profile) (sym covered)
           (subst (IsAlongCovered m items (old.covered.items ++ chosen)) (sym c.loop-diagonal.invariant.profile)
-          (covers_more m (windows (length items) m) items old.covered.items chosen old.profile c.args.found.now
-          c.merge.new.self c.requires.is_of.listed.diagonals c.requires.diagonals c.requires.is_of.profile
-          c.requires.found
-          (three _ _ _ _ _ _ c.merge.ensures.all c.merge.ensures.left c.merge.ensures.right)));
+          (covers_more m (windows (length items) m) items old.covered.items chosen old.profile found
+          c.put_into.new.profile c.requires.is_of.listed.diagonals c.requires.diagonals c.requires.is_of.profile
+          is c.put_into.ensures.left c.put_into.ensures.right));
     }

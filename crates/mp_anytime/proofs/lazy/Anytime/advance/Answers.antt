@@ -1,9 +1,12 @@
-use Rattle.std.proofs.Common.{length, subst, sym}
+use Rattle.std.proofs.Common.{◌≡◌, ◌+◌, ◌++◌, length, subst, sym}
 use Rattle.std.specs.Prelude.{All, List}
 use Rattle.mp_nums.specs.declared.samples.Sample.{Sample}
 use Rattle.mp_defs.specs.Window.{windows}
-use Rattle.mp_anytime.specs.Kept.{AreWaiting, IsDiagonal}
+use Rattle.mp_results.specs.Covering.{uncovered}
+use Rattle.mp_anytime.specs.Kept.{IsDiagonal}
 use Rattle.mp_anytime.proofs.Choosing.{chosen_lie}
+use Rattle.mp_anytime.proofs.Counting.{left_of_chosen}
+use Rattle.mp_anytime.proofs.Windows.{kept_places}
 use Rattle.mp_anytime.proofs.lazy.Anytime.advance.Goals as goal
 
 pub found_along-requires-clause-diagonals : goal.found_along-requires-clause-diagonals
@@ -15,7 +18,7 @@ found_along-requires-clause-diagonals g c = λ _ _.
     subst (All (IsDiagonal m w)) (sym c.as_slice-chosen.ensures.value)
     (chosen_lie m w c.args.k covered c.in_ok-chosen.chosen.items
     (c.in_ok-chosen.ensures.chosen m w covered
-    (subst (AreWaiting m w covered) (sym c.as_slice.ensures.value) c.self.invariant.2.listed.waiting)))
+    c.self.invariant.2.listed.waiting))
 
 pub cover-requires-clause-diagonals : goal.cover-requires-clause-diagonals
 cover-requires-clause-diagonals g c =
@@ -28,4 +31,30 @@ cover-requires-clause-diagonals g c =
     (subst (All (IsDiagonal m w)) (sym c.as_slice-chosen.ensures.value)
     (chosen_lie m w c.args.k covered c.in_ok-chosen.chosen.items
     (c.in_ok-chosen.ensures.chosen m w covered
-    (subst (AreWaiting m w covered) (sym c.as_slice.ensures.value) c.self.invariant.2.listed.waiting))))
+    c.self.invariant.2.listed.waiting)))
+
+pub cover-requires-clause-left : goal.cover-requires-clause-left
+cover-requires-clause-left g c =
+    let inside = c.self.inside in
+    let m = inside.m in
+    let w = windows (length inside.samples.items) m in
+    let covered = inside.coverage.covered.items in
+    let chosen = c.as_slice-chosen.result.now in
+    subst (λ ds. length (uncovered m (windows (length c.found_along.new.samples.items) m) (ds ++ chosen))
+    + length chosen
+    ≡ length (uncovered m (windows (length c.found_along.new.samples.items) m) ds))
+    (sym c.reserve_covered.ensures.covered)
+    (subst (λ (items : List Sample). length (uncovered m (windows (length items) m) (covered ++ chosen))
+    + length chosen ≡ length (uncovered m (windows (length items) m) covered))
+    (sym c.in_ok-found.ensures.items)
+    (subst (λ ds. length (uncovered m w (covered ++ ds)) + length ds ≡ length (uncovered m w covered))
+    (sym c.as_slice-chosen.ensures.value)
+    (left_of_chosen m w c.args.k covered c.in_ok-chosen.chosen.items
+    (c.in_ok-chosen.ensures.chosen m w covered c.self.invariant.2.listed.waiting))))
+
+pub found_along-requires-clause-places : goal.found_along-requires-clause-places
+found_along-requires-clause-places g c = λ _ _.
+    let inside = c.self.inside in
+    kept_places inside.m inside.samples.items c.reserve_covered.new.self.covered.items
+    c.reserve_covered.new.self.profile
+    (c.in_ok-reserve_covered.ensures.is_of inside.m inside.samples.items c.self.invariant.2).profile

@@ -1,0 +1,15 @@
+use Rattle.std.proofs.Common.{ap, arith, length}
+use Rattle.mp_anytime.specs.Bounds.{Bounded}
+use Rattle.mp_anytime.proofs.found.Found.refresh.Goals as goal
+
+pub refresh_from-requires : goal.refresh_from-requires
+refresh_from-requires c =
+    omega (arith, c.requires.row, ap (λ (v : Bounded). length v.profile.right) c.self.view_is)
+
+pub refresh_from-requires-2 : goal.refresh_from-requires-2
+refresh_from-requires-2 c =
+    omega (
+      arith,
+      c.requires.column,
+      ap (λ (v : Bounded). length v.profile.left) c.self.view_is,
+    )

@@ -1,0 +1,20 @@
+use Rattle.std.proofs.Common.{◌≡◌, ◌+◌, ◌-◌, arith, length, subst}
+use Rattle.mp_anytime.specs.Scanning.{is_pair_from}
+use Rattle.mp_anytime.specs.Bounds.{AreTaken}
+use Rattle.mp_anytime.proofs.Quiet.{none_taken}
+use Rattle.mp_anytime.proofs.found.Found.take_rest.Goals as goal
+
+pub returns-then-row-end : goal.returns-then-row-end
+returns-then-row-end c =
+    let end = length c.args.rounded.now.free.now - c.args.offset in
+    let all : c.args.row + (end - c.args.row) ≡ end = omega (arith, c.if-row-end.true) in
+    subst (λ q. AreTaken c.args.rounded.now.plan (is_pair_from c.args.offset c.args.row q) c.args.self.now
+    c.take_pairs.new.self) all c.take_pairs.ensures
+
+pub returns-else-row-end : goal.returns-else-row-end
+returns-else-row-end c =
+    let end = length c.args.rounded.now.free.now - c.args.offset in
+    let none : c.args.row ≡ end = omega (arith, c.if-row-end.false, c.requires.within) in
+    subst (λ q. AreTaken c.args.rounded.now.plan (is_pair_from c.args.offset c.args.row q) c.args.self.now
+    c.args.self.now) none
+    (none_taken c.args.rounded.now.plan c.args.offset c.args.row c.args.self.now c.requires.for_these)

@@ -1,0 +1,6 @@
+use Rattle.std.proofs.Common.{◌≡◌, ℕ, ◌<◌, get_or}
+use Rattle.std.specs.Prelude.{None}
+use Rattle.mp_anytime.proofs.sides.copy_slots.Given as goal
+
+abbrev pub invariant-loop-place : goal.invariant-loop-place
+invariant-loop-place l = (q : ℕ) → q < l.place → get_or l.slots q None ≡ get_or l.others q None

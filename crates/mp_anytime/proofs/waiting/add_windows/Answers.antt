@@ -1,5 +1,0 @@
-use Rattle.std.proofs.Common.{[], refl}
-use Rattle.mp_anytime.proofs.waiting.add_windows.Goals as goal
-
-pub loop-window-preserved : goal.loop-window-preserved
-loop-window-preserved c = c.add_window.ensures [] refl c.loop-window.invariant

@@ -1,6 +1,0 @@
-use Rattle.std.proofs.Common.{[]}
-use Rattle.mp_anytime.specs.Kept.{AreWaiting}
-use Rattle.mp_anytime.proofs.waiting.add_windows.Given as goal
-
-abbrev pub invariant-loop-window : goal.invariant-loop-window
-invariant-loop-window l = AreWaiting l.m l.window [] l.waiting
