@@ -1,5 +1,5 @@
 -- What an advance prepares.
-use Rattle.std.proofs.Common.{◌≡◌, ℕ, zero, suc, ◌+◌, ◌-◌, ◌<◌, ◌≤◌, List, [], ◌∷◌, ◌++◌, length, refl, ap, ◌∙◌, sym, arith}
+use Rattle.std.proofs.Common.{◌≡◌, ℕ, zero, suc, ◌+◌, ◌-◌, ◌<◌, ◌≤◌, List, [], ◌∷◌, length, refl, ap, ◌∙◌, sym, arith}
 use Rattle.std.specs.Prelude.{min, take, None, slice_set}
 use Rattle.std.proofs.lemmas.List.{length-append, length-map, length-take}
 use Rattle.mp_defs.specs.Series.{Series, series_of, reading_of}
@@ -7,7 +7,7 @@ use Rattle.mp_defs.specs.Window.{windows}
 use Rattle.mp_results.specs.Covering.{Covering, advanced, uncovered}
 use Rattle.mp_results.specs.Reversal.{numbers}
 use Rattle.mp_anytime.specs.Laws.{CoversTheNext}
-use Rattle.mp_replies.specs.AdvanceCommand.{advance_conditions, advance_report}
+use Rattle.mp_replies.specs.AdvanceCommand.{advance_conditions}
 use Rattle.mp_replies.specs.Change as change
 use Rattle.mp_replies.specs.Change.{covered_further}
 use Rattle.mp_replies.specs.Command as asked

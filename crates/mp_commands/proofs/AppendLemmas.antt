@@ -14,7 +14,6 @@ use Rattle.std.proofs.lemmas.List.Sums.{count_by-le-length}
 use Rattle.std.proofs.lemmas.Simd.{map-map}
 use Rattle.mp_nums.specs.declared.widths.Width.{Width}
 use Rattle.mp_bytes.specs.Values.{is_comma, values_in}
-use Rattle.mp_defs.specs.Limits.{max_samples}
 use Rattle.mp_defs.specs.Series.{Series, reading_of, series_of}
 use Rattle.mp_nums.specs.declared.samples.Sample.{Sample}
 use Rattle.mp_text.specs.Rows.{Row, column_at, columns_of, onto}

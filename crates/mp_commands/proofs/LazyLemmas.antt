@@ -1,7 +1,7 @@
 -- What a load of a series prepares whose profile is made in parts.
-use Rattle.std.proofs.Common.{◌≡◌, ℕ, zero, suc, ◌<◌, ◌≤◌, Bool, List, [], ◌∷◌, length, map, refl, ap, ◌∙◌, sym, arith}
+use Rattle.std.proofs.Common.{◌≡◌, ℕ, ◌<◌, ◌≤◌, Bool, List, [], ◌∷◌, length, map, refl, ap, ◌∙◌, sym, arith}
 use Rattle.std.proofs.Common.{slice_index_or}
-use Rattle.std.specs.Prelude.{All, Some, None, Option, Result, Ok, Err, is_none, slice_get}
+use Rattle.std.specs.Prelude.{All, Some, None, Option, Ok, is_none, slice_get}
 use Rattle.std.proofs.lemmas.List.{length-map}
 use Rattle.std.proofs.lemmas.List.Elements.{All-head}
 use Rattle.mp_nums.specs.declared.samples.Sample.{Sample}
@@ -17,7 +17,7 @@ use Rattle.mp_replies.specs.Limits.{max_file}
 use Rattle.mp_replies.specs.Line.{Asks}
 use Rattle.mp_replies.specs.LoadCommand.{channels_of, file_conditions, file_in, series_in, table_in}
 use Rattle.mp_replies.specs.State.{Files, State, Lazy, samples_in}
-use Rattle.mp_stores.specs.Stores.{StandFor, Stored}
+use Rattle.mp_stores.specs.Stores.{Stored}
 use Rattle.mp_requests.specs.declared.answers.Answer.TheVariants.{Accepted, Refused}
 use Rattle.mp_requests.specs.declared.context.Context.{Context}
 use Rattle.mp_requests.specs.declared.reports.Report.TheVariants as report

@@ -20,7 +20,8 @@ use Rattle.mp_stores.specs.Stores.{Stored, AreEven, CanOpen, HasRoomIn, StandFor
 use Rattle.mp_requests.specs.declared.context.Context.{Context}
 use Rattle.mp_requests.specs.Answering.{IsAnswer, IsUnrefused, state_over}
 use Rattle.mp_results.specs.Covering.{Covering}
-use Rattle.mp_requests.specs.Requests.{IsLazySlot, NamesChannels, is_accepted, is_ended, kind_by, mode_asked, mode_named}
+use Rattle.mp_requests.specs.Requests.{IsLazySlot, NamesChannels, is_accepted, is_ended, kind_by, mode_asked}
+use Rattle.mp_requests.specs.Requests.{mode_named}
 use Rattle.mp_commands.specs.declared.prepared.Change.{Change}
 use Rattle.mp_commands.specs.declared.prepared.Change.TheVariants.{Keep, PutChannels, PutKept, PutLazy}
 use Rattle.mp_commands.specs.declared.prepared.Change.TheVariants.{AddSamples, Advance}

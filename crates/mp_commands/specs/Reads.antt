@@ -7,11 +7,10 @@ use Rattle.mp_requests.specs.Reads.{most_lent}
 use Rattle.mp_stores.specs.Stores.{Held, Kept, Lazy, Stored, count_in, slot_at, streams_in}
 
 -- the most reads of an append of so many items: for each of them four times the windows of each channel and the samples
--- of one, in a kept slot four times the samples that are kept and those of a window, and in a lazy one four times the
--- diagonals that are covered and the samples of a window
+-- of one, and in a kept slot four times the samples that are kept and those of a window
 abbrev pub reads_for_items : ℕ → Held → ℕ → ℕ
 reads_for_items m (Kept kept) items = items * (4 * (kept.keep + m))
-reads_for_items m (Lazy part) items = items * (4 * (length part.covered + m))
+reads_for_items m (Lazy part) items = items * (4 * (windows (length part.items + items) m + m))
 reads_for_items m held items =
     length (streams_in held) * (items * (4 * (windows (count_in (streams_in held) + items) m + m)))
 

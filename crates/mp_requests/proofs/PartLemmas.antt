@@ -1,9 +1,9 @@
 -- Lazy slots: what is reported of them, by what stands there in the stores that the slots stand for.
-use Rattle.std.proofs.Common.{◌≡◌, ◌∙◌, ℕ, List, [], ◌∷◌, length, ap, sym}
+use Rattle.std.proofs.Common.{◌≡◌, ◌∙◌, ℕ, List, [], length, ap, sym}
 use Rattle.std.specs.Prelude.{slice_index_or}
 use Rattle.std.proofs.lemmas.List.{length-map}
 use Rattle.mp_defs.specs.Profile.{Columns}
-use Rattle.mp_defs.specs.Series.{Series, reading_of, series_of}
+use Rattle.mp_defs.specs.Series.{reading_of, series_of}
 use Rattle.mp_defs.specs.Window.{windows}
 use Rattle.mp_partial.specs.Profiled.{Profiled}
 use Rattle.mp_results.specs.Covering.{Covering, uncovered}
@@ -11,7 +11,7 @@ use Rattle.mp_results.specs.LazyProfile.{lazy_profile}
 use Rattle.mp_replies.specs.Command.{Report, PartialReport}
 use Rattle.mp_replies.specs.PartialCommand.{partial_report}
 use Rattle.mp_replies.specs.Profiles.{columns_in}
-use Rattle.mp_replies.specs.State.{State, Store, channels_in, covered_in, samples_in, store_at}
+use Rattle.mp_replies.specs.State.{State, Store, channels_in, covered_in, samples_in}
 use Rattle.mp_stores.specs.StoreLaws.{part_stands}
 use Rattle.mp_stores.specs.Stores.{Lazy, Stored, slot_at}
 use Rattle.mp_requests.specs.Requests.{AreSlotsOf, part_report}

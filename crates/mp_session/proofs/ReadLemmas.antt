@@ -50,7 +50,7 @@ add_reads_in m (held.Kept kept) count added room each =
     ap (λ (c : ℕ). c * (4 * (kept.keep + m))) same
 add_reads_in m (held.Lazy part) count added room each =
     let same : count_of added ≡ count = count_is added count (omega (arith, room.one)) each in
-    ap (λ (c : ℕ). c * (4 * (length part.covered + m))) same
+    ap (λ (c : ℕ). c * (4 * (windows (length part.items + c) m + m))) same
 
 pub add_reads : (stored : Stored) (slot count : ℕ) (added : List (List Sample))
     → HasRoomIn (slot_at stored slot) added → All (λ samples. length samples ≡ count) added
@@ -80,7 +80,7 @@ reads_same_in m count (held.Lazy old) held.Closed same = absurd same
 reads_same_in m count (held.Lazy old) (held.Open new) same = absurd same
 reads_same_in m count (held.Lazy old) (held.Kept new) same = absurd same
 reads_same_in m count (held.Lazy old) (held.Lazy new) same =
-    ap (λ (part : Covering). count * (4 * (length part.covered + m))) same
+    ap (λ (part : Covering). count * (4 * (windows (length part.items + count) m + m))) same
 
 -- an append reads as much where the slots hold what they held
 append_reads_same : (old new : Stored) → StandAsBefore old new → (slot count : ℕ)

@@ -400,8 +400,8 @@ was_covered m old new (list ∷ []) can grown is = record {
   risen = record {
     rise = grown.rise;
     most_reads =
-        subst (λ (n : ℕ). new.reads ≤ old.reads + length list * (4 * (length old.covered + n))) is.window
-        grown.most_reads;
+        subst (λ (n : ℕ). new.reads ≤ old.reads + length list * (4 * (windows (length old.items + length list) n + n)))
+        is.window grown.most_reads;
   };
   stands = λ store stands. part_grown old new list grown store stands;
 }

@@ -73,7 +73,7 @@ pub record PartHasGrown (samples : List Sample) (old new : Covering) : Type 0 wh
   pub covered_are : new.covered ≡ old.covered
   pub window_is : new.m ≡ old.m
   pub rise : old.reads ≤ new.reads
-  pub most_reads : new.reads ≤ old.reads + length samples * (4 * (length old.covered + old.m))
+  pub most_reads : new.reads ≤ old.reads + reads_for old.m (length old.items) (length samples)
 
 -- and to a slot that isn't closed
 abbrev pub HasGrownBy : List (List Sample) → Held → Held → Type 0

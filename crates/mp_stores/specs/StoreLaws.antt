@@ -1,6 +1,6 @@
 -- What is read of the stores is read of the slots.
 use Rattle.std.specs.Prelude.{◌≡◌, ◌↔◌, ◌==◌, ℕ, ◌<◌, List, [], ◌∷◌, length, map, slice_index_or}
-use Rattle.std.specs.Prelude.{None, false, true}
+use Rattle.std.specs.Prelude.{None, false}
 use Rattle.std.proofs.Common.{zero, suc, refl, ap, ◌∙◌, sym, arith, subst}
 use Rattle.std.proofs.lemmas.Bool.Decides.{nat_tests}
 use Rattle.std.proofs.lemmas.List.{length-map}
@@ -9,12 +9,12 @@ use Rattle.mp_defs.specs.Series.{Series, reading_of, series_of}
 use Rattle.mp_nums.specs.declared.samples.Sample.{Sample}
 use Rattle.mp_replies.specs.declared.refs.Ref.{Ref}
 use Rattle.mp_replies.specs.State as states
-use Rattle.mp_replies.specs.State.{Store, channels_at, channels_in, covered_at, covered_in, is_closed, keep_at, keep_in}
+use Rattle.mp_replies.specs.State.{Store, channels_at, channels_in, is_closed, keep_at, keep_in}
 use Rattle.mp_replies.specs.State.{samples_in, series_at, store_at}
 use Rattle.mp_stores.specs.Stores.{Held, Closed, Open, Kept, Lazy, HoldsAsBefore, IsChannel, StandAsBefore, StandFor}
 use Rattle.mp_stores.specs.Stores.{StandForStore, StandsForAll, Stored, channel_at, channel_count, channel_series}
 use Rattle.mp_stores.specs.Stores.{count_in, count_of, items_in, keep_of, lasting, nothing, sample_count, series_in}
-use Rattle.mp_stores.specs.Stores.{is_lazy, lasting_part, slot_at, streams_at, streams_in}
+use Rattle.mp_stores.specs.Stores.{is_lazy, slot_at, streams_at, streams_in}
 use Rattle.mp_results.specs.Covering.{Covering}
 use Rattle.mp_stream.specs.Kept.{Keeping}
 use Rattle.mp_stream.specs.Streams.{Streamed}
@@ -164,8 +164,8 @@ samples_stand stored stores slot stand =
     samples_counted (slot_at stored slot) (store_at stores slot) (stand.each slot)
 
 pub is_closed_stands : (stored : Stored) (stores : List Store) (slot : ℕ) → StandFor stored stores
-    → (streams_at stored slot ≡ [] → keep_of (slot_at stored slot) ≡ None → is_lazy (slot_at stored slot) ≡ false
-    → slot_at stored slot ≡ Closed)
+    → (streams_at stored slot ≡ [] → keep_of (slot_at stored slot) ≡ None
+    → is_lazy (slot_at stored slot) ≡ false → slot_at stored slot ≡ Closed)
     → is_closed (store_at stores slot) ≡ (channel_count (slot_at stored slot) == 0)
 is_closed_stands stored stores slot stand none =
     closed_by_count (slot_at stored slot) (store_at stores slot) none (stand.each slot)
@@ -203,7 +203,8 @@ channels_stand stored stores slot stand some =
     channels_are (slot_at stored slot) (store_at stores slot) some (stand.each slot)
 
 -- the series of a channel
-pub series_stands : (stored : Stored) (stores : List Store) (at : Ref) → StandFor stored stores → IsChannel stored at
+pub series_stands : (stored : Stored) (stores : List Store) (at : Ref)
+    → StandFor stored stores → IsChannel stored at
     → series_at stores at ≡ channel_series stored at
 series_stands stored stores at stand there =
     let some = there.channel in

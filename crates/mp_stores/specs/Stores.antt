@@ -305,12 +305,11 @@ lent_of held channel = length (stream_in held channel).items * length (stream_in
 abbrev pub lent_once : Stored → Ref → ℕ → ℕ
 lent_once stored at slot = if slot == at.slot then lent_of (slot_at stored at.slot) at.channel else 0
 
--- the most by which samples that are added raise the count of a slot: for each of them four times its channel's windows
--- and the samples of one, in a kept slot four times the samples that are kept and those of a window, and in a lazy one
--- four times the diagonals that are covered and the samples of a window
+-- the most by which samples that are added raise the count of a slot: for each of them four times the windows of each
+-- of its channels and the samples of one, and in a kept slot four times the samples that are kept and those of a window
 abbrev pub added_reads : ℕ → Held → List (List Sample) → ℕ
 added_reads m (Kept kept) added = count_of added * (4 * (kept.keep + m))
-added_reads m (Lazy part) added = count_of added * (4 * (length part.covered + m))
+added_reads m (Lazy part) added = count_of added * (4 * (windows (length part.items + count_of added) m + m))
 added_reads m held added =
     length added
     * (count_of added

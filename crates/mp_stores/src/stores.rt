@@ -345,9 +345,8 @@ impl Stores {
     }
 
     /// Appends to each channel of a slot its samples, as many to each, for which there is room. For each of them it
-    /// reads no more than four samples for each window and for each sample of one, in a kept slot no more than four for
-    /// each sample that may be kept and for each sample of a window, and in a lazy one no more than four for each
-    /// diagonal that is covered and for each sample of a window.
+    /// reads no more than four samples for each window and for each sample of one, and in a kept slot no more than four
+    /// for each sample that may be kept and for each sample of a window.
     pub fn add(&mut self, slot: u64, added: &[Vec<Sample>])
         requires slot { slot < SLOTS }
         requires room { HasRoomIn (slot_at self.old slot) (lists_in added.now) }

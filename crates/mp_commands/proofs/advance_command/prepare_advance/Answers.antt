@@ -1,12 +1,9 @@
-use Rattle.std.proofs.Common.{◌+◌, ◌≡◌, ◌∙◌, ℕ, List, ap, length, refl, subst, sym}
-use Rattle.std.proofs.lemmas.List.{length-map}
-use Rattle.mp_defs.specs.Series.{reading_of, series_of}
-use Rattle.mp_defs.specs.Window.{windows}
-use Rattle.mp_results.specs.Covering.{advanced, uncovered}
+use Rattle.std.proofs.Common.{List, refl}
+use Rattle.mp_defs.specs.Series.{series_of}
+use Rattle.mp_results.specs.Covering.{advanced}
 use Rattle.mp_stores.specs.StoreLaws.{part_stands}
 use Rattle.mp_requests.specs.Answering.{state_over}
 use Rattle.mp_commands.proofs.AdvanceLemmas.{advanced_is, done_for, left_for}
-use Rattle.mp_commands.proofs.StepLemmas.{prepared_refused}
 use Rattle.mp_commands.proofs.advance_command.prepare_advance.Goals as goal
 
 pub returns-clause-prepared : goal.returns-clause-prepared

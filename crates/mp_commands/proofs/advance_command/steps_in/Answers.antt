@@ -1,4 +1,4 @@
-use Rattle.std.proofs.Common.{◌≡◌, ◌∙◌, arith, sym}
+use Rattle.std.proofs.Common.{arith}
 use Rattle.mp_commands.proofs.advance_command.steps_in.Goals as goal
 
 pub steps_of-requires-clause-shortest : goal.steps_of-requires-clause-shortest

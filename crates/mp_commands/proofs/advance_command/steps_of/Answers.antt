@@ -1,6 +1,5 @@
-use Rattle.std.proofs.Common.{◌+◌, ◌∙◌, ℕ, ap, arith, length, sym}
+use Rattle.std.proofs.Common.{arith, length}
 use Rattle.mp_defs.specs.Window.{windows}
-use Rattle.mp_results.specs.Covering.{uncovered}
 use Rattle.mp_commands.proofs.AdvanceLemmas.{covered_more, left_behind}
 use Rattle.mp_commands.proofs.advance_command.steps_of.Goals as goal
 

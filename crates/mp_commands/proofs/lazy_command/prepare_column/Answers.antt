@@ -1,4 +1,4 @@
-use Rattle.std.proofs.Common.{◌≡◌, ◌∙◌, ◌∷◌, [], refl, ap, arith, length, map, sym}
+use Rattle.std.proofs.Common.{◌∙◌, ◌∷◌, [], refl, arith, length, map, sym}
 use Rattle.mp_defs.specs.Series.{series_of}
 use Rattle.mp_text.specs.SampleText.{reading}
 use Rattle.mp_text.specs.Table.{data_records}

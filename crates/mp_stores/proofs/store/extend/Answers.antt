@@ -1,7 +1,6 @@
-use Rattle.std.proofs.Common.{◌≡◌, ◌+◌, ◌<◌, ◌≤◌, ◌∙◌, List, [], ◌∷◌, ◌++◌, ap, arith, length, subst, sym, take}
+use Rattle.std.proofs.Common.{◌≡◌, ◌+◌, ◌∙◌, List, [], ◌∷◌, ◌++◌, ap, arith, length, subst, sym, take}
 use Rattle.std.proofs.lemmas.List.{length-take-le, length-append, take_more}
 use Rattle.mp_nums.specs.declared.samples.Sample.{Sample}
-use Rattle.mp_defs.specs.Limits.{max_samples}
 use Rattle.mp_stores.specs.Channels.{PartHasGrown}
 use Rattle.mp_stores.proofs.PartLemmas.{none_extended, one_extended}
 use Rattle.mp_stores.proofs.store.extend.Goals as goal
@@ -34,6 +33,6 @@ loop-sample-preserved c =
           subst (λ (list : List Sample). PartHasGrown list c.args.part.now c.append.new.self) next
           (one_extended (take i samples) one c.args.part.now c.loop-sample.part c.append.new.self
           c.loop-sample.invariant.grown (rw c.unwrap.ensures at c.append.ensures.ok) c.append.ensures.covered
-          c.append.ensures.m c.append.ensures.reads_rise c.append.ensures.reads);
+          c.append.ensures.m c.append.ensures.reads_rise c.append.ensures.reads c.append.ensures.few);
       spare = omega (arith, spare, c.append.ensures.spare);
     }

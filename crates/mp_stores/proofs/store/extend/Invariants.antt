@@ -1,4 +1,4 @@
-use Rattle.std.proofs.Common.{◌+◌, ◌≤◌, length, take}
+use Rattle.std.proofs.Common.{◌+◌, ◌≤◌, take}
 use Rattle.mp_stores.specs.Channels.{PartHasGrown}
 use Rattle.mp_stores.proofs.store.extend.Given as goal
 

@@ -1,4 +1,4 @@
-use Rattle.std.proofs.Common.{◌∙◌, ◌≤◌, ℕ, Ok, ap, refl, rules, sym, subst}
+use Rattle.std.proofs.Common.{◌∙◌, ◌≤◌, Ok, ap, refl, rules, sym, subst}
 use Rattle.mp_replies.specs.Line.{asked_of}
 use Rattle.mp_replies.specs.State.{first_version, second_version}
 use Rattle.mp_replies.specs.declared.modes.Mode.{Mode}

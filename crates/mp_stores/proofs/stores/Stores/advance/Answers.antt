@@ -1,9 +1,5 @@
-use Rattle.std.proofs.Common.{◌≡◌, ◌≤◌, true, set, subst, sym}
-use Rattle.std.specs.Prelude.{OnErr, OnOk, Result, Ok, Err}
-use Rattle.mp_replies.specs.Change.{CoverNext}
-use Rattle.mp_stores.specs.Channels.{HasAdvanced}
-use Rattle.mp_stores.specs.Seen.{held_of}
-use Rattle.mp_stores.specs.Stores.{Held, HoldsAsBefore, StandAsBefore, StandChanged, is_lazy, reads_of, slot_at}
+use Rattle.std.proofs.Common.{◌≡◌, true, set, subst, sym}
+use Rattle.mp_stores.specs.Stores.{Held, is_lazy}
 use Rattle.mp_stores.proofs.StoreLemmas.{AreSeen, WasAdvanced, seen_advanced, slot_seen, view}
 use Rattle.mp_stores.proofs.stores.Stores.advance.Goals as goal
 

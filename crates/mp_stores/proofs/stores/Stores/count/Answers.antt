@@ -1,4 +1,4 @@
-use Rattle.std.proofs.Common.{◌∙◌, ℕ, ap, length, subst, sym}
+use Rattle.std.proofs.Common.{◌∙◌, ℕ, ap, subst, sym}
 use Rattle.std.specs.Prelude.{◌==◌}
 use Rattle.mp_stores.specs.StoreLaws.{count_stands, is_closed_stands}
 use Rattle.mp_stores.specs.Stores.{AreChannels, Held, channel_count, keep_of, streams_in}

@@ -1,4 +1,4 @@
-use Rattle.std.proofs.Common.{◌≡◌, ◌∙◌, sym}
+use Rattle.std.proofs.Common.{◌∙◌, sym}
 use Rattle.std.proofs.lemmas.Bool.{OnFalse_from}
 use Rattle.mp_stores.specs.StoreLaws.{lazy_stands, open_counted}
 use Rattle.mp_stores.specs.Stores.{is_lazy, slot_at}

@@ -2,7 +2,7 @@ use Rattle.std.proofs.Common.{◌≤◌, ◌∙◌, ℕ, ap, subst, sym}
 use Rattle.std.specs.Prelude.{Option}
 use Rattle.mp_replies.specs.AppendCommand.{most_samples}
 use Rattle.mp_stores.specs.StoreLaws.{samples_stand}
-use Rattle.mp_stores.specs.Stores.{Held, keep_of, sample_count, slot_at}
+use Rattle.mp_stores.specs.Stores.{Held, keep_of, sample_count}
 use Rattle.mp_stores.proofs.stores.Stores.len.Goals as goal
 
 -- ---- a kept slot
