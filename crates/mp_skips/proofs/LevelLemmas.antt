@@ -10,6 +10,7 @@ use Rattle.mp_defs.specs.Series.{series_of, reading_of}
 use Rattle.mp_scans.specs.Windows.{row_windows, column_windows}
 use Rattle.mp_sums.specs.Grids.{distance_in}
 use Rattle.mp_skips.specs.declared.sums.Coarse.{Coarse}
+use Rattle.mp_skips.specs.declared.sums.Units.{Units}
 use Rattle.mp_skips.specs.declared.sums.TheConstants.{MOST_GRAINS, NO_NEED}
 use Rattle.mp_skips.specs.Totals.{total, gap, square_gap, squares_from, level}
 use Rattle.mp_skips.specs.Sums.{number_in}
@@ -76,6 +77,39 @@ square_small coarse i j =
     let h = gap_small (number_in coarse.rows.levels.now i) (number_in coarse.columns.levels.now j)
     coarse.rows.units.step.slack (coarse.rows.lists.small_levels i) (coarse.columns.lists.small_levels j) in
     omega (arith, mul-le _ _ (2 ^ 24) (2 ^ 24) h h)
+
+-- the levels of narrow series
+narrow_level : (p step width : ℕ) → p * step ≤ width → width < 8192 * step → p < 8192
+narrow_level p step width le lt = elim (cases_lt p 8192) [
+  | inl l ↦ l
+  | inr ge ↦ absurd (omega (arith, mul-le 8192 step p step ge (omega arith), le, lt))
+]
+
+narrow_row : (coarse : Coarse) (p : ℕ) → coarse.rows.units.width < 8192 * coarse.rows.units.step.size
+    → number_in coarse.rows.levels.now p < 8192
+narrow_row coarse p lt =
+    narrow_level (number_in coarse.rows.levels.now p) coarse.rows.units.step.size coarse.rows.units.width
+    (coarse.rows.lists.levels_within p) lt
+
+narrow_column : (coarse : Coarse) (p : ℕ) → coarse.rows.units.width < 8192 * coarse.rows.units.step.size
+    → number_in coarse.columns.levels.now p < 8192
+narrow_column coarse p lt =
+    narrow_level (number_in coarse.columns.levels.now p) coarse.columns.units.step.size coarse.columns.units.width
+    (coarse.columns.lists.levels_within p)
+    (subst (λ (u : Units). u.width < 8192 * u.step.size) (sym coarse.same_units) lt)
+
+pub narrow_gap : (coarse : Coarse) (i j : ℕ) → coarse.rows.units.width < 8192 * coarse.rows.units.step.size
+    → steps_apart coarse i j ≤ 8192
+narrow_gap coarse i j lt = omega (arith, narrow_row coarse i lt, narrow_column coarse j lt)
+
+pub narrow_small : (coarse : Coarse) (i j : ℕ) → coarse.rows.units.width < 8192 * coarse.rows.units.step.size
+    → square_at coarse i j ≤ 2 ^ 26
+narrow_small coarse i j lt =
+    omega (
+      arith,
+      mul-le (steps_apart coarse i j) (steps_apart coarse i j) 8192 8192 (narrow_gap coarse i j lt)
+          (narrow_gap coarse i j lt),
+    )
 
 pub squares_small : (coarse : Coarse) (n i j : ℕ) → squares_in coarse n i j ≤ n * 2 ^ 48
 squares_small coarse n i j =

@@ -8,3 +8,4 @@ pub mod PairLemmas
 pub mod FillLemmas
 pub mod LevelLemmas
 pub mod VectorLemmas
+pub mod SeedLemmas

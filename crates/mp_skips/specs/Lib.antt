@@ -8,3 +8,4 @@ pub mod Blocks
 pub mod Needs
 pub mod Levels
 pub mod Lanes
+pub mod Seeds

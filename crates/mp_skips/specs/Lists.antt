@@ -7,15 +7,16 @@ use Rattle.mp_scans.specs.Free.{AreFree}
 use Rattle.mp_skips.specs.Sums.{number_in, IsLow, AreNumbers, AreFloors, AreGroups}
 use Rattle.mp_skips.specs.declared.sums.TheConstants.{MOST_GRAINS}
 
--- how many steps samples lie above a low number, the sums of s of them from each place on in grains, what bounds those
--- of each eight places, and which windows of m samples lack none. There are places for all samples
-pub record AreLists (low : ℤ) (s step grain m : ℕ) (samples : List Sample) (levels floors least greatest : List ℕ)
-    (free : List Bool) : Type 0 where
+-- how many steps samples lie above a low number, a range at most, the sums of s of them from each place on in grains,
+-- what bounds those of each eight places, and which windows of m samples lack none. There are places for all samples
+pub record AreLists (low : ℤ) (range s step grain m : ℕ) (samples : List Sample)
+    (levels floors least greatest : List ℕ) (free : List Bool) : Type 0 where
   pub low_is : IsLow low (series_of samples)
   pub are_levels : AreNumbers low step (series_of samples) levels
   pub more_levels : length samples < length levels
   pub few_levels : length levels < 2 ^ 62
   pub small_levels : (p : ℕ) → number_in levels p < MOST_GRAINS
+  pub levels_within : (p : ℕ) → number_in levels p * step ≤ range
   pub are_floors : AreFloors low s grain (series_of samples) floors (length floors)
   pub all_floors : length samples ≤ length floors
   pub small_floors : (p : ℕ) → number_in floors p ≤ MOST_GRAINS

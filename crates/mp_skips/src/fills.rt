@@ -202,8 +202,8 @@ pub(crate) fn fill_lists(
     requires few_places { length floors.old < 2 ^ 62 }
     requires groups { length floors.old ≡ 8 * length least.old }
     requires same_groups { length greatest.old ≡ length least.old }
-    ensures lists { AreFilled units.now.low (8 * units.now.eights) units.now.step.size units.now.grain.size samples.now
-        levels.new floors.new least.new greatest.new }
+    ensures lists { AreFilled units.now.low units.now.width (8 * units.now.eights) units.now.step.size
+        units.now.grain.size samples.now levels.new floors.new least.new greatest.new }
     ensures level_places { length levels.new ≡ length levels.old }
     ensures floor_places { length floors.new ≡ length floors.old }
     ensures groups { length least.new ≡ length least.old }

@@ -21,6 +21,9 @@ pub(crate) const MOST_GROUPS: usize = (ROWS + GROUP) / 8 + 1;
 /// The most columns of these, with those that their blocks reach.
 const MOST_COLUMNS: usize = 8 * MOST_GROUPS + 64;
 
+/// More than a distance whose product with the samples of a sum has more than 62 bits.
+const SHORT: u128 = 1 << 56;
+
 /// More than any distance.
 const MOST: u128 = 1 << 120;
 
@@ -43,7 +46,10 @@ pub(crate) fn square_of(unit: &Unit) -> u128
 fn need_above(coarse: &Coarse, dist: u128) -> u64
     ensures { (d : ℕ) → result < NO_NEED → Reaches coarse.now result d → dist < d }
 {
-    if dist < MOST {
+    if dist < SHORT {
+        let product = (8 * coarse.rows.units.eights) as u64 * dist as u64;
+        (product >> (2 * coarse.rows.units.grain.shift)) + 1
+    } else if dist < MOST {
         let product = (8 * coarse.rows.units.eights) as u128 * dist;
         let units = product >> (2 * coarse.rows.units.grain.shift);
         (units + 1).min(u128::from(NO_NEED)) as u64

@@ -82,7 +82,13 @@ fn offer_rounded<O: Offers>(
 
 /// Offers a row and a column to each other, where no sample of either is missing.
 #[inline]
-fn offer_pair<O: Offers>(coarse: &Coarse, row: usize, column: usize, sum: u64, into: &mut O::Into)
+pub(crate) fn offer_pair<O: Offers>(
+    coarse: &Coarse,
+    row: usize,
+    column: usize,
+    sum: u64,
+    into: &mut O::Into,
+)
     requires row { row < row_windows coarse.now.plan.grid }
     requires column { column < column_windows coarse.now.plan.grid }
     requires apart { row + O.least ≤ column }

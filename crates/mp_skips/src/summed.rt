@@ -70,8 +70,8 @@ pub struct Summed<'a> {
     free: Vec<bool>,
     ghost own: { plan.grid.columns.now ≡ plan.grid.rows.now },
     ghost wide: { 8 * units.eights ≤ plan.grid.m },
-    ghost lists: { AreLists units.low (8 * units.eights) units.step.size units.grain.size plan.grid.m plan.grid.rows.now
-        levels.items floors.items least.items greatest.items free.items },
+    ghost lists: { AreLists units.low units.width (8 * units.eights) units.step.size units.grain.size plan.grid.m
+        plan.grid.rows.now levels.items floors.items least.items greatest.items free.items },
 }
 
 /// The coarse sums of a series in these units.

@@ -68,8 +68,8 @@ pub struct Side<'a> {
     pub greatest: &'a [u32],
     /// Whether no sample of a window is missing.
     pub free: &'a [bool],
-    pub ghost lists: { AreLists units.low (8 * units.eights) units.step.size units.grain.size m samples.now levels.now
-        floors.now least.now greatest.now free.now },
+    pub ghost lists: { AreLists units.low units.width (8 * units.eights) units.step.size units.grain.size m samples.now
+        levels.now floors.now least.now greatest.now free.now },
 }
 
 /// Two series whose windows are compared, in sums of successive samples. A block of pairs has as many successive rows

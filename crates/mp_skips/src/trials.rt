@@ -14,7 +14,7 @@ use std::simd::prelude::*;
 const TRIED: usize = 128;
 
 /// How many of their diagonals may stay. One that stays takes as long as some hundred that are scanned with all others.
-const STAYING: usize = 40;
+const STAYING: usize = 80;
 
 /// The need of all columns that the blocks of a group reach, to which rows from `first` on are offered.
 fn group_need<O: Offers>(coarse: &Coarse, into: &O::Into, group: usize, first: usize) -> u64

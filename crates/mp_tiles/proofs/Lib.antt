@@ -7,3 +7,4 @@ pub mod SideLemmas
 pub mod RowLemmas
 pub mod PlanLemmas
 pub mod NearLemmas
+pub mod SeedLemmas

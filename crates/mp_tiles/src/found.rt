@@ -4,6 +4,7 @@ ghost use Rattle.std.specs.Prelude.{◌≡◌, ◌+◌, ◌^◌, ◌<◌, ◌≤
 ghost use Rattle.mp_series.specs.declared.limits.TheConstants.{MAX_SAMPLES};
 ghost use Rattle.mp_defs.specs.Series.{series_of};
 ghost use Rattle.mp_defs.specs.Window.{windows as windows_in, excl as zone};
+ghost use Rattle.mp_defs.specs.Profile.{matrix_profile};
 ghost use Rattle.mp_partial.specs.Values.{HasColumns, empty_column, merged_column, merged_columns, offered};
 ghost use Rattle.mp_cuts.specs.Pairs.{has_pair, IsTileBetween};
 ghost use Rattle.mp_scans.specs.Slots.{Covers};
@@ -19,7 +20,8 @@ use crate::scans::scan_tile;
 use mp_cuts::Tile;
 use mp_nums::{Memory, Near, Slots, Sq, nearer};
 use mp_scans::{Firsts, Offers, Plan};
-use mp_skips::Coarse;
+use mp_series::excl;
+use mp_skips::{Coarse, Seeds, scan_seeds};
 use mp_sums::{Limit, Rounding};
 use std::alloc::Global;
 use std::marker::Model;
@@ -210,6 +212,29 @@ pub(crate) fn take_by_sums(coarse: &Coarse, tile: &Tile, is_tried: bool, into: &
     let _windows = into.len();
     into.round_by(&coarse.plan.rounding);
     scan_blocks::<OnBothSides>(coarse, tile, is_tried, into);
+}
+
+/// Offers pairs that are likely near to each other. What both sides have together with those of the whole profile is
+/// the same afterwards.
+pub(crate) fn take_seeds(coarse: &Coarse, seeds: &Seeds, into: &mut Found)
+    requires same { coarse.now.plan.grid.columns.now ≡ coarse.now.plan.grid.rows.now }
+    requires places { length into.old.left ≡ windows_in (length coarse.now.plan.grid.rows.now) coarse.now.plan.grid.m }
+    ensures left { merged_column into.new.left
+        (matrix_profile coarse.now.plan.grid.m (series_of coarse.now.plan.grid.rows.now)).left
+        ≡ merged_column into.old.left
+        (matrix_profile coarse.now.plan.grid.m (series_of coarse.now.plan.grid.rows.now)).left }
+    ensures right { merged_column into.new.right
+        (matrix_profile coarse.now.plan.grid.m (series_of coarse.now.plan.grid.rows.now)).right
+        ≡ merged_column into.old.right
+        (matrix_profile coarse.now.plan.grid.m (series_of coarse.now.plan.grid.rows.now)).right }
+    ensures size { length into.new.left ≡ length into.old.left }
+    ensures is_value { HasColumns 2 (length into.new.left) (into.new.left ∷ into.new.right ∷ []) }
+    ensures room { into.new.room ≡ into.old.room }
+{
+    let _windows = into.len();
+    into.round_by(&coarse.plan.rounding);
+    let first = excl(coarse.plan.rounding.m) as usize + 1;
+    scan_seeds::<OnBothSides>(coarse, seeds, first, into);
 }
 
 /// Room for both sides of as many windows: memory that was taken, and that nothing was written to.

@@ -5,7 +5,7 @@ ghost use Rattle.mp_series.specs.declared.limits.TheConstants.{MAX_SAMPLES, MAX_
 ghost use Rattle.mp_defs.specs.Series.{series_of};
 ghost use Rattle.mp_defs.specs.Window.{windows as windows_in, excl as zone};
 ghost use Rattle.mp_defs.specs.Profile.{matrix_profile};
-ghost use Rattle.mp_tiles.specs.Pieces.{sides_value};
+ghost use Rattle.mp_tiles.specs.Pieces.{own_together, sides_value};
 
 use crate::near::{Bands, NearTiles};
 use crate::sides::Sides;
@@ -64,6 +64,22 @@ impl<'a> OwnTiles<'a> {
         OwnTiles {
             plan,
             cut: cut_own(count, excl(m), tile),
+        }
+    }
+
+    /// The tiles of the same windows of at most `tile` diagonals. It takes no memory.
+    pub fn wide(&self, tile: u32) -> OwnTiles<'a>
+        requires least { 1 ≤ tile }
+        requires greatest { tile ≤ MAX_TILE }
+        ensures samples { result.samples ≡ self.now.samples }
+        ensures m { result.m ≡ self.now.m }
+        ensures few { length result.tiles ≤ MAX_TILES }
+        ensures together { own_together result
+            ≡ sides_value (matrix_profile self.now.m (series_of self.now.samples)) }
+    {
+        OwnTiles {
+            plan: self.plan,
+            cut: cut_own(self.size(), excl(self.plan.rounding.m), tile),
         }
     }
 
@@ -126,8 +142,11 @@ fn sides_in_order(alloc: Global, samples: &[Sample], m: u32, tile: u32) -> Resul
     let tiles = OwnTiles::new(samples, m, tile);
     match tiles.sums(alloc)? {
         Some(sums) => {
-            let wide = OwnTiles::new(samples, m, tile.max(summed_tile(tiles.size())));
-            run_in_order(alloc, &wide.by_sums(&sums))
+            let wide = tiles.wide(tile.max(summed_tile(tiles.size())));
+            let pieces = wide.by_sums(&sums);
+            let mut sides = pieces.begun(alloc)?;
+            pieces.run_all(&mut sides);
+            Ok(sides)
         }
         None => run_in_order(alloc, &tiles),
     }

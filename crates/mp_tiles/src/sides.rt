@@ -3,6 +3,7 @@
 ghost use Rattle.std.specs.Prelude.{◌≡◌, ◌+◌, ◌≤◌, [], ◌∷◌, length, None};
 ghost use Rattle.mp_defs.specs.Series.{series_of};
 ghost use Rattle.mp_defs.specs.Window.{windows as windows_in, excl as zone};
+ghost use Rattle.mp_defs.specs.Profile.{matrix_profile};
 ghost use Rattle.mp_partial.specs.Values.{HasColumns, empty_column, empty_columns, merged_column, merged_columns};
 ghost use Rattle.mp_partial.specs.MergeLaws.{columns_merge};
 ghost use Rattle.mp_cuts.specs.Pairs.{has_pair, IsTileBetween};
@@ -10,12 +11,12 @@ ghost use Rattle.mp_tiles.specs.Among.{profile_among};
 ghost use Rattle.mp_tiles.specs.Sides.{sides_by};
 ghost use Rattle.mp_tiles.specs.Pieces.{sides_value};
 
-use crate::found::{Found, FoundRoom, take_by_sums, take_tile};
+use crate::found::{Found, FoundRoom, take_by_sums, take_seeds, take_tile};
 use mp_cuts::Tile;
 use mp_nums::{Memory, Slots};
 use mp_partial::{Part, Profile};
 use mp_scans::Plan;
-use mp_skips::Coarse;
+use mp_skips::{Coarse, Seeds};
 use std::alloc::Global;
 use std::marker::Model;
 
@@ -108,6 +109,28 @@ impl Sides {
     {
         fill(&mut self.room, &mut self.found);
         take_by_sums(coarse, tile, is_tried, &mut self.found);
+    }
+
+    /// Offers pairs that are likely near to each other. What both sides have together with those of the whole profile
+    /// is the same afterwards.
+    pub(crate) fn take_seeds(&mut self, coarse: &Coarse, seeds: &Seeds)
+        requires same { coarse.now.plan.grid.columns.now ≡ coarse.now.plan.grid.rows.now }
+        requires places { length self.old.left
+            ≡ windows_in (length coarse.now.plan.grid.rows.now) coarse.now.plan.grid.m }
+        ensures left { merged_column self.new.left
+            (matrix_profile coarse.now.plan.grid.m (series_of coarse.now.plan.grid.rows.now)).left
+            ≡ merged_column self.old.left
+            (matrix_profile coarse.now.plan.grid.m (series_of coarse.now.plan.grid.rows.now)).left }
+        ensures right { merged_column self.new.right
+            (matrix_profile coarse.now.plan.grid.m (series_of coarse.now.plan.grid.rows.now)).right
+            ≡ merged_column self.old.right
+            (matrix_profile coarse.now.plan.grid.m (series_of coarse.now.plan.grid.rows.now)).right }
+        ensures size { length self.new.left ≡ length self.old.left }
+        ensures is_value { HasColumns 2 (length self.new.left) (self.new.left ∷ self.new.right ∷ []) }
+        ensures room { self.new.room ≡ self.old.room }
+    {
+        fill(&mut self.room, &mut self.found);
+        take_seeds(coarse, seeds, &mut self.found);
     }
 
     /// Puts what was found on the left into a column of no windows, which has room for it. It takes no memory.

@@ -1,15 +1,19 @@
 //! The tiles of a series as the pieces of a kernel that passes over blocks of pairs by coarse sums.
 
-ghost use Rattle.std.specs.Prelude.{◌≡◌, ◌+◌, ◌*◌, ◌≤◌, length, IfOk, IfSome};
+ghost use Rattle.std.specs.Prelude.{◌≡◌, ◌+◌, ◌*◌, ◌≤◌, [], ◌∷◌, length, IfOk, IfSome};
+ghost use Rattle.mp_defs.specs.Series.{series_of};
+ghost use Rattle.mp_defs.specs.Profile.{matrix_profile};
+ghost use Rattle.mp_partial.specs.Values.{HasColumns, merged_columns};
 ghost use Rattle.mp_cuts.specs.declared.cuts.TheConstants.{MAX_TILE};
+ghost use Rattle.mp_tiles.specs.Pieces.{own_size, own_together, sides_value};
 
 use crate::kernels::OwnTiles;
 use crate::sides::Sides;
 use mp_cuts::Cut;
 use mp_nums::Memory;
-use mp_partial::Kernel;
-use mp_series::windows;
-use mp_skips::{Coarse, Summed};
+use mp_partial::{Kernel, Part};
+use mp_series::{excl, windows};
+use mp_skips::{Coarse, Seeds, Summed};
 use std::alloc::Global;
 use std::marker::Model;
 
@@ -18,7 +22,7 @@ use std::marker::Model;
 pub const SUMMED_TILE: u32 = 1_024;
 
 /// How many windows a long series has at least.
-const LONG_SERIES: u64 = 131_072;
+const LONG_SERIES: u64 = 32_768;
 
 /// How many windows a series has at least whose coarse sums are made.
 const LEAST_WINDOWS: u64 = 4_096;
@@ -120,6 +124,36 @@ impl<'a> OwnTiles<'a> {
 }
 
 impl<'a> SummedTiles<'a> {
+    /// What pairs of windows give that are likely near. With the values of all tiles of the series it makes what these
+    /// make without, and where they begin with it more pairs can be passed over.
+    pub fn begun(&self, alloc: Global) -> Result<Sides, Memory>
+        ensures value { IfOk result (λ sides. merged_columns (sides.left ∷ sides.right ∷ [])
+            (sides_value (matrix_profile self.now.m (series_of self.now.samples)))
+            ≡ sides_value (matrix_profile self.now.m (series_of self.now.samples))) }
+        ensures size { IfOk result (λ sides. length sides.left ≡ own_size self.now) }
+        ensures is_value { IfOk result (λ sides.
+            HasColumns 2 (length sides.left) (sides.left ∷ sides.right ∷ [])) }
+    {
+        let first = excl(self.coarse.plan.rounding.m) as usize + 1;
+        let mut sides = Sides::unit(alloc, self.size())?;
+        let seeds = Seeds::of(alloc, &self.coarse, first)?;
+        sides.take_seeds(&self.coarse, &seeds);
+        Ok(sides)
+    }
+
+    /// Merges the values of all tiles into what there is already, one after another. It takes no memory.
+    pub fn run_all(&self, into: &mut Sides)
+        requires size { length into.old.left ≡ own_size self.now }
+        requires is_value { HasColumns 2 (own_size self.now) (into.old.left ∷ into.old.right ∷ []) }
+        ensures value { into.new.left ∷ into.new.right ∷ []
+            ≡ merged_columns (into.old.left ∷ into.old.right ∷ []) (own_together self.now) }
+        ensures size { length into.new.left ≡ own_size self.now }
+    {
+        for piece in 0..self.pieces() {
+            self.run(piece, into);
+        }
+    }
+
     /// The same tiles, where no blocks are tried before a tile is scanned in coarse sums.
     pub fn untried(self) -> SummedTiles<'a>
         ensures { result ≡ self.entry }

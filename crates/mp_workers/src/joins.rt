@@ -6,7 +6,7 @@ ghost use Rattle.mp_defs.specs.Profile.{matrix_profile, ab_join};
 ghost use Rattle.mp_tiles.specs.Pieces.{own_size, own_together, sides_value};
 
 use crate::columns::profile_of;
-use crate::teams::{run_all, run_one_after_another};
+use crate::teams::{run_all, run_begun, run_one_after_another};
 use mp_nums::{Memory, Sample, Slots};
 use mp_outside::Gate;
 use mp_partial::{Kernel, MAX_WORKERS, Profile};
@@ -33,11 +33,12 @@ fn pairs(first: &[Sample], second: &[Sample]) -> u64 {
     (first.len() as u64).saturating_mul(second.len() as u64)
 }
 
-/// Both sides of the matrix profile of the tiles' samples. Several workers compare near windows first, since what these
-/// find lets most of the others be passed over, and each begins the tiles of the others, of at most `tile` diagonals,
-/// with what all of them found. There is a band of near windows for each worker: the windows behind a band's end are
-/// near to its last rows, and would be compared with little known of them once more for each band. Where the others are
-/// scanned in coarse sums, one worker does so too, and tiles may have `summed_tile` diagonals.
+/// Both sides of the matrix profile of the tiles' samples. Where tiles are scanned in coarse sums, each worker begins
+/// with what pairs of windows give that these sums tell to be near, and tiles may have `summed_tile` diagonals. Else
+/// several workers compare windows that start close together first, since what these find lets most of the others be
+/// passed over, and each begins the tiles of the others, of at most `tile` diagonals, with what all of them found.
+/// There is a band of such windows for each worker: the windows behind a band's end are near to its last rows, and
+/// would be compared with little known of them once more for each band.
 fn both_sides<R: Threads + Sync, G: Gate>(
     rt: &R,
     alloc: Global,
@@ -58,11 +59,11 @@ fn both_sides<R: Threads + Sync, G: Gate>(
     ensures size { IfOk result (λ sides. length sides.left ≡ own_size tiles.now) }
 {
     if let Some(sums) = tiles.sums(alloc)? {
-        let near = tiles.near(workers);
-        let others = near
-            .others(tile.max(summed_tile(tiles.size())))
+        let wide = tiles
+            .wide(tile.max(summed_tile(tiles.size())))
             .by_sums(&sums);
-        return run_one_after_another(rt, alloc, &near, &others, workers, gate);
+        let begun = wide.begun(alloc)?;
+        return run_begun(rt, alloc, begun, &wide, workers, gate);
     }
     if workers == 1 {
         return run_all(rt, alloc, tiles, tiles.pieces(), workers, gate);

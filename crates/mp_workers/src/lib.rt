@@ -14,4 +14,4 @@ pub use desks::Desk;
 pub use joins::{ab_join, self_join, workers_for};
 pub use laws::desk_gives_each_piece;
 pub use passes::Pass;
-pub use teams::{run_all, run_one_after_another};
+pub use teams::{run_all, run_begun, run_one_after_another};

@@ -194,3 +194,30 @@ pub fn run_one_after_another<
     parts.push(found)?;
     run_from(rt, alloc, second, pieces, &mut parts, gate)
 }
+
+/// What a part has, with what the pieces of a kernel have, run as by `run_all`, where each worker begins with that
+/// part.
+pub fn run_begun<R: Threads + Sync, K: Kernel, G: Gate>(
+    rt: &R,
+    alloc: Global,
+    begun: K::Out,
+    kernel: &K,
+    workers: u32,
+    gate: &G,
+) -> Result<K::Out, Memory>
+    requires pieces { K.pieces_of kernel.now ≤ MAX_PIECES }
+    requires some { 1 ≤ workers }
+    requires workers { workers ≤ MAX_WORKERS }
+    requires same_size { K.Out.size_of begun ≡ K.size_of kernel.now }
+    requires is_value { K.Out.is_value (K.Out.size_of begun) (K.Out.value begun) }
+    ensures value { IfOk result (λ out. K.Out.value out ≡ K.Out.merged (K.Out.value begun)
+        (merged_below K.Out.merged (K.Out.unit_of (K.size_of kernel.now)) (K.value_of kernel.now)
+        (K.pieces_of kernel.now))) }
+    ensures size { IfOk result (λ out. K.Out.size_of out ≡ K.size_of kernel.now) }
+{
+    let pieces = kernel.pieces();
+    let mut parts = units(alloc, with_work(workers, pieces) - 1, kernel.size())?;
+    hand_on(&begun, &mut parts);
+    parts.push(begun)?;
+    run_from(rt, alloc, kernel, pieces, &mut parts, gate)
+}

@@ -6,7 +6,7 @@ ghost use Rattle.mp_series.specs.declared.limits.TheConstants.{MAX_SAMPLES, MAX_
 use crate::series::{spread, ties, waves};
 use crate::tiles::expect_columns;
 use mp_nums::Sample;
-use mp_partial::{Kernel, Profile, run_in_order};
+use mp_partial::{Kernel, Profile};
 use mp_plain::Columns;
 use mp_series::{MAX_SAMPLES, MAX_WINDOW, MIN_WINDOW};
 use mp_tiles::OwnTiles;
@@ -16,11 +16,12 @@ use std::test::Fail;
 /// Windows, and how many times eight samples their coarse sums have.
 const FORMS: [(u32, usize); 4] = [(8, 1), (20, 2), (70, 4), (130, 8)];
 
-/// Ranges of so many bits: a constant, those in which sums and samples are left as they are, in which only sums are
-/// rounded down, and in which both are.
-const RANGES: [(u32, i64, i64); 7] = [
+/// Ranges of so many bits: a constant, those in which sums and samples are left as they are, the widest in which squares
+/// are added in 32 bits, and those in which only sums are rounded down, and in which both are.
+const RANGES: [(u32, i64, i64); 8] = [
     (0, 0, 0),
     (3, -4, 3),
+    (13, -4_096, 4_095),
     (18, -131_072, 131_071),
     (22, -2_097_152, 2_097_151),
     (25, -16_777_216, 16_777_215),
@@ -28,7 +29,7 @@ const RANGES: [(u32, i64, i64); 7] = [
     (48, -140_737_488_355_328, 140_737_488_355_327),
 ];
 
-/// Expects the profile in coarse sums to be what every pair gives.
+/// Expects the profile in coarse sums to be what every pair gives, where pairs that are likely near are compared first.
 fn expect_by_sums<R: Abort + AllocGlobal>(
     rt: &R,
     samples: &[Sample],
@@ -46,7 +47,9 @@ fn expect_by_sums<R: Abort + AllocGlobal>(
     let tiles = OwnTiles::new(samples, m, 100);
     let sums = tiles.sums_of(rt.alloc(), eights)?;
     let room = Profile::with_capacity(rt.alloc(), tiles.size())?;
-    let sides = run_in_order(rt.alloc(), &tiles.by_sums(&sums).untried())?;
+    let pieces = tiles.by_sums(&sums).untried();
+    let mut sides = pieces.begun(rt.alloc())?;
+    pieces.run_all(&mut sides);
     expect_columns(rt, &sides.profile(room), every);
     Ok(())
 }

@@ -15,6 +15,7 @@ returns-clause-lists c =
       low_is = c.requires.levels.low_is;
       are_levels = c.fill_levels.ensures.levels;
       small_levels = c.fill_levels.ensures.small;
+      levels_within = λ p. omega (arith, (c.fill_levels.ensures.levels.each p).below, c.requires.levels.each p);
       are_floors = are_floors;
       small_floors = λ p. omega (arith, c.fill_floors.ensures.small p);
       are_groups = subst (AreGroups units.low s units.grain.size a c.fill_groups.new.least c.fill_groups.new.greatest)

@@ -8,6 +8,17 @@ overflow_mul-product c =
     let coarse = c.args.coarse.now in
     omega (arith, product_fits coarse.rows.units.eights c.args.dist coarse.rows.units.few (omega arith))
 
+pub returns-then-dist-lt-SHORT : goal.returns-then-dist-lt-SHORT
+returns-then-dist-lt-SHORT c = λ d some reach.
+    let coarse = c.args.coarse.now in
+    let grain = coarse.rows.units.grain in
+    let square = grain.size * grain.size in
+    let product = height coarse * c.args.dist in
+    let by = 2 ^ (2 * grain.shift) in
+    above_by (height coarse) square c.args.dist d (product / by + 1)
+    (units_above product by square (square_of_power grain.size grain.shift grain.power)
+    (some_square grain.size grain.some)) reach
+
 pub returns-then-dist-lt-MOST : goal.returns-then-dist-lt-MOST
 returns-then-dist-lt-MOST c = λ d some reach.
     let coarse = c.args.coarse.now in

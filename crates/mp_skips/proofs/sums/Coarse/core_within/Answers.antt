@@ -23,7 +23,7 @@ overflow_add-sum c =
       c.loop-place.invariant.after,
       squares_small c.args.self.now (c.loop-place.place - c.args.behind) (c.args.row + c.args.behind)
           (c.args.column + c.args.behind),
-      c.squares-sum.ensures.small,
+      c.part_squares-sum.ensures.small,
       c.min-count.ensures,
       c.loop-place-test.true,
       c.args.self.now.plan.grid.short,
@@ -34,9 +34,9 @@ returns-then-sum-most-clause-none c =
     let before = c.loop-place.invariant in
     part_tells c.args.self.now (c.args.row + c.args.behind) (c.args.column + c.args.behind)
     (c.loop-place.place + c.min-count.result - c.args.behind) (c.args.self.now.plan.grid.m - c.args.behind)
-    (c.loop-place.sum + c.squares-sum.result) c.args.most (omega (arith, c.min-count.ensures, c.loop-place-test.true))
+    (c.loop-place.sum + c.part_squares-sum.result) c.args.most (omega (arith, c.min-count.ensures, c.loop-place-test.true))
     (part_more c.args.self.now c.args.row c.args.column c.args.behind c.loop-place.place c.min-count.result
-    c.loop-place.sum c.squares-sum.result before.after before.sum c.squares-sum.ensures.sum)
+    c.loop-place.sum c.part_squares-sum.result before.after before.sum c.part_squares-sum.ensures.sum)
     (omega arith)
 
 pub loop-place-preserved : goal.loop-place-preserved
@@ -46,5 +46,5 @@ loop-place-preserved c =
       after = omega (arith, before.after);
       before = omega (arith, c.min-count.ensures, c.loop-place-test.true);
       sum = part_more c.args.self.now c.args.row c.args.column c.args.behind c.loop-place.place c.min-count.result
-          c.loop-place.sum c.squares-sum.result before.after before.sum c.squares-sum.ensures.sum;
+          c.loop-place.sum c.part_squares-sum.result before.after before.sum c.part_squares-sum.ensures.sum;
     }

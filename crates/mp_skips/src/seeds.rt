@@ -1,0 +1,175 @@
+//! Pairs of windows that are likely near. Where they are compared before all others, more of these can be passed over.
+
+ghost use Rattle.std.specs.Prelude.{◌≡◌, ℕ, ◌+◌, ◌-◌, ◌<◌, ◌≤◌};
+ghost use Rattle.mp_scans.specs.Offering.{in_block};
+ghost use Rattle.mp_scans.specs.Windows.{row_windows, column_windows, FitIn, AreScannedIn};
+ghost use Rattle.mp_skips.specs.Levels.{squares_in};
+ghost use Rattle.mp_skips.specs.Seeds.{IsAhead};
+
+use crate::mates::{Mate, Mates, find_mates};
+use crate::pairs::{Stretch, offer_pair};
+use crate::scans::count_columns;
+use crate::sums::Coarse;
+use mp_nums::Memory;
+use mp_scans::Offers;
+use std::alloc::Global;
+use std::simd::prelude::*;
+
+/// How many pairs of a diagonal are compared around one that is likely near, at most.
+const AROUND: usize = 64;
+
+/// Pairs of windows of a series that are likely near, by coarse sums: for one of as many windows as a sum has samples
+/// one behind it and one before it, some 4 bytes for a window at most.
+#[derive(Drop)]
+pub struct Seeds {
+    mates: Vec<Mates>,
+}
+
+impl Seeds {
+    /// Those that start at least `first` places after one another.
+    pub fn of(alloc: Global, coarse: &Coarse, first: usize) -> Result<Seeds, Memory> {
+        Ok(Seeds {
+            mates: find_mates(alloc, coarse, first)?,
+        })
+    }
+}
+
+/// How many windows the series of the rows has.
+#[inline]
+fn count_rows(coarse: &Coarse) -> usize
+    ensures { result ≡ row_windows coarse.now.plan.grid }
+{
+    (coarse.plan.grid.rows.len() + 1).saturating_sub(coarse.plan.grid.m)
+}
+
+/// Offers successive rows and columns to each other. The sum of the first two is known.
+fn scan_stretch<O: Offers>(coarse: &Coarse, stretch: &Stretch, sum: u64, into: &mut O::Into)
+    requires rows { stretch.now.row + stretch.now.count ≤ row_windows coarse.now.plan.grid }
+    requires columns { stretch.now.column + stretch.now.count ≤ column_windows coarse.now.plan.grid }
+    requires few { stretch.now.count ≤ AROUND }
+    requires apart { stretch.now.row + O.least ≤ stretch.now.column }
+    requires sum { sum ≡ squares_in coarse.now coarse.now.plan.grid.m stretch.now.row stretch.now.column }
+    requires fits { FitIn O.fits coarse.now.plan.grid into.old }
+    ensures scanned { AreScannedIn O.is_scanned coarse.now.plan.grid
+        (in_block (stretch.now.column - stretch.now.row) (stretch.now.column - stretch.now.row + 1) stretch.now.row
+        (stretch.now.row + stretch.now.count)) into.old into.new }
+{
+    let (row, column) = (stretch.row, stretch.column);
+    let mut places = [0; AROUND];
+    let sums = &mut places[..stretch.count];
+    coarse.fill_sums(row, column, sum, sums);
+    for r in 0..stretch.count {
+        offer_pair::<O>(coarse, row + r, column + r, sums[r], into);
+    }
+}
+
+/// Offers a row and a column to each other, and those around them on their diagonal.
+fn scan_around<O: Offers>(
+    coarse: &Coarse,
+    row: usize,
+    column: usize,
+    first: usize,
+    into: &mut O::Into,
+)
+    requires apart { O.least ≤ first }
+    requires behind { row + first ≤ column }
+    requires row { row < row_windows coarse.now.plan.grid }
+    requires column { column < column_windows coarse.now.plan.grid }
+    requires fits { FitIn O.fits coarse.now.plan.grid into.old }
+    ensures ahead { IsAhead O.is_scanned coarse.now.plan.grid
+        (in_block first (column_windows coarse.now.plan.grid) 0 (row_windows coarse.now.plan.grid)) into.old into.new }
+    ensures fits { FitIn O.fits coarse.now.plan.grid into.new }
+{
+    let step = 8 * coarse.rows.units.eights;
+    let around = AROUND.min(4 * step);
+    let back = row.min((around - step) / 2);
+    let (row, column) = (row - back, column - back);
+    let rows = around.min(count_rows(coarse) - row);
+    let count = rows.min(count_columns(coarse) - column);
+    let stretch = Stretch { row, column, count };
+    let sum = coarse.squares(row, column, coarse.plan.grid.m);
+    scan_stretch::<O>(coarse, &stretch, sum, into);
+}
+
+/// Takes the nearest of the columns of eight successive diagonals, by coarse sums, if it is nearer.
+fn take_of_eight(coarse: &Coarse, row: usize, column: usize, nearest: &mut Mate)
+    requires row { row < row_windows coarse.now.plan.grid }
+    requires column { column < column_windows coarse.now.plan.grid }
+{
+    let mut sums = u64x8::splat(0);
+    coarse.diagonal_sums(row, column, &mut sums);
+    for l in 0..8 {
+        nearest.take(sums.as_array()[l], column + l);
+    }
+}
+
+/// The column that coarse sums tell to be nearest to a row, of as many from one on as a sum has samples.
+fn nearest_column(coarse: &Coarse, row: usize, column: usize) -> usize
+    requires row { row < row_windows coarse.now.plan.grid }
+{
+    let columns = count_columns(coarse);
+    let mut nearest = Mate::none();
+    for e in 0..coarse.rows.units.eights {
+        let place = column.wrapping_add(8 * e);
+        if place < columns {
+            take_of_eight(coarse, row, place, &mut nearest);
+        }
+    }
+    nearest.place
+}
+
+/// Offers a row and a column that are likely near to each other, or one near it, and those around them. Where they
+/// aren't a row and a column that start at least `first` places after one another, there is nothing to do.
+fn scan_seed<O: Offers>(
+    coarse: &Coarse,
+    row: usize,
+    column: usize,
+    first: usize,
+    into: &mut O::Into,
+)
+    requires apart { O.least ≤ first }
+    requires fits { FitIn O.fits coarse.now.plan.grid into.old }
+    ensures ahead { IsAhead O.is_scanned coarse.now.plan.grid
+        (in_block first (column_windows coarse.now.plan.grid) 0 (row_windows coarse.now.plan.grid)) into.old into.new }
+    ensures fits { FitIn O.fits coarse.now.plan.grid into.new }
+{
+    if row >= count_rows(coarse) {
+        return;
+    }
+    let half = 4 * coarse.rows.units.eights;
+    let from = column.saturating_sub(half).max(row.saturating_add(first));
+    let near = nearest_column(coarse, row, from);
+    if near < count_columns(coarse) && row <= near && first <= near - row {
+        scan_around::<O>(coarse, row, near, first, into);
+    }
+}
+
+/// Offers the seeds of a series to each other. What all pairs give that start at least `first` places after one another
+/// is the same afterwards.
+pub fn scan_seeds<O: Offers>(coarse: &Coarse, seeds: &Seeds, first: usize, into: &mut O::Into)
+    requires apart { O.least ≤ first }
+    requires fits { FitIn O.fits coarse.now.plan.grid into.old }
+    ensures ahead { IsAhead O.is_scanned coarse.now.plan.grid
+        (in_block first (column_windows coarse.now.plan.grid) 0 (row_windows coarse.now.plan.grid)) into.old into.new }
+    ensures fits { FitIn O.fits coarse.now.plan.grid into.new }
+{
+    let step = 8 * coarse.rows.units.eights;
+    for k in 0..seeds.mates.len() {
+        let mates = seeds.mates[k];
+        let place = k.wrapping_mul(step);
+        scan_seed::<O>(
+            coarse,
+            place,
+            mates.later.place.wrapping_mul(step),
+            first,
+            into,
+        );
+        scan_seed::<O>(
+            coarse,
+            mates.earlier.place.wrapping_mul(step),
+            place,
+            first,
+            into,
+        );
+    }
+}
