@@ -3,6 +3,7 @@ pub mod Places
 pub mod Taken
 pub mod Through
 pub mod NearLemmas
+pub mod SeedLemmas
 pub mod Numbers
 pub mod Whole
 pub mod Merging

@@ -48,26 +48,46 @@ take_other : (k : ℕ) (xs ys : List Near) → is_rising xs ≡ true → is_risi
 take_other k xs ys g h = lists_commute k xs ys g h ∙ sym (take_all k ys xs)
     ∙ lists_commute k (take k ys) xs (take_rises k ys h) g
 
+-- what the windows that may be chosen give each place
+merged_at : (k : ℕ) (may : ℕ → ℕ → Bool) (m : ℕ) (a : Series) (old : List (List Near)) (i : ℕ)
+    → length old ≡ windows_of m a → All (AreRanks k) (map slots_of old) → i < length old
+    → get_or (merged_lists k old (lists_among k may m a)) i []
+    ≡ take k (put_all (get_or old i []) (in_order (chosen may m a i) (windows_of m a)))
+merged_at k may m a old i long ranks within =
+    let order = in_order (chosen may m a i) (windows_of m a) in
+    let both_long : length old ≡ length (lists_among k may m a) = long ∙ sym (as_long k may m a) in
+    get_or-zip2 (λ xs ys. take k (put_all xs ys)) old (lists_among k may m a) i [] [] [] within
+    (omega (arith, within, both_long))
+    ∙ ap (λ ys. take k (put_all (get_or old i []) ys)) (at_window k may m a i (omega (arith, within, long)))
+    ∙ sym (take_other k (get_or old i []) order (rise k i old ranks within)
+    (order_rises (chosen may m a i) (windows_of m a)))
+
+merged_long : (k : ℕ) (may : ℕ → ℕ → Bool) (m : ℕ) (a : Series) (old : List (List Near))
+    → length old ≡ windows_of m a → length (merged_lists k old (lists_among k may m a)) ≡ length old
+merged_long k may m a old long =
+    length-zip2 (λ xs ys. take k (put_all xs ys)) old (lists_among k may m a) (long ∙ sym (as_long k may m a))
+
+-- they are taken where all lists of them are merged
+pub merged_taken : (k : ℕ) (may : ℕ → ℕ → Bool) (m : ℕ) (a : Series) (old : List (List Near))
+    → length old ≡ windows_of m a → All (AreRanks k) (map slots_of old)
+    → AreTaken k may m a old (merged_lists k old (lists_among k may m a))
+merged_taken k may m a old long ranks = record {
+  places = merged_long k may m a old long;
+  at = λ i within. merged_at k may m a old i long ranks within;
+}
+
+-- and nowhere else
 pub taken_value : (k : ℕ) (may : ℕ → ℕ → Bool) (m : ℕ) (a : Series) (old new : List (List Near))
     → length old ≡ windows_of m a → All (AreRanks k) (map slots_of old) → AreTaken k may m a old new
     → map slots_of new ≡ merged_ranks k (map slots_of old) (among_value k may m a)
 taken_value k may m a old new long ranks h = ap (map slots_of) lists ∙ merged_values k old (lists_among k may m a)
   where
-    both_long : length old ≡ length (lists_among k may m a)
-    both_long = long ∙ sym (as_long k may m a)
-
     lists : new ≡ merged_lists k old (lists_among k may m a)
     lists = ext_get_or [] new (merged_lists k old (lists_among k may m a))
-        (h.places ∙ sym (length-zip2 (λ xs ys. take k (put_all xs ys)) old (lists_among k may m a) both_long))
+        (h.places ∙ sym (merged_long k may m a old long))
         (λ i lt.
         let within : i < length old = omega (arith, lt, h.places) in
-        let order = in_order (chosen may m a i) (windows_of m a) in
-        h.at i within
-        ∙ take_other k (get_or old i []) order (rise k i old ranks within)
-        (order_rises (chosen may m a i) (windows_of m a))
-        ∙ ap (λ ys. take k (put_all (get_or old i []) ys)) (sym (at_window k may m a i (omega (arith, within, long))))
-        ∙ sym (get_or-zip2 (λ xs ys. take k (put_all xs ys)) old (lists_among k may m a) i [] [] [] within
-        (omega (arith, within, both_long))))
+        h.at i within ∙ sym (merged_at k may m a old i long ranks within))
 
 -- the tile's rows and diagonals
 pub block_is : (tile : Tile) (i j : ℕ)

@@ -64,6 +64,22 @@ impl<'a, const K: usize> RankTiles<'a, K> {
         }
     }
 
+    /// The tiles of the same windows of at most `tile` diagonals. It takes no memory.
+    pub(crate) fn wide(&self, tile: u32) -> RankTiles<'a, K>
+        requires least { 1 ≤ tile }
+        requires greatest { tile ≤ MAX_TILE }
+        ensures samples { result.samples ≡ self.now.samples }
+        ensures m { result.m ≡ self.now.m }
+        ensures few { length result.tiles ≤ MAX_TILES }
+        ensures together { ranks_together K result
+            ≡ map slots_of (ranks_of K self.now.m (series_of self.now.samples)) }
+    {
+        RankTiles {
+            plan: self.plan,
+            cut: cut_own(self.size(), excl(self.plan.rounding.m), tile),
+        }
+    }
+
     /// The tiles of the windows that start close together, outside the exclusion zone, in so many bands of rows. It
     /// takes no memory.
     pub(crate) fn near(&self, bands: u32) -> NearRanks<'a, K>

@@ -15,6 +15,7 @@ mod placing;
 mod profiles;
 mod ranks;
 mod scans;
+mod summed;
 
 pub use examples::{plain_ranks, tied_ranks};
 pub use laws::{candidates_are_in_order, first_rank_is_the_entry};

@@ -15,13 +15,16 @@ use mp_nums::{Memory, NearList, Sample};
 use mp_outside::Gate;
 use mp_partial::{Kernel, MAX_WORKERS};
 use mp_series::{MAX_SAMPLES, MAX_WINDOW, MIN_WINDOW};
-use mp_workers::{run_all, run_one_after_another, workers_for};
+use mp_tiles::summed_tile;
+use mp_workers::{run_all, run_begun, run_one_after_another, workers_for};
 use std::alloc::Global;
 use std::thread::Threads;
 
-/// What the tiles have together, run by so many workers. Short series are left to fewer. Several workers compare near
-/// windows first, since what these give lets most of the others be passed over, and each begins the tiles of the
-/// others, of at most `tile` diagonals, with what all of them found. There is a band of near windows for each worker.
+/// What the tiles have together, run by so many workers. Short series are left to fewer. Where tiles are scanned in
+/// coarse sums, each worker begins with what pairs of windows give that these sums tell to be near, and tiles may have
+/// `summed_tile` diagonals. Else several workers compare near windows first, since what these give lets most of the
+/// others be passed over, and each begins the tiles of the others, of at most `tile` diagonals, with what all of them
+/// found. There is a band of near windows for each worker.
 fn run_tiles<R: Threads + Sync, G: Gate, const K: usize>(
     rt: &R,
     alloc: Global,
@@ -30,6 +33,8 @@ fn run_tiles<R: Threads + Sync, G: Gate, const K: usize>(
     workers: u32,
     gate: &G,
 ) -> Result<CompactRanks<K>, Memory>
+    requires shortest { MIN_WINDOW ≤ tiles.now.m }
+    requires longest { tiles.now.m ≤ MAX_WINDOW }
     requires few { length tiles.now.tiles ≤ MAX_TILES }
     requires least { 1 ≤ tile }
     requires greatest { tile ≤ MAX_TILE }
@@ -41,6 +46,11 @@ fn run_tiles<R: Threads + Sync, G: Gate, const K: usize>(
 {
     let windows = tiles.size();
     let workers = workers_for(windows.saturating_mul(windows) / 2, workers);
+    if let Some(sums) = tiles.sums(alloc)? {
+        let wide = tiles.wide(tile.max(summed_tile(windows))).by_sums(&sums);
+        let begun = wide.begun(alloc)?;
+        return run_begun(rt, alloc, begun, &wide, workers, gate);
+    }
     if workers == 1 {
         return run_all(rt, alloc, tiles, tiles.pieces(), workers, gate);
     }
@@ -57,6 +67,8 @@ fn lists_of_tiles<R: Threads + Sync, G: Gate, const K: usize>(
     workers: u32,
     gate: &G,
 ) -> Result<Vec<NearList>, Memory>
+    requires shortest { MIN_WINDOW ≤ tiles.now.m }
+    requires longest { tiles.now.m ≤ MAX_WINDOW }
     requires few { length tiles.now.tiles ≤ MAX_TILES }
     requires least { 1 ≤ tile }
     requires greatest { tile ≤ MAX_TILE }
@@ -75,7 +87,8 @@ fn lists_of_tiles<R: Threads + Sync, G: Gate, const K: usize>(
 /// same for every tile, number of workers and gate.
 ///
 /// Distances are sums of squared differences, in units of `10^(-2 * scale)`. It is computed in tiles of at most `tile`
-/// diagonals by so many workers, by a body for each `k`. Short series are left to fewer workers.
+/// diagonals by so many workers, by a body for each `k`. Where blocks of pairs are passed over by coarse sums, a tile
+/// may have `summed_tile` diagonals. Short series are left to fewer workers.
 pub fn nearest<R: Threads + Sync, G: Gate>(
     rt: &R,
     alloc: Global,

@@ -5,7 +5,7 @@ ghost use Rattle.mp_series.specs.declared.limits.TheConstants.{MAX_SAMPLES, MAX_
 ghost use Rattle.mp_topk.specs.declared.ranks.TheConstants.{MAX_RANKS};
 
 use crate::ordered::ordered;
-use crate::series::{alike, ties};
+use crate::series::{alike, ties, waves};
 use mp_nums::{NearList, Sample};
 use mp_outside::{MeetGate, OpenGate};
 use mp_series::{MAX_SAMPLES, windows};
@@ -48,6 +48,27 @@ fn expect_lists(
     let count = windows(samples.len() as u64, m);
     assert_eq!(rt; lists.len() as u64, count);
     for i in 0..count {
+        let list = lists.get(i as usize).expect(rt, "a list for each window");
+        expect_list(rt, alloc, samples, m, k, i, list)?;
+    }
+    Ok(())
+}
+
+/// Expects of each 64th window its first `k` windows in order.
+fn expect_some_lists(
+    rt: &impl Abort,
+    alloc: Global,
+    samples: &[Sample],
+    m: u32,
+    k: u64,
+    lists: &[NearList],
+) -> Result<(), Fail>
+    requires shortest { 1 ≤ m }
+{
+    let count = windows(samples.len() as u64, m);
+    assert_eq!(rt; lists.len() as u64, count);
+    for n in 0..count / 64 {
+        let i = 64 * n;
         let list = lists.get(i as usize).expect(rt, "a list for each window");
         expect_list(rt, alloc, samples, m, k, i, list)?;
     }
@@ -173,4 +194,34 @@ fn two_workers_of_ranks_meet(rt: HostRuntime) -> Result<(), Fail> {
     assert!(rt; gate.met());
     assert_eq!(rt; lists.len() as u64, 1_493);
     Ok(())
+}
+
+/// Compares some lists by each number of ranks and by one worker and several with all windows in order.
+fn expect_some<R: Abort + AllocGlobal + Threads + Sync>(
+    rt: &R,
+    samples: &[Sample],
+    m: u32,
+) -> Result<(), Fail>
+    requires shortest { MIN_WINDOW ≤ m }
+    requires longest { m ≤ MAX_WINDOW }
+    requires samples { length samples.now ≤ MAX_SAMPLES }
+{
+    for k in 1..5 {
+        for workers in [1, 3] {
+            let lists = nearest(rt, rt.alloc(), samples, m, k, 256, workers, &OpenGate)?;
+            expect_some_lists(rt, rt.alloc(), samples, m, k, lists.as_slice())?;
+        }
+    }
+    Ok(())
+}
+
+/// Coarse sums are made of so many windows. They pass over blocks of pairs of waves, and not of ties.
+#[test]
+fn ranks_in_coarse_sums(rt: HostRuntime) -> Result<(), Fail> {
+    let samples = waves(rt.alloc(), 4_200)?;
+    assert!(rt; samples.len() as u64 <= MAX_SAMPLES);
+    expect_some(&rt, samples.as_slice(), 24)?;
+    let samples = ties(rt.alloc(), 4_200, 1_000, 9)?;
+    assert!(rt; samples.len() as u64 <= MAX_SAMPLES);
+    expect_some(&rt, samples.as_slice(), 16)
 }
