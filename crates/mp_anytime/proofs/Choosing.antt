@@ -268,7 +268,7 @@ chosen_same p n count chosen e false fails full =
     append_none (x ∷ xs) = ap (λ ys. x ∷ ys) (append_none xs)
 
 -- those that are chosen pass the test
-passing : (p : ℕ → Bool) (xs : List ℕ) → All (λ x. p x ≡ true) (filter p xs)
+pub passing : (p : ℕ → Bool) (xs : List ℕ) → All (λ x. p x ≡ true) (filter p xs)
 passing p [] = λ k d lt. absurd (omega (arith, lt))
 passing p (x ∷ xs) = by_first (p x) refl (passing p xs)
   where

@@ -15,3 +15,7 @@ pub mod Scans
 pub mod Reading
 pub mod Windows
 pub mod LawLemmas
+pub mod RowSums
+pub mod RowPairs
+pub mod Distinct
+pub mod Putting

@@ -46,6 +46,14 @@ then_read s t u n k all e h g = record {
   reads = omega (arith, h.reads, g.reads, e);
 }
 
+pub fewer_read : (s t : Counted) (n k : ℕ) → n ≤ k → OnlyReads n s t → OnlyReads k s t
+fewer_read s t n k le h = record {
+  items = h.items;
+  spare = h.spare;
+  reads_rise = h.reads_rise;
+  reads = omega (arith, h.reads, le);
+}
+
 -- the number of a sample that was lent
 pub lent_number : (items : List Sample) (i : ℕ) → get_or (take 1 (drop i (numbers_in items))) 0 (pos 0)
     ≡ numbers_of (series_of items) i

@@ -3,10 +3,10 @@ use Rattle.std.proofs.Common.{◌≡◌, ℕ, zero, suc, ◌+◌, ◌-◌, ◌<�
 use Rattle.std.proofs.Common.{Bool, true, false}
 use Rattle.std.proofs.Common.{take, drop, refl, sym, ap, ◌∙◌, arith, subst}
 use Rattle.std.specs.Int.{abs_diff}
-use Rattle.std.specs.Prelude.{All, Option, None, ℤ, nat_lt, slice_index, ◌&&◌, ◌||◌}
+use Rattle.std.specs.Prelude.{All, Option, None, ℤ, pos, nat_lt, slice_index, ◌&&◌, ◌||◌}
 use Rattle.std.proofs.Math.ListN.{get_or-append}
 use Rattle.std.proofs.Math.Seq.{get_or-append_seam}
-use Rattle.std.proofs.lemmas.Bool.{cases_lt}
+use Rattle.std.proofs.lemmas.Bool.{cases_eq, cases_lt}
 use Rattle.std.proofs.lemmas.List.{length-map, length-append, length-take, map-append, take_all, take_more}
 use Rattle.std.proofs.lemmas.Simd.{length-zip2}
 use Rattle.mp_nums.specs.Near.{nearer_of}
@@ -30,8 +30,17 @@ use Rattle.mp_results.specs.LazyProfile.{is_allowed_along, lazy_profile}
 use Rattle.mp_anytime.specs.Scanning.{AreEarlier, AreLater, lie_along}
 use Rattle.mp_anytime.specs.Bounds.{both_sides, columns_of, kept_sides, numbered, numbered_slots}
 use Rattle.mp_anytime.specs.Waiting.{AreWaiting, IsCounted}
-use Rattle.mp_anytime.specs.Kept.{AreSums, IsAlongCovered, IsDiagonal, IsOf, IsSumAt, is_last_pair}
-use Rattle.mp_anytime.specs.Kept.{IsListed, last_place, without_last}
+use Rattle.mp_anytime.specs.Kept.{AreDistinct, AreSums, IsAlongCovered, IsDiagonal, IsOf, IsSumAt, is_last_pair}
+use Rattle.mp_anytime.specs.Kept.{IsExtended, IsGrown, IsListed, IsWaiting, last_place, without_last}
+use Rattle.mp_anytime.specs.Sums.{HavePlaces, IsPut, sum_in}
+use Rattle.mp_anytime.specs.declared.sums.Sums.{Sums}
+use Rattle.mp_anytime.proofs.Distinct.{distinct_more, none_distinct}
+use Rattle.mp_nums.specs.Listed.{Listed}
+use Rattle.mp_series.specs.Samples.{number_in, numbers_in}
+use Rattle.mp_sums.specs.Ranges.{AreWithin, IsInRange, Reaches}
+use Rattle.std.proofs.lemmas.Int.{ints}
+use Rattle.mp_sums.specs.declared.ranges.Range.{Range}
+use Rattle.mp_tiles.specs.Scanning.{HasPlaces as HasEntries}
 use Rattle.mp_anytime.specs.declared.coverage.Coverage.{Coverage}
 use Rattle.mp_anytime.proofs.Choosing.{other_test}
 use Rattle.mp_anytime.proofs.Entries.{each_merged, each_numbered, kept_is, left_is_earlier, merged_again, right_is_later}
@@ -122,14 +131,13 @@ right_grows grow m w covered a s old grown new long count all was more scanned =
     ∙ sym (right_along m (w + 1) covered b (diagonals_stay m w (w + 1) covered (omega arith) all))
 
 -- the sums of the pairs before the last window's
-pub sums_front : (m w : ℕ) (a : Series) (s : Option ℤ) (covered sums : List ℕ) → windows_of m a ≡ w
+pub sums_front : (m w : ℕ) (a : Series) (s : Option ℤ) (covered : List ℕ) (sums : Sums) → windows_of m a ≡ w
     → All (IsDiagonal m w) covered → AreSums m a covered (w - 1) sums → AreSums m (with_one a s) covered (w - 1) sums
 sums_front m w a s covered sums count all h = record {
-  places = h.places;
   each = λ k lt.
       let less = (all k 0 lt).1 in
-      sum_front m a s (w - 1 - slice_index covered k) (w - 1) (slice_index sums k) (omega (arith, less, count))
-      (omega (arith, less, count)) (h.each k lt);
+      sum_front m a s (w - 1 - slice_index covered k) (w - 1) (sum_in sums (slice_index covered k))
+      (omega (arith, less, count)) (omega (arith, less, count)) (h.each k lt);
 }
 
 -- ---- more diagonals
@@ -283,20 +291,26 @@ found_later m items covered chosen old found was e =
     (each_numbered (λ k near. (k < near.index) × (near.index < w)) old.right kept)
     (right_is_later (lie_along chosen) m a))
 
+pub both_ways : (t : Bool) → t ≡ true → t ≡ false → ⊥
+both_ways true p q = absurd (cc)
+both_ways false p q = absurd (cc)
+
 -- what is kept where no diagonal is covered
 pub none_kept : (m count : ℕ) (items : List Sample) (coverage : Coverage) → windows (length items) m ≡ count
     → ◌≡◌ {A = Value} (coverage.profile.all ∷ coverage.profile.left ∷ coverage.profile.right ∷ [])
     (empty_columns 3 count)
-    → coverage.covered.items ≡ [] → coverage.sums.items ≡ [] → AreWaiting m count [] coverage.waiting → count ≤ numbers
+    → coverage.covered.items ≡ [] → HavePlaces count coverage.sums → length coverage.limits.items ≡ count
+    → coverage.are_limits_known ≡ false → AreWaiting m count [] coverage.waiting → count ≤ numbers
     → IsOf m items coverage
-none_kept m count items coverage is value no_covered no_sums waiting few = record {
+none_kept m count items coverage is value no_covered places limits unknown waiting few = record {
   listed = record {
     diagonals = subst (λ ds. All (IsDiagonal m (windows (length items) m)) ds) (sym no_covered)
         (λ k d lt. absurd (omega (arith, lt)));
-    lasts = record {
-      places = ap length no_sums ∙ sym (ap length no_covered);
-      each = λ k lt. absurd (omega (arith, lt, ap length no_covered));
-    };
+    distinct = none_distinct coverage.covered.items no_covered;
+    lasts = record { each = λ k lt. absurd (omega (arith, lt, ap length no_covered)) };
+    places = subst (λ w. HavePlaces w coverage.sums) (sym is) places;
+    limits_are = limits ∙ sym is;
+    range = λ some. absurd (omega (arith, some, ap length no_covered));
     waiting = subst (λ ds. AreWaiting m (windows (length items) m) ds coverage.waiting) (sym no_covered)
         (subst (λ w. AreWaiting m w [] coverage.waiting) (sym is) waiting);
   };
@@ -304,60 +318,111 @@ none_kept m count items coverage is value no_covered no_sums waiting few = recor
       (none_counted m (windows (length items) m) (omega (arith, is, few)));
   profile = subst (λ ds. IsAlongCovered m items ds coverage.profile) (sym no_covered)
       (none_along m items coverage.profile (value ∙ ap (empty_columns 3) (sym is)));
+  limits = λ known. absurd (both_ways coverage.are_limits_known known unknown);
 }
 
 -- ---- all that is kept, with one window more
 
-pub window_added : (grow : EntriesGrow) (m : ℕ) (items front : List Sample) (sample : Sample) (old new : Coverage)
-    (grown : Profiled) (last : ℕ) → items ≡ front ++ sample ∷ [] → 1 ≤ m → m ≤ length items
-    → last ≡ windows (length front) m → IsOf m front old → new.covered.items ≡ old.covered.items
-    → grown.left ≡ old.profile.left ++ None ∷ [] → grown.right ≡ old.profile.right ++ None ∷ []
-    → IsScanned (is_last_pair old.covered.items last) m (series_of items) grown new.profile
-    → AreSums m (series_of items) old.covered.items last new.sums.items
-    → AreWaiting m (last + 1) old.covered.items new.waiting → length items ≤ numbers → IsOf m items new
-window_added grow m items front sample old new grown last e least long is was same left right scanned sums waiting few =
+-- a window was added, and its pairs are still to be taken
+pub now_waiting : (m : ℕ) (items front : List Sample) (sample : Sample) (old grown : Coverage) (last : ℕ)
+    → items ≡ front ++ sample ∷ [] → 1 ≤ m → m ≤ length items → last ≡ length old.profile.left → IsOf m front old
+    → IsGrown m old grown → (0 < length old.covered.items → AreWithin old.range (numbers_in items))
+    → IsWaiting m items last grown
+now_waiting m items front sample old grown last e least long is was g range =
     let covered = old.covered.items in
+    let many : length items ≡ length front + 1 = ap length e ∙ length-append front (sample ∷ []) in
+    let place : last ≡ windows (length front) m = is ∙ kept_places m front covered old.profile was.profile in
+    let all : All (IsDiagonal m last) covered =
+    subst (λ w. All (IsDiagonal m w) covered) (sym place) was.listed.diagonals in
+    let whole = series_with items front sample e in
+    let before : AreSums m (series_of items) covered (last - 1) old.sums =
+    subst (λ a. AreSums m a covered (last - 1) old.sums) (sym whole)
+    (sums_front m last (series_of front) (reading_of sample) covered old.sums
+    (series_are_of_samples.windows_are m front ∙ sym place) all
+    (subst (λ w. AreSums m (series_of front) covered (w - 1) old.sums) (sym place) was.listed.lasts)) in
+    record {
+      within = omega (arith, many, place, least, long);
+      diagonals = subst (λ ds. All (IsDiagonal m last) ds) (sym g.covered) all;
+      distinct = subst AreDistinct (sym g.covered) was.listed.distinct;
+      lasts = subst (λ ds. AreSums m (series_of items) ds (last - 1) grown.sums) (sym g.covered)
+          (record {
+            each = λ k lt.
+                subst (λ s. IsSumAt m (series_of items) (last - 1 - slice_index covered k) (last - 1) s)
+                (sym (g.sums (slice_index covered k) (omega (arith, (all k 0 lt).1, is)))) (before.each k lt);
+          });
+      places = subst (λ n. HavePlaces (n + 1) grown.sums) (sym is) g.places;
+      limits_are = g.limits_are ∙ ap (λ n. n + 1) (was.listed.limits_are ∙ sym place);
+      range = λ some. subst (λ (r : Range). AreWithin r (numbers_in items)) (sym g.range)
+          (range (omega (arith, some, ap length g.covered)));
+      waits = subst (λ ds. AreWaiting m (last + 1) ds grown.waiting) (sym g.covered)
+          (subst (λ n. AreWaiting m (n + 1) covered grown.waiting) (sym is)
+          (g.waits covered (subst (λ n. is_covered covered n ≡ false) is (not_covered m last covered all))
+          (subst (λ n. AreWaiting m n covered old.waiting) (sym place ∙ is) was.listed.waiting)));
+      windows_are = subst (λ n. HasEntries (n + 1) grown.profile) (sym is) g.windows_are;
+      limits = λ known. g.limits (was.limits (sym g.known ∙ known));
+    }
+
+-- its pairs were taken
+pub window_added : (grow : EntriesGrow) (m : ℕ) (items front : List Sample) (sample : Sample)
+    (old grown new : Coverage) (last : ℕ) → items ≡ front ++ sample ∷ [] → 1 ≤ m → m ≤ length items
+    → last ≡ length old.profile.left → IsOf m front old → IsGrown m old grown → IsWaiting m items last grown
+    → IsExtended m items last grown new → length items ≤ numbers → IsOf m items new
+window_added grow m items front sample old grown new last e least long is was g h x few =
+    let covered = old.covered.items in
+    let same : new.covered.items ≡ covered = x.covered ∙ g.covered in
     let a = series_of front in
     let s = reading_of sample in
     let many : length items ≡ length front + 1 = ap length e ∙ length-append front (sample ∷ []) in
-    let more : windows (length items) m ≡ last + 1 = omega (arith, many, is, least, long) in
-    let place : last ≡ last_place m items = omega (arith, more) in
-    let counted : windows_of m a ≡ last = series_are_of_samples.windows_are m front ∙ sym is in
+    let place : last ≡ windows (length front) m = is ∙ kept_places m front covered old.profile was.profile in
+    let more : windows (length items) m ≡ last + 1 = omega (arith, many, place, least, long) in
+    let last_is : last ≡ last_place m items = omega (arith, more) in
+    let counted : windows_of m a ≡ last = series_are_of_samples.windows_are m front ∙ sym place in
     let room : m ≤ length a + 1 = omega (arith, long, many, length-map front reading_of) in
     let whole = series_with items front sample e in
     let all : All (IsDiagonal m last) covered =
-    subst (λ w. All (IsDiagonal m w) covered) (sym is) was.listed.diagonals in
-    let along : IsScanned (is_last_pair covered last) m (with_one a s) grown new.profile =
-    subst (λ (x : Series). IsScanned (is_last_pair covered last) m x grown new.profile) whole scanned in
+    subst (λ w. All (IsDiagonal m w) covered) (sym place) was.listed.diagonals in
+    let scanned : IsScanned (is_last_pair covered last) m (series_of items) grown.profile new.profile =
+    subst (λ ds. IsScanned (is_last_pair ds last) m (series_of items) grown.profile new.profile) g.covered x.scanned in
+    let along : IsScanned (is_last_pair covered last) m (with_one a s) grown.profile new.profile =
+    subst (λ (y : Series). IsScanned (is_last_pair covered last) m y grown.profile new.profile) whole scanned in
     record {
       listed = record {
         diagonals = subst (λ ds. All (IsDiagonal m (windows (length items) m)) ds) (sym same)
             (subst (λ w. All (IsDiagonal m w) covered) (sym more)
             (diagonals_stay m last (last + 1) covered (omega arith) all));
-        lasts = subst (λ ds. AreSums m (series_of items) ds (last_place m items) new.sums.items) (sym same)
-            (subst (λ j. AreSums m (series_of items) covered j new.sums.items) place sums);
-        waiting = subst (λ ds. AreWaiting m (windows (length items) m) ds new.waiting) (sym same)
-            (subst (λ w. AreWaiting m w covered new.waiting) (sym more) waiting);
+        distinct = subst AreDistinct (sym same) was.listed.distinct;
+        lasts = subst (λ ds. AreSums m (series_of items) ds (last_place m items) new.sums) (sym x.covered)
+            (subst (λ j. AreSums m (series_of items) grown.covered.items j new.sums) last_is x.lasts);
+        places = subst (λ w. HavePlaces w new.sums) (sym more) x.places;
+        limits_are = x.limits_are ∙ sym more;
+        range = λ some. subst (λ (r : Range). AreWithin r (numbers_in items)) (sym x.range)
+            (h.range (omega (arith, some, ap length x.covered)));
+        waiting = subst (λ ds. AreWaiting m (windows (length items) m) ds new.waiting) (sym x.covered)
+            (subst (λ w. AreWaiting m w grown.covered.items new.waiting) (sym more)
+            (subst (AreWaiting m (last + 1) grown.covered.items) (sym x.waiting) h.waits));
       };
       counted = subst (IsCounted m (windows (length items) m)) (sym same)
           (subst (λ w. IsCounted m w covered) (sym more)
           (counted_more m last covered (omega (arith, more, least, long, few)) (not_covered m last covered all)
-          (subst (λ w. IsCounted m w covered) (sym is) was.counted)));
+          (subst (λ w. IsCounted m w covered) (sym place) was.counted)));
       profile = subst (λ ds. IsAlongCovered m items ds new.profile) (sym same)
           (record {
-            left = subst (λ (x : Series). new.profile.left ≡ (lazy_profile m covered x).left) (sym whole)
-                (left_grows grow m last covered a s old.profile grown new.profile room counted all was.profile.left
-                left along);
-            right = subst (λ (x : Series). new.profile.right ≡ (lazy_profile m covered x).right) (sym whole)
-                (right_grows grow m last covered a s old.profile grown new.profile room counted all was.profile.right
-                right along);
+            left = subst (λ (y : Series). new.profile.left ≡ (lazy_profile m covered y).left) (sym whole)
+                (left_grows grow m last covered a s old.profile grown.profile new.profile room counted all
+                was.profile.left g.left along);
+            right = subst (λ (y : Series). new.profile.right ≡ (lazy_profile m covered y).right) (sym whole)
+                (right_grows grow m last covered a s old.profile grown.profile new.profile room counted all
+                was.profile.right g.right along);
           });
+      limits = x.limits;
     }
 
 -- a sample without a window changes nothing
 pub sample_added : (m : ℕ) (items front : List Sample) (sample : Sample) (coverage : Coverage)
-    → items ≡ front ++ sample ∷ [] → length items < m → IsOf m front coverage → IsOf m items coverage
-sample_added m items front sample coverage e short was =
+    → items ≡ front ++ sample ∷ [] → length items < m
+    → (0 < length coverage.covered.items → AreWithin coverage.range (numbers_in items)) → IsOf m front coverage
+    → IsOf m items coverage
+sample_added m items front sample coverage e short range was =
     let many : length items ≡ length front + 1 = ap length e ∙ length-append front (sample ∷ []) in
     let none : windows (length front) m ≡ windows (length items) m = omega (arith, many, short) in
     let counted : windows_of m (series_of items) ≡ 0 =
@@ -368,10 +433,13 @@ sample_added m items front sample coverage e short was =
     record {
       listed = record {
         diagonals = subst (λ w. All (IsDiagonal m w) covered) none was.listed.diagonals;
+        distinct = was.listed.distinct;
         lasts = record {
-          places = was.listed.lasts.places;
           each = λ k lt. absurd (omega (arith, (was.listed.diagonals k 0 lt).1, many, short));
         };
+        places = subst (λ w. HavePlaces w coverage.sums) none was.listed.places;
+        limits_are = was.listed.limits_are ∙ none;
+        range = range;
         waiting = subst (λ w. AreWaiting m w covered coverage.waiting) none was.listed.waiting;
       };
       counted = subst (λ w. IsCounted m w covered) none was.counted;
@@ -381,17 +449,20 @@ sample_added m items front sample coverage e short was =
         right = was.profile.right ∙ ap (column (right_entry (is_allowed_along covered m) m (series_of front))) before
             ∙ sym (ap (column (right_entry (is_allowed_along covered m) m (series_of items))) counted);
       };
+      limits = was.limits;
     }
 
 -- ---- a diagonal more
 
 pub listed_more : (m : ℕ) (items : List Sample) (diagonal sum : ℕ) (old new : Coverage)
-    → IsDiagonal m (windows (length items) m) diagonal → IsListed m items old
-    → new.covered.items ≡ old.covered.items ++ diagonal ∷ [] → new.sums.items ≡ old.sums.items ++ sum ∷ []
+    → IsDiagonal m (windows (length items) m) diagonal → is_covered old.covered.items diagonal ≡ false
+    → AreWithin old.range (numbers_in items) → IsListed m items old
+    → new.covered.items ≡ old.covered.items ++ diagonal ∷ [] → IsPut diagonal sum old.sums new.sums
+    → new.limits ≡ old.limits → new.range ≡ old.range
     → IsSumAt m (series_of items) (last_place m items - diagonal) (last_place m items) sum
     → AreWaiting m (windows (length items) m) (old.covered.items ++ diagonal ∷ []) new.waiting
     → IsListed m items new
-listed_more m items diagonal sum old new is was more sums here waiting =
+listed_more m items diagonal sum old new is fresh within was more put limits range here waiting =
     let covered = old.covered.items in
     let last = last_place m items in
     let long = length-append covered (diagonal ∷ []) in
@@ -399,15 +470,12 @@ listed_more m items diagonal sum old new is was more sums here waiting =
       diagonals = subst (λ ds. All (IsDiagonal m (windows (length items) m)) ds) (sym more)
           (diagonals_both m (windows (length items) m) covered (diagonal ∷ []) was.diagonals
           only_one);
-      lasts = record {
-        places = ap length sums ∙ length-append old.sums.items (sum ∷ [])
-            ∙ ap (λ n. n + 1) was.lasts.places ∙ sym (ap length more ∙ long);
-        each = λ k lt. subst (λ ds. IsSumAt m (series_of items) (last - get_or ds k 0) last (get_or new.sums.items k 0))
-            (sym more)
-            (subst (λ xs. IsSumAt m (series_of items) (last - get_or (covered ++ diagonal ∷ []) k 0) last
-            (get_or xs k 0))
-            (sym sums) (placed k (omega (arith, lt, ap length more, long))));
-      };
+      distinct = subst AreDistinct (sym more) (distinct_more covered diagonal was.distinct fresh);
+      lasts = subst (λ ds. AreSums m (series_of items) ds last new.sums) (sym more)
+          (record { each = λ k lt. placed k (omega (arith, lt, long)) });
+      places = record { lowers = put.lowers ∙ was.places.lowers; uppers = put.uppers ∙ was.places.uppers };
+      limits_are = ap (λ (l : Listed ℕ). length l.items) limits ∙ was.limits_are;
+      range = λ _. subst (λ (r : Range). AreWithin r (numbers_in items)) (sym range) within;
       waiting = subst (λ ds. AreWaiting m (windows (length items) m) ds new.waiting) (sym more) waiting;
     }
   where
@@ -416,26 +484,65 @@ listed_more m items diagonal sum old new is was more sums here waiting =
     only_one zero d lt = is
     only_one (suc k) d lt = absurd (omega (arith, lt))
 
-    placed : (k : ℕ) → k < length old.covered.items + 1
-        → IsSumAt m (series_of items) (last_place m items - get_or (old.covered.items ++ diagonal ∷ []) k 0)
-        (last_place m items) (get_or (old.sums.items ++ sum ∷ []) k 0)
+    IsThere : ℕ → Type 0
+    IsThere d = IsSumAt m (series_of items) (last_place m items - d) (last_place m items) (sum_in new.sums d)
+
+    own : IsThere diagonal
+    own = subst (λ s. IsSumAt m (series_of items) (last_place m items - diagonal) (last_place m items) s) (sym put.here)
+        here
+
+    kept : (d : ℕ) → IsSumAt m (series_of items) (last_place m items - d) (last_place m items) (sum_in old.sums d)
+        → IsThere d
+    kept d h = elim (cases_eq d diagonal) [
+      | inl same ↦ subst IsThere (sym same) own
+      | inr other ↦
+          subst (λ s. IsSumAt m (series_of items) (last_place m items - d) (last_place m items) s)
+          (sym (put.others d other)) h
+    ]
+
+    placed : (k : ℕ) → k < length old.covered.items + 1 → IsThere (get_or (old.covered.items ++ diagonal ∷ []) k 0)
     placed k lt = elim (cases_lt k (length old.covered.items)) [
       | inl less ↦
-          subst (λ d. IsSumAt m (series_of items) (last_place m items - d) (last_place m items)
-          (get_or (old.sums.items ++ sum ∷ []) k 0))
-          (sym (get_or-append old.covered.items (diagonal ∷ []) 0 k less))
-          (subst (λ x. IsSumAt m (series_of items) (last_place m items - get_or old.covered.items k 0)
-          (last_place m items) x)
-          (sym (get_or-append old.sums.items (sum ∷ []) 0 k (omega (arith, less, was.lasts.places))))
-          (was.lasts.each k less))
+          subst IsThere (sym (get_or-append old.covered.items (diagonal ∷ []) 0 k less))
+          (kept (get_or old.covered.items k 0) (was.lasts.each k less))
       | inr ge ↦
           let at : length old.covered.items ≡ k = omega (arith, lt, ge) in
-          let at_sum : length old.sums.items ≡ k = was.lasts.places ∙ at in
-          subst (λ d. IsSumAt m (series_of items) (last_place m items - d) (last_place m items)
-          (get_or (old.sums.items ++ sum ∷ []) k 0))
+          subst IsThere
           (sym (ap (λ q. get_or (old.covered.items ++ diagonal ∷ []) q 0) (sym at)
           ∙ get_or-append_seam old.covered.items diagonal [] 0))
-          (subst (λ x. IsSumAt m (series_of items) (last_place m items - diagonal) (last_place m items) x)
-          (sym (ap (λ q. get_or (old.sums.items ++ sum ∷ []) q 0) (sym at_sum)
-          ∙ get_or-append_seam old.sums.items sum [] 0)) here)
+          own
+    ]
+
+-- ---- the range of the samples
+
+pub wider_range : (range before : Range) (xs : List ℤ) → Reaches range before → AreWithin before xs
+    → AreWithin range xs
+wider_range range before xs wider h k lt =
+    let is = h k lt in (omega (arith, ints, wider.0, is.0), omega (arith, ints, wider.1, is.1))
+
+pub range_with : (items front : List Sample) (sample : Sample) (range before : Range) → items ≡ front ++ sample ∷ []
+    → Reaches range before → IsInRange range (number_in sample) → AreWithin before (numbers_in front)
+    → AreWithin range (numbers_in items)
+range_with items front sample range before e wider here within k lt =
+    subst (λ (xs : List ℤ). IsInRange range (get_or xs k (pos 0))) (sym numbers_are)
+    (at (omega (arith, lt, ap length numbers_are, length-append (numbers_in front) (number_in sample ∷ []))))
+  where
+    numbers_are : numbers_in items ≡ numbers_in front ++ number_in sample ∷ []
+    numbers_are = ap numbers_in e ∙ map-append number_in front (sample ∷ [])
+
+    wide : (x : ℤ) → IsInRange before x → IsInRange range x
+    wide x h = (omega (arith, ints, wider.0, h.0), omega (arith, ints, wider.1, h.1))
+
+    at : k < length (numbers_in front) + 1
+        → IsInRange range (get_or (numbers_in front ++ number_in sample ∷ []) k (pos 0))
+    at less = elim (cases_lt k (length (numbers_in front))) [
+      | inl lt' ↦
+          subst (IsInRange range) (sym (get_or-append (numbers_in front) (number_in sample ∷ []) (pos 0) k lt'))
+          (wide (get_or (numbers_in front) k (pos 0)) (within k lt'))
+      | inr ge ↦
+          let last : length (numbers_in front) ≡ k = omega (arith, less, ge) in
+          subst (IsInRange range)
+          (sym (ap (λ q. get_or (numbers_in front ++ number_in sample ∷ []) q (pos 0)) (sym last)
+          ∙ get_or-append_seam (numbers_in front) (number_in sample) [] (pos 0)))
+          here
     ]

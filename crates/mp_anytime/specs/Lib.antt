@@ -3,7 +3,10 @@ pub mod Rounded
 pub mod Bounds
 pub mod Exacts
 pub mod Waiting
+pub mod Sums
 pub mod Kept
+pub mod Limits
+pub mod Offers
 pub mod Diagonals
 pub mod DiagonalLaws
 pub mod Laws

@@ -7,9 +7,12 @@ ghost use Rattle.mp_series.specs.declared.limits.TheConstants.{MAX_WINDOW};
 ghost use Rattle.mp_sums.specs.Sums.{greatest_square};
 ghost use Rattle.mp_scans.specs.Offering.{only};
 ghost use Rattle.mp_tiles.specs.Scanning.{HasPlaces, IsScanned};
-ghost use Rattle.mp_anytime.specs.Kept.{AreSums, IsDiagonal, IsSumAt, OnlyReads, is_last_pair, square_at};
+ghost use Rattle.mp_anytime.specs.Kept.{AreDistinct, AreSums, IsDiagonal, IsSumAt, OnlyReads, is_last_pair};
+ghost use Rattle.mp_anytime.specs.Kept.{square_at};
+ghost use Rattle.mp_anytime.specs.Sums.{HavePlaces, room_of};
 
 use crate::pairs::offer_pair;
+use crate::sums::Sums;
 use mp_nums::Sq;
 use mp_partial::Profile;
 use mp_series::Samples;
@@ -98,7 +101,7 @@ pub(crate) fn extend_each(
     m: u32,
     last: u64,
     covered: &[u64],
-    sums: &mut [u128],
+    sums: &mut Sums,
     profile: &mut Profile,
 )
     requires shortest { 1 ≤ m }
@@ -106,14 +109,27 @@ pub(crate) fn extend_each(
     requires within { last + m ≡ length samples.old.items }
     requires few { length samples.old.items ≤ max_samples }
     requires diagonals { All (IsDiagonal m last) covered.now }
+    requires distinct { AreDistinct covered.now }
     requires sums { AreSums m (series_of samples.old.items) covered.now (last - 1) sums.old }
+    requires sum_places { HavePlaces (last + 1) sums.old }
     requires places { HasPlaces (last + 1) profile.old }
     ensures sums { AreSums m (series_of samples.old.items) covered.now last sums.new }
+    ensures sum_places { HavePlaces (last + 1) sums.new }
+    ensures room { room_of sums.new ≡ room_of sums.old }
     ensures scanned { IsScanned (is_last_pair covered.now last) m (series_of samples.old.items) profile.old
         profile.new }
     ensures read { OnlyReads (4 * length covered.now) samples.old samples.new }
 {
     for k in 0..covered.len() {
-        sums[k] = extend(samples, m, last - covered[k], last, sums[k], profile);
+        let diagonal = covered[k] as usize;
+        let sum = extend(
+            samples,
+            m,
+            last - covered[k],
+            last,
+            sums.at(diagonal),
+            profile,
+        );
+        sums.set(diagonal, sum);
     }
 }

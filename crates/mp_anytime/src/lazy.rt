@@ -123,8 +123,9 @@ impl Anytime {
             return Err(AppendRefusal::Full);
         }
         self.reserve(1)?;
-        self.samples.push(sample).unwrap();
-        self.coverage.add_last(&mut self.samples, self.m);
+        let sample = &sample;
+        self.samples.push(*sample).unwrap();
+        self.coverage.add_last(&mut self.samples, self.m, *sample);
         Ok(())
     }
 
@@ -221,6 +222,6 @@ impl Anytime {
     pub fn spare(&self) -> u64
         ensures { result ≡ self.now.spare }
     {
-        self.samples.spare().min(self.coverage.profile.spare())
+        self.samples.spare().min(self.coverage.room())
     }
 }

@@ -14,10 +14,14 @@ mod found;
 mod kept;
 mod laws;
 mod lazy;
+mod limits;
+mod moving;
+mod offers;
 mod pairs;
 mod reversals;
 mod rounded;
 mod sides;
+mod sums;
 mod waiting;
 
 pub use laws::{covers_the_next, entries_never_rise, whole_is_the_profile};

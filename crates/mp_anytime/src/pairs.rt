@@ -4,6 +4,7 @@ ghost use Rattle.std.specs.Prelude.{◌≡◌, ◌<◌, length, true, false, IfS
 ghost use Rattle.mp_partial.specs.Values.{merged_column, offered};
 ghost use Rattle.mp_scans.specs.Slots.{Covers};
 ghost use Rattle.mp_tiles.specs.Scanning.{taken};
+ghost use Rattle.mp_anytime.specs.Offers.{ChangesAt};
 ghost use Rattle.mp_anytime.specs.Scanning.{AreEarlier, AreLater, IsPairTaken};
 
 use mp_nums::{Slot, Sq};
@@ -42,7 +43,8 @@ fn may_take(slot: Slot, index: u64, dist: Sq) -> bool
 fn offer_nearer(into: &mut Profile, i: u64, j: u64, dist: Sq)
     requires order { i < j }
     requires within { j < length into.old.all }
-    ensures { IsPairTaken i j true dist.0 into.old into.new }
+    ensures taken { IsPairTaken i j true dist.0 into.old into.new }
+    ensures right { ChangesAt i into.old.right into.new.right }
 {
     let _windows = into.len();
     let _entries = into.all();
@@ -59,7 +61,8 @@ fn offer_nearer(into: &mut Profile, i: u64, j: u64, dist: Sq)
 pub(crate) fn offer_pair(into: &mut Profile, i: u64, j: u64, both_free: bool, dist: Sq)
     requires order { i < j }
     requires within { j < length into.old.all }
-    ensures { IsPairTaken i j both_free dist.0 into.old into.new }
+    ensures taken { IsPairTaken i j both_free dist.0 into.old into.new }
+    ensures right { ChangesAt i into.old.right into.new.right }
 {
     if both_free {
         offer_nearer(into, i, j, dist);

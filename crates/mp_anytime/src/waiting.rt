@@ -3,7 +3,7 @@
 ghost use Rattle.std.specs.Prelude.{◌≡◌, ℕ, ◌+◌, ◌*◌, ◌<◌, ◌≤◌, ◌==◌, [], ◌∷◌, ◌++◌, if◌then◌else◌};
 ghost use Rattle.std.specs.Prelude.{List, filter, take, length, slice_index_or, Bool, false, IfOk, OnOk};
 ghost use Rattle.mp_results.specs.Reversal.{reversal as reversal_of};
-ghost use Rattle.mp_results.specs.Covering.{by_reversal, is_covered, uncovered};
+ghost use Rattle.mp_results.specs.Covering.{by_reversal, is_covered, is_uncovered, uncovered};
 ghost use Rattle.mp_anytime.specs.Waiting.{AreMarks, AreWaiting};
 
 use crate::reversals::{NUMBERS, reversal};
@@ -54,6 +54,15 @@ fn put(places: &mut [bool], marks: &mut [bool], diagonal: u64, is_waiting: bool)
     let place = reversal(diagonal) as usize;
     places[place] = is_waiting;
     marks[place / PLACES] = is_waiting | marks[place / PLACES];
+}
+
+/// Whether a diagonal waits.
+#[inline]
+fn waits_at(places: &[bool], diagonal: u64) -> bool
+    requires { length places.now ≡ NUMBERS }
+    ensures { result ≡ slice_index_or places.now (reversal_of diagonal) false }
+{
+    places[reversal(diagonal) as usize]
 }
 
 /// Whether a diagonal waits at one of some places.
@@ -216,6 +225,15 @@ impl Waiting {
     {
         self.put(diagonal, false);
         self.mark(diagonal);
+    }
+
+    /// Whether a diagonal waits.
+    pub(crate) fn is_waiting(&self, diagonal: u64) -> bool
+        requires { diagonal < NUMBERS }
+        ensures { (m windows : ℕ) (covered : List ℕ) → AreWaiting m windows covered self.now
+            → result ≡ is_uncovered m windows covered diagonal }
+    {
+        waits_at(self.places.as_slice(), diagonal)
     }
 
     /// The next `count` diagonals, or all that aren't covered where these are fewer.

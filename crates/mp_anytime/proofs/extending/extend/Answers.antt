@@ -15,7 +15,7 @@ returns-clause-scanned c =
     let count : windows_of m a ≡ c.args.last + 1 =
     series_are_of_samples.windows_are m c.args.samples.now.items
     ∙ omega (arith, c.requires.within, c.requires.shortest) in
-    c.offer_pair.ensures m a (subst (λ w. HasPlaces w c.args.profile.now) (sym count) c.requires.places)
+    c.offer_pair.ensures.taken m a (subst (λ w. HasPlaces w c.args.profile.now) (sym count) c.requires.places)
     (omega (arith, count))
     (distance_is m a c.args.i c.args.last c.next_sum-sum.result c.next_sum-sum.ensures.sum
     ∙ ap (λ t. if t && is_free m a c.args.last then Some c.next_sum-sum.result else None) (sym c.free.ensures)

@@ -1,4 +1,5 @@
-use Rattle.std.proofs.Common.{◌≡◌, ◌∙◌, ◌++◌, ap, arith, length, subst, sym}
+use Rattle.std.proofs.Common.{◌≡◌, ◌∙◌, ◌++◌, ap, arith, false, get_or, length, subst, sym}
+use Rattle.mp_results.specs.Covering.{is_covered}
 use Rattle.std.proofs.lemmas.List.{take_all}
 use Rattle.mp_defs.specs.Series.{series_of}
 use Rattle.mp_defs.specs.Profile.{windows_of}
@@ -8,7 +9,7 @@ use Rattle.mp_anytime.specs.Waiting.{IsCounted}
 use Rattle.mp_anytime.specs.Kept.{IsAlongCovered}
 use Rattle.mp_anytime.proofs.Counting.{counted_behind}
 use Rattle.mp_anytime.specs.Scanning.{AreLater}
-use Rattle.mp_anytime.proofs.Windows.{covers_more, found_earlier, found_later, found_places, is_found, kept_places}
+use Rattle.mp_anytime.proofs.Windows.{both_ways, covers_more, found_earlier, found_later, found_places, is_found, kept_places}
 use Rattle.mp_anytime.proofs.coverage.Coverage.cover.Goals as goal
 
 pub put_into-requires : goal.put_into-requires
@@ -58,4 +59,12 @@ returns-clause-is_of c =
           (covers_more m (windows (length items) m) items old.covered.items chosen old.profile found
           c.put_into.new.profile c.requires.is_of.listed.diagonals c.requires.diagonals c.requires.is_of.profile
           is c.put_into.ensures.left c.put_into.ensures.right));
+      limits = λ known. absurd (both_ways c.loop-diagonal.self.are_limits_known known c.loop-diagonal.invariant.known);
     }
+
+pub cover_one-requires-clause-fresh : goal.cover_one-requires-clause-fresh
+cover_one-requires-clause-fresh c =
+    let k = c.loop-diagonal.diagonal-index in
+    let chosen = c.args.chosen.now in
+    subst (λ ds. is_covered ds (get_or chosen k 0) ≡ false) (sym c.loop-diagonal.invariant.covered)
+    (c.requires.fresh k (omega arith))
