@@ -10,13 +10,18 @@ use mp_workers::{ab_join, self_join};
 use std::alloc::{AllocError, Global};
 use std::test::Fail;
 
-/// So many samples that two workers are started for them.
-fn long(alloc: Global) -> Result<Vec<Sample>, AllocError> {
+/// So many samples.
+fn waves(alloc: Global, count: i32) -> Result<Vec<Sample>, AllocError> {
     let mut samples = Vec::new(alloc);
-    for i in 0..2_000 {
+    for i in 0..count {
         samples.push(sample(Some(i % 97)))?;
     }
     Ok(samples)
+}
+
+/// So many samples that two workers are started for them.
+fn long(alloc: Global) -> Result<Vec<Sample>, AllocError> {
+    waves(alloc, 2_000)
 }
 
 #[test]
@@ -27,6 +32,17 @@ fn two_workers_of_a_profile_meet(rt: HostRuntime) -> Result<(), Fail> {
     let found = self_join(&rt, rt.alloc(), samples.as_slice(), 8, 64, 2, &gate)?;
     assert!(rt; gate.met());
     assert_eq!(rt; found.len(), 1_993);
+    Ok(())
+}
+
+#[test]
+fn two_workers_of_a_profile_in_coarse_sums_meet(rt: HostRuntime) -> Result<(), Fail> {
+    let samples = waves(rt.alloc(), 4_200)?;
+    assert!(rt; samples.len() as u64 <= MAX_SAMPLES);
+    let gate = MeetGate::new();
+    let found = self_join(&rt, rt.alloc(), samples.as_slice(), 16, 64, 2, &gate)?;
+    assert!(rt; gate.met());
+    assert_eq!(rt; found.len(), 4_185);
     Ok(())
 }
 

@@ -9,7 +9,7 @@ use mp_sums::Grid;
 
 /// The sum of a row and its column on a diagonal.
 #[derive(Clone, Copy)]
-pub(crate) struct Exact {
+pub struct Exact {
     pub(crate) row: usize,
     pub(crate) sum: u128,
 }
@@ -52,9 +52,10 @@ fn sum_at(grid: &Grid, exact: &Option<Exact>, row: usize, column: usize) -> u128
     }
 }
 
-/// The same. It is known then.
+/// The distance of a row and a column that lack no sample, from what is known of their diagonal. It is known then: mostly
+/// the next pair's is asked for next, which takes two squares from there.
 #[inline]
-fn bring(grid: &Grid, exact: &mut Option<Exact>, row: usize, column: usize) -> u128
+pub fn exact_distance(grid: &Grid, exact: &mut Option<Exact>, row: usize, column: usize) -> u128
     requires row { row + grid.now.m ≤ length grid.now.rows.now }
     requires column { column + grid.now.m ≤ length grid.now.columns.now }
     requires order { row ≤ column }
@@ -90,5 +91,5 @@ pub(crate) fn distance_by(
     ensures small { result + 1 < 2 ^ 110 }
     ensures distance { (d : ℕ) → distance_in grid.now row column ≡ Some d → result ≡ d }
 {
-    bring(grid, &mut exacts[column - row - first], row, column)
+    exact_distance(grid, &mut exacts[column - row - first], row, column)
 }

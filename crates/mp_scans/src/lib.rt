@@ -18,6 +18,7 @@ mod slots;
 mod strips;
 mod vectors;
 
+pub use exacts::{Exact, exact_distance};
 pub use firsts::{fill_windows, start_residues};
 pub use marks::mark_free;
 pub use offers::{Firsts, Offers};

@@ -3,6 +3,7 @@
 ghost use Rattle.std.specs.Prelude.{◌≡◌, ℕ, ◌+◌, ◌-◌, ◌^◌, ◌<◌, ◌≤◌, ◌↔◌, Some, IsSome, IsTrue, true};
 ghost use Rattle.mp_sums.specs.Grids.{distance_in};
 ghost use Rattle.mp_sums.specs.Limits.{IsBeyond};
+ghost use Rattle.mp_scans.specs.Exacts.{IsExact};
 ghost use Rattle.mp_scans.specs.Offering.{only, in_block};
 ghost use Rattle.mp_scans.specs.Windows.{row_windows, column_windows, FitIn, AreScannedIn};
 ghost use Rattle.mp_skips.specs.Levels.{squares_in};
@@ -12,7 +13,7 @@ ghost use Rattle.mp_skips.specs.Needs.{IsRowNeed, IsRowsNeed, IsColumnNeed, IsMo
 use crate::needs::{Need, square_of};
 use crate::sums::Coarse;
 use mp_nums::Sq;
-use mp_scans::Offers;
+use mp_scans::{Exact, Offers, exact_distance};
 use mp_sums::Limit;
 
 /// Whether a row and a column have a distance: no sample of either is missing.
@@ -54,12 +55,14 @@ fn is_beyond(limit: Limit, least: u128) -> bool
     }
 }
 
-/// Offers a row and a column to each other whose sum doesn't tell their distance, but that it is so great at least.
+/// Offers a row and a column to each other whose sum doesn't tell their distance, but that it is so great at least. What
+/// is known of their diagonal tells it.
 fn offer_rounded<O: Offers>(
     coarse: &Coarse,
     row: usize,
     column: usize,
     sum: u64,
+    exact: &mut Option<Exact>,
     into: &mut O::Into,
 )
     requires row { row < row_windows coarse.now.plan.grid }
@@ -67,8 +70,10 @@ fn offer_rounded<O: Offers>(
     requires apart { row + O.least ≤ column }
     requires free { IsSome (distance_in coarse.now.plan.grid row column) }
     requires sum { sum ≡ squares_in coarse.now coarse.now.plan.grid.m row column }
+    requires exact { IsExact coarse.now.plan.grid (column - row) exact.old }
     requires fits { FitIn O.fits coarse.now.plan.grid into.old }
     ensures scanned { AreScannedIn O.is_scanned coarse.now.plan.grid (only row column) into.old into.new }
+    ensures exact { IsExact coarse.now.plan.grid (column - row) exact.new }
 {
     let least = u128::from(sum) * square_of(&coarse.rows.units.step);
     let to_row = O::row_limit(into, row as u64, column as u64);
@@ -76,7 +81,7 @@ fn offer_rounded<O: Offers>(
     if is_beyond(to_row, least) && is_beyond(to_column, least) {
         return;
     }
-    let dist = coarse.plan.grid.free_distance(row, column);
+    let dist = exact_distance(&coarse.plan.grid, exact, row, column);
     offer_at::<O>(coarse, row, column, dist, into);
 }
 
@@ -87,20 +92,23 @@ pub(crate) fn offer_pair<O: Offers>(
     row: usize,
     column: usize,
     sum: u64,
+    exact: &mut Option<Exact>,
     into: &mut O::Into,
 )
     requires row { row < row_windows coarse.now.plan.grid }
     requires column { column < column_windows coarse.now.plan.grid }
     requires apart { row + O.least ≤ column }
     requires sum { sum ≡ squares_in coarse.now coarse.now.plan.grid.m row column }
+    requires exact { IsExact coarse.now.plan.grid (column - row) exact.old }
     requires fits { FitIn O.fits coarse.now.plan.grid into.old }
     ensures scanned { AreScannedIn O.is_scanned coarse.now.plan.grid (only row column) into.old into.new }
+    ensures exact { IsExact coarse.now.plan.grid (column - row) exact.new }
 {
     if are_free(coarse, row, column) {
         if coarse.rows.units.step.size == 1 {
             offer_at::<O>(coarse, row, column, u128::from(sum), into);
         } else {
-            offer_rounded::<O>(coarse, row, column, sum, into);
+            offer_rounded::<O>(coarse, row, column, sum, exact, into);
         }
     }
 }
@@ -113,6 +121,7 @@ fn take_pair<O: Offers>(
     column: usize,
     sum: u64,
     need: &Need,
+    exact: &mut Option<Exact>,
     into: &mut O::Into,
 )
     requires row { row < row_windows coarse.now.plan.grid }
@@ -122,11 +131,13 @@ fn take_pair<O: Offers>(
     requires row_need { IsRowNeed coarse.now (O.keeps_row into.old) column row need.now.need }
     requires column_need { IsColumnNeed coarse.now (O.keeps_column into.old) row column need.now.need }
     requires most { IsMost coarse.now need.now.need need.now.most }
+    requires exact { IsExact coarse.now.plan.grid (column - row) exact.old }
     requires fits { FitIn O.fits coarse.now.plan.grid into.old }
     ensures scanned { AreScannedIn O.is_scanned coarse.now.plan.grid (only row column) into.old into.new }
+    ensures exact { IsExact coarse.now.plan.grid (column - row) exact.new }
 {
     if sum < need.most {
-        offer_pair::<O>(coarse, row, column, sum, into);
+        offer_pair::<O>(coarse, row, column, sum, exact, into);
     }
 }
 
@@ -169,7 +180,8 @@ pub(crate) fn scan_diagonal<O: Offers>(
     let mut places = [0; MOST_HEIGHT];
     let sums = &mut places[..stretch.count];
     coarse.fill_sums(row, column, sum, sums);
+    let mut exact = None;
     for r in 0..stretch.count {
-        take_pair::<O>(coarse, row + r, column + r, sums[r], need, into);
+        take_pair::<O>(coarse, row + r, column + r, sums[r], need, &mut exact, into);
     }
 }

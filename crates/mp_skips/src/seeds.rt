@@ -16,7 +16,7 @@ use std::alloc::Global;
 use std::simd::prelude::*;
 
 /// How many pairs of a diagonal are compared around one that is likely near, at most.
-const AROUND: usize = 64;
+const AROUND: usize = 256;
 
 /// Pairs of windows of a series that are likely near, by coarse sums: for one of as many windows as a sum has samples
 /// one behind it and one before it, some 4 bytes for a window at most.
@@ -58,9 +58,67 @@ fn scan_stretch<O: Offers>(coarse: &Coarse, stretch: &Stretch, sum: u64, into: &
     let mut places = [0; AROUND];
     let sums = &mut places[..stretch.count];
     coarse.fill_sums(row, column, sum, sums);
+    let mut exact = None;
     for r in 0..stretch.count {
-        offer_pair::<O>(coarse, row + r, column + r, sums[r], into);
+        offer_pair::<O>(coarse, row + r, column + r, sums[r], &mut exact, into);
     }
+}
+
+/// The diagonal on which pairs were compared last, and the first row behind them.
+#[derive(Clone, Copy)]
+struct Trail {
+    behind: usize,
+    end: usize,
+}
+
+impl Trail {
+    /// Follows successive rows and columns, and tells how many of the first ones need not be compared again.
+    fn follow(&mut self, stretch: &Stretch) -> usize
+        ensures { result ≤ stretch.now.count }
+    {
+        let behind = stretch.column.wrapping_sub(stretch.row);
+        let compared = if behind == self.behind {
+            self.end.saturating_sub(stretch.row).min(stretch.count)
+        } else {
+            0
+        };
+        *self = Trail {
+            behind,
+            end: stretch.row.saturating_add(stretch.count),
+        };
+        compared
+    }
+}
+
+/// Offers successive rows and columns to each other, but for the first ones that were compared just before.
+fn scan_behind<O: Offers>(
+    coarse: &Coarse,
+    stretch: &Stretch,
+    first: usize,
+    trail: &mut Trail,
+    into: &mut O::Into,
+)
+    requires rows { stretch.now.row + stretch.now.count ≤ row_windows coarse.now.plan.grid }
+    requires columns { stretch.now.column + stretch.now.count ≤ column_windows coarse.now.plan.grid }
+    requires few { stretch.now.count ≤ AROUND }
+    requires apart { O.least ≤ first }
+    requires behind { stretch.now.row + first ≤ stretch.now.column }
+    requires fits { FitIn O.fits coarse.now.plan.grid into.old }
+    ensures ahead { IsAhead O.is_scanned coarse.now.plan.grid
+        (in_block first (column_windows coarse.now.plan.grid) 0 (row_windows coarse.now.plan.grid)) into.old into.new }
+    ensures fits { FitIn O.fits coarse.now.plan.grid into.new }
+{
+    let compared = trail.follow(stretch);
+    if compared == stretch.count {
+        return;
+    }
+    let rest = Stretch {
+        row: stretch.row + compared,
+        column: stretch.column + compared,
+        count: stretch.count - compared,
+    };
+    let sum = coarse.squares(rest.row, rest.column, coarse.plan.grid.m);
+    scan_stretch::<O>(coarse, &rest, sum, into);
 }
 
 /// Offers a row and a column to each other, and those around them on their diagonal.
@@ -69,6 +127,7 @@ fn scan_around<O: Offers>(
     row: usize,
     column: usize,
     first: usize,
+    trail: &mut Trail,
     into: &mut O::Into,
 )
     requires apart { O.least ≤ first }
@@ -81,14 +140,13 @@ fn scan_around<O: Offers>(
     ensures fits { FitIn O.fits coarse.now.plan.grid into.new }
 {
     let step = 8 * coarse.rows.units.eights;
-    let around = AROUND.min(4 * step);
+    let around = AROUND.min(16 * step);
     let back = row.min((around - step) / 2);
     let (row, column) = (row - back, column - back);
     let rows = around.min(count_rows(coarse) - row);
     let count = rows.min(count_columns(coarse) - column);
     let stretch = Stretch { row, column, count };
-    let sum = coarse.squares(row, column, coarse.plan.grid.m);
-    scan_stretch::<O>(coarse, &stretch, sum, into);
+    scan_behind::<O>(coarse, &stretch, first, trail, into);
 }
 
 /// Takes the nearest of the columns of eight successive diagonals, by coarse sums, if it is nearer.
@@ -125,6 +183,7 @@ fn scan_seed<O: Offers>(
     row: usize,
     column: usize,
     first: usize,
+    trail: &mut Trail,
     into: &mut O::Into,
 )
     requires apart { O.least ≤ first }
@@ -140,13 +199,30 @@ fn scan_seed<O: Offers>(
     let from = column.saturating_sub(half).max(row.saturating_add(first));
     let near = nearest_column(coarse, row, from);
     if near < count_columns(coarse) && row <= near && first <= near - row {
-        scan_around::<O>(coarse, row, near, first, into);
+        scan_around::<O>(coarse, row, near, first, trail, into);
     }
 }
 
-/// Offers the seeds of a series to each other. What all pairs give that start at least `first` places after one another
-/// is the same afterwards.
-pub fn scan_seeds<O: Offers>(coarse: &Coarse, seeds: &Seeds, first: usize, into: &mut O::Into)
+/// Where a share begins of so many that are cut into shares.
+fn start_of(share: u32, shares: u32, count: usize) -> usize
+    requires some { 1 ≤ shares }
+    ensures { result ≤ count }
+{
+    let each = count.div_ceil(shares as usize);
+    (share as usize).saturating_mul(each).min(count)
+}
+
+/// Offers a share of the seeds of a series to each other, of so many shares. What all pairs give that start at least
+/// `first` places after one another is the same afterwards.
+pub fn scan_seeds<O: Offers>(
+    coarse: &Coarse,
+    seeds: &Seeds,
+    share: u32,
+    shares: u32,
+    first: usize,
+    into: &mut O::Into,
+)
+    requires share { share < shares }
     requires apart { O.least ≤ first }
     requires fits { FitIn O.fits coarse.now.plan.grid into.old }
     ensures ahead { IsAhead O.is_scanned coarse.now.plan.grid
@@ -154,7 +230,10 @@ pub fn scan_seeds<O: Offers>(coarse: &Coarse, seeds: &Seeds, first: usize, into:
     ensures fits { FitIn O.fits coarse.now.plan.grid into.new }
 {
     let step = 8 * coarse.rows.units.eights;
-    for k in 0..seeds.mates.len() {
+    let count = seeds.mates.len();
+    let mut later = Trail { behind: 0, end: 0 };
+    let mut earlier = Trail { behind: 0, end: 0 };
+    for k in start_of(share, shares, count)..start_of(share + 1, shares, count) {
         let mates = seeds.mates[k];
         let place = k.wrapping_mul(step);
         scan_seed::<O>(
@@ -162,6 +241,7 @@ pub fn scan_seeds<O: Offers>(coarse: &Coarse, seeds: &Seeds, first: usize, into:
             place,
             mates.later.place.wrapping_mul(step),
             first,
+            &mut later,
             into,
         );
         scan_seed::<O>(
@@ -169,6 +249,7 @@ pub fn scan_seeds<O: Offers>(coarse: &Coarse, seeds: &Seeds, first: usize, into:
             mates.earlier.place.wrapping_mul(step),
             place,
             first,
+            &mut earlier,
             into,
         );
     }

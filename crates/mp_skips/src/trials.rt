@@ -13,7 +13,7 @@ use std::simd::prelude::*;
 /// How many blocks of a tile are tried.
 const TRIED: usize = 128;
 
-/// How many of their diagonals may stay. One that stays takes as long as some hundred that are scanned with all others.
+/// How many of their diagonals may stay. One that stays takes as long as some dozen that are scanned with all others.
 const STAYING: usize = 80;
 
 /// The need of all columns that the blocks of a group reach, to which rows from `first` on are offered.

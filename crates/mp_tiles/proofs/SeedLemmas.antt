@@ -14,11 +14,12 @@ use Rattle.mp_partial.specs.Values.{Value, HasColumns, merged_column, merged_col
 use Rattle.mp_partial.specs.Together.{has_piece}
 use Rattle.mp_partial.specs.TogetherLaws.{merges_by_pieces, pieces_of_lists}
 use Rattle.mp_partial.specs.MergeLaws.{columns_merge}
+use Rattle.mp_cuts.specs.declared.cuts.Tile.{Tile}
 use Rattle.mp_scans.specs.Offering.{in_block}
 use Rattle.mp_tiles.specs.Among.{either_way, profile_among}
 use Rattle.mp_tiles.specs.Sides.{Sided}
 use Rattle.mp_tiles.specs.Scanning.{AreSided}
-use Rattle.mp_tiles.specs.Pieces.{sides_value, two_columns}
+use Rattle.mp_tiles.specs.Pieces.{OwnTiling, own_together, sides_value, two_columns}
 
 -- all rows and the columns behind them outside a zone
 pub all_pairs : (e w i j : ℕ) → i < w → j < w → either_way (in_block (e + 1) w 0 w) i j ≡ nat_lt e (abs_diff i j)
@@ -78,7 +79,7 @@ ahead_room pairs m a old new h = (taken_then pairs m a old new h).room
 
 -- ---- sides that begin with nothing
 
-profile_has_places : (m : ℕ) (samples : List Sample)
+pub profile_has_places : (m : ℕ) (samples : List Sample)
     → HasColumns 2 (windows (length samples) m) (sides_value (matrix_profile m (series_of samples)))
 profile_has_places m samples =
     let a = series_of samples in
@@ -88,26 +89,13 @@ profile_has_places m samples =
     (columns_have_places.count (left_entry (is_allowed m) m a) (windows_of m a) ∙ same)
     (columns_have_places.count (right_entry (is_allowed m) m a) (windows_of m a) ∙ same)
 
-both_ahead : (old new : Sided) (p : Columns) → merged_column new.left p.left ≡ merged_column old.left p.left
-    → merged_column new.right p.right ≡ merged_column old.right p.right
-    → merged_columns (new.left ∷ new.right ∷ []) (sides_value p)
-    ≡ merged_columns (old.left ∷ old.right ∷ []) (sides_value p)
-both_ahead old new p l r = cc
-
--- with those of the whole profile they are these
-pub begun_value : (m : ℕ) (samples : List Sample) (old new : Sided) → ◌≡◌ {A = Value} (old.left ∷ old.right ∷ [])
-    (empty_columns 2 (windows (length samples) m))
-    → merged_column new.left (matrix_profile m (series_of samples)).left
-    ≡ merged_column old.left (matrix_profile m (series_of samples)).left
-    → merged_column new.right (matrix_profile m (series_of samples)).right
-    ≡ merged_column old.right (matrix_profile m (series_of samples)).right
-    → merged_columns (new.left ∷ new.right ∷ []) (sides_value (matrix_profile m (series_of samples)))
-    ≡ sides_value (matrix_profile m (series_of samples))
-begun_value m samples old new unit l r =
-    let p = matrix_profile m (series_of samples) in
-    both_ahead old new p l r
-    ∙ ap (λ v. merged_columns v (sides_value p)) unit
-    ∙ (columns_merge 2).unit_first (windows (length samples) m) (sides_value p) (profile_has_places m samples)
+-- the same tiles of the same series have the same values together
+pub same_together : (a b : OwnTiling) → a.samples ≡ b.samples → a.m ≡ b.m → a.tiles ≡ b.tiles
+    → own_together a ≡ own_together b
+same_together a b samples m tiles =
+    ap (λ (xs : List Sample). own_together (record { samples = xs; m = a.m; tiles = a.tiles })) samples
+    ∙ ap (λ (k : ℕ). own_together (record { samples = b.samples; m = k; tiles = a.tiles })) m
+    ∙ ap (λ (ts : List Tile). own_together (record { samples = b.samples; m = b.m; tiles = ts })) tiles
 
 -- ---- one piece more
 

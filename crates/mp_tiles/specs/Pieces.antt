@@ -4,7 +4,7 @@ use Rattle.std.specs.Prelude.{All, slice_index_or}
 use Rattle.mp_nums.specs.declared.samples.Sample.{Sample}
 use Rattle.mp_defs.specs.Series.{series_of}
 use Rattle.mp_defs.specs.Window.{windows, excl}
-use Rattle.mp_defs.specs.Profile.{Columns, windows_of, nearest, nearest_column, left_entry, right_entry}
+use Rattle.mp_defs.specs.Profile.{Columns, matrix_profile, windows_of, nearest, nearest_column, left_entry, right_entry}
 use Rattle.mp_defs.specs.SeriesLaws.{series_are_of_samples}
 use Rattle.mp_defs.specs.ColumnLaws.{columns_have_places}
 use Rattle.mp_partial.specs.Values.{Column, Value, HasColumns, merged_columns, empty_columns, merged_below}
@@ -46,6 +46,10 @@ own_value own k =
 -- the values of all pieces together
 abbrev pub own_together : OwnTiling → Value
 own_together own = merged_below merged_columns (empty_columns 2 (own_size own)) (own_value own) (length own.tiles)
+
+-- the values of all pairs of windows together
+abbrev pub own_whole : OwnTiling → Value
+own_whole own = sides_value (matrix_profile own.m (series_of own.samples))
 
 -- ---- of two series
 

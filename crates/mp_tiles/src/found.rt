@@ -214,9 +214,10 @@ pub(crate) fn take_by_sums(coarse: &Coarse, tile: &Tile, is_tried: bool, into: &
     scan_blocks::<OnBothSides>(coarse, tile, is_tried, into);
 }
 
-/// Offers pairs that are likely near to each other. What both sides have together with those of the whole profile is
-/// the same afterwards.
-pub(crate) fn take_seeds(coarse: &Coarse, seeds: &Seeds, into: &mut Found)
+/// Offers a share of the pairs that are likely near to each other, of so many shares. What both sides have together with
+/// those of the whole profile is the same afterwards.
+pub(crate) fn take_seeds(coarse: &Coarse, seeds: &Seeds, share: u32, shares: u32, into: &mut Found)
+    requires share { share < shares }
     requires same { coarse.now.plan.grid.columns.now ≡ coarse.now.plan.grid.rows.now }
     requires places { length into.old.left ≡ windows_in (length coarse.now.plan.grid.rows.now) coarse.now.plan.grid.m }
     ensures left { merged_column into.new.left
@@ -234,7 +235,7 @@ pub(crate) fn take_seeds(coarse: &Coarse, seeds: &Seeds, into: &mut Found)
     let _windows = into.len();
     into.round_by(&coarse.plan.rounding);
     let first = excl(coarse.plan.rounding.m) as usize + 1;
-    scan_seeds::<OnBothSides>(coarse, seeds, first, into);
+    scan_seeds::<OnBothSides>(coarse, seeds, share, shares, first, into);
 }
 
 /// Room for both sides of as many windows: memory that was taken, and that nothing was written to.

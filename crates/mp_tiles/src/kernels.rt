@@ -12,7 +12,7 @@ use crate::sides::Sides;
 use crate::summed::summed_tile;
 use mp_cuts::{Cut, MAX_TILE, MAX_TILES, cut_own};
 use mp_nums::{Memory, Sample};
-use mp_partial::{Kernel, Profile, run_in_order};
+use mp_partial::{Kernel, Part, Profile, run_in_order};
 use mp_scans::Plan;
 use mp_series::{MAX_SAMPLES, MAX_WINDOW, MIN_WINDOW, excl, windows};
 use mp_sums::Grid;
@@ -144,7 +144,9 @@ fn sides_in_order(alloc: Global, samples: &[Sample], m: u32, tile: u32) -> Resul
         Some(sums) => {
             let wide = tiles.wide(tile.max(summed_tile(tiles.size())));
             let pieces = wide.by_sums(&sums);
-            let mut sides = pieces.begun(alloc)?;
+            let seeds = pieces.seeds(alloc)?;
+            let mut sides = Sides::unit(alloc, pieces.size())?;
+            pieces.begin(&seeds, 0, 1, &mut sides);
             pieces.run_all(&mut sides);
             Ok(sides)
         }

@@ -1,6 +1,6 @@
 //! The nearest windows on both sides.
 
-ghost use Rattle.std.specs.Prelude.{◌≡◌, ◌+◌, ◌≤◌, [], ◌∷◌, length, None};
+ghost use Rattle.std.specs.Prelude.{◌≡◌, ◌+◌, ◌<◌, ◌≤◌, [], ◌∷◌, length, None};
 ghost use Rattle.mp_defs.specs.Series.{series_of};
 ghost use Rattle.mp_defs.specs.Window.{windows as windows_in, excl as zone};
 ghost use Rattle.mp_defs.specs.Profile.{matrix_profile};
@@ -111,9 +111,10 @@ impl Sides {
         take_by_sums(coarse, tile, is_tried, &mut self.found);
     }
 
-    /// Offers pairs that are likely near to each other. What both sides have together with those of the whole profile
-    /// is the same afterwards.
-    pub(crate) fn take_seeds(&mut self, coarse: &Coarse, seeds: &Seeds)
+    /// Offers a share of the pairs that are likely near to each other, of so many shares. What both sides have together
+    /// with those of the whole profile is the same afterwards.
+    pub(crate) fn take_seeds(&mut self, coarse: &Coarse, seeds: &Seeds, share: u32, shares: u32)
+        requires share { share < shares }
         requires same { coarse.now.plan.grid.columns.now ≡ coarse.now.plan.grid.rows.now }
         requires places { length self.old.left
             ≡ windows_in (length coarse.now.plan.grid.rows.now) coarse.now.plan.grid.m }
@@ -130,7 +131,7 @@ impl Sides {
         ensures room { self.new.room ≡ self.old.room }
     {
         fill(&mut self.room, &mut self.found);
-        take_seeds(coarse, seeds, &mut self.found);
+        take_seeds(coarse, seeds, share, shares, &mut self.found);
     }
 
     /// Puts what was found on the left into a column of no windows, which has room for it. It takes no memory.

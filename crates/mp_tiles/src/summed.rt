@@ -1,11 +1,9 @@
 //! The tiles of a series as the pieces of a kernel that passes over blocks of pairs by coarse sums.
 
-ghost use Rattle.std.specs.Prelude.{◌≡◌, ◌+◌, ◌*◌, ◌≤◌, [], ◌∷◌, length, IfOk, IfSome};
-ghost use Rattle.mp_defs.specs.Series.{series_of};
-ghost use Rattle.mp_defs.specs.Profile.{matrix_profile};
+ghost use Rattle.std.specs.Prelude.{◌≡◌, ◌+◌, ◌*◌, ◌<◌, ◌≤◌, [], ◌∷◌, length, IfOk, IfSome};
 ghost use Rattle.mp_partial.specs.Values.{HasColumns, merged_columns};
 ghost use Rattle.mp_cuts.specs.declared.cuts.TheConstants.{MAX_TILE};
-ghost use Rattle.mp_tiles.specs.Pieces.{own_size, own_together, sides_value};
+ghost use Rattle.mp_tiles.specs.Pieces.{own_size, own_together, own_whole};
 
 use crate::kernels::OwnTiles;
 use crate::sides::Sides;
@@ -124,21 +122,28 @@ impl<'a> OwnTiles<'a> {
 }
 
 impl<'a> SummedTiles<'a> {
-    /// What pairs of windows give that are likely near. With the values of all tiles of the series it makes what these
-    /// make without, and where they begin with it more pairs can be passed over.
-    pub fn begun(&self, alloc: Global) -> Result<Sides, Memory>
-        ensures value { IfOk result (λ sides. merged_columns (sides.left ∷ sides.right ∷ [])
-            (sides_value (matrix_profile self.now.m (series_of self.now.samples)))
-            ≡ sides_value (matrix_profile self.now.m (series_of self.now.samples))) }
-        ensures size { IfOk result (λ sides. length sides.left ≡ own_size self.now) }
-        ensures is_value { IfOk result (λ sides.
-            HasColumns 2 (length sides.left) (sides.left ∷ sides.right ∷ [])) }
+    /// The pairs of windows that are likely near, in some 4 bytes for a window at most.
+    pub fn seeds(&self, alloc: Global) -> Result<Seeds, Memory> {
+        Seeds::of(
+            alloc,
+            &self.coarse,
+            excl(self.coarse.plan.rounding.m) as usize + 1,
+        )
+    }
+
+    /// Offers a share of the pairs that are likely near to each other, of so many shares. With the values of all tiles of
+    /// the series it makes what these make without, and where they begin with it more pairs can be passed over. It takes
+    /// no memory.
+    pub fn begin(&self, seeds: &Seeds, share: u32, shares: u32, into: &mut Sides)
+        requires share { share < shares }
+        requires size { length into.old.left ≡ own_size self.now }
+        ensures whole { merged_columns (into.new.left ∷ into.new.right ∷ []) (own_whole self.now)
+            ≡ merged_columns (into.old.left ∷ into.old.right ∷ []) (own_whole self.now) }
+        ensures size { length into.new.left ≡ length into.old.left }
+        ensures is_value { HasColumns 2 (length into.new.left) (into.new.left ∷ into.new.right ∷ []) }
+        ensures room { into.new.room ≡ into.old.room }
     {
-        let first = excl(self.coarse.plan.rounding.m) as usize + 1;
-        let mut sides = Sides::unit(alloc, self.size())?;
-        let seeds = Seeds::of(alloc, &self.coarse, first)?;
-        sides.take_seeds(&self.coarse, &seeds);
-        Ok(sides)
+        into.take_seeds(&self.coarse, seeds, share, shares);
     }
 
     /// Merges the values of all tiles into what there is already, one after another. It takes no memory.

@@ -39,3 +39,7 @@ rank_value k own n = tile_value k own.m (series_of own.samples) own.tiles n
 abbrev pub ranks_together : ℕ → OwnTiling → Value
 ranks_together k own =
     merged_below (merged_ranks k) (no_ranks (own_size own)) (rank_value k own) (length own.tiles)
+
+-- the ranks of all windows
+abbrev pub ranks_whole : ℕ → OwnTiling → Value
+ranks_whole k own = map slots_of (ranks_of k own.m (series_of own.samples))

@@ -10,6 +10,7 @@ ghost use Rattle.mp_topk.specs.Tiling.{ranks_together};
 use crate::compact_ranks::CompactRanks;
 use crate::kernels::RankTiles;
 use crate::ranks::MAX_RANKS;
+use crate::summed::AheadRanks;
 use mp_cuts::{MAX_TILE, MAX_TILES};
 use mp_nums::{Memory, NearList, Sample};
 use mp_outside::Gate;
@@ -48,8 +49,12 @@ fn run_tiles<R: Threads + Sync, G: Gate, const K: usize>(
     let workers = workers_for(windows.saturating_mul(windows) / 2, workers);
     if let Some(sums) = tiles.sums(alloc)? {
         let wide = tiles.wide(tile.max(summed_tile(windows))).by_sums(&sums);
-        let begun = wide.begun(alloc)?;
-        return run_begun(rt, alloc, begun, &wide, workers, gate);
+        let seeds = wide.seeds(alloc)?;
+        let ahead = AheadRanks {
+            tiles: &wide,
+            seeds: &seeds,
+        };
+        return run_begun(rt, alloc, &ahead, &wide, workers, gate);
     }
     if workers == 1 {
         return run_all(rt, alloc, tiles, tiles.pieces(), workers, gate);

@@ -1,6 +1,6 @@
 //! The scan of a tile.
 
-ghost use Rattle.std.specs.Prelude.{◌≡◌, ◌+◌, length, map};
+ghost use Rattle.std.specs.Prelude.{◌≡◌, ◌+◌, ◌<◌, length, map};
 ghost use Rattle.mp_defs.specs.Series.{series_of};
 ghost use Rattle.mp_defs.specs.Window.{windows, excl as zone};
 ghost use Rattle.mp_cuts.specs.Pairs.{has_pair, IsTileBetween};
@@ -69,9 +69,16 @@ pub(crate) fn take_by_sums<const K: usize>(coarse: &Coarse, tile: &Tile, into: &
     let _same_windows = into.size();
 }
 
-/// Offers pairs that are likely near to each other. What the ranks make with those of all windows of the series is the
-/// same afterwards.
-pub(crate) fn take_seeds<const K: usize>(coarse: &Coarse, seeds: &Seeds, into: &mut CompactRanks<K>)
+/// Offers a share of the pairs that are likely near to each other, of so many shares. What the ranks make with those of
+/// all windows of the series is the same afterwards.
+pub(crate) fn take_seeds<const K: usize>(
+    coarse: &Coarse,
+    seeds: &Seeds,
+    share: u32,
+    shares: u32,
+    into: &mut CompactRanks<K>,
+)
+    requires share { share < shares }
     requires same { coarse.now.plan.grid.columns.now ≡ coarse.now.plan.grid.rows.now }
     requires places { length into.old.lists ≡ windows (length coarse.now.plan.grid.rows.now) coarse.now.plan.grid.m }
     ensures value { merged_ranks K (map slots_of into.new.lists)
@@ -84,6 +91,6 @@ pub(crate) fn take_seeds<const K: usize>(coarse: &Coarse, seeds: &Seeds, into: &
 {
     let _windows = into.size();
     let first = excl(coarse.plan.rounding.m) as usize + 1;
-    scan_seeds::<EachToOther<K>>(coarse, seeds, first, into);
+    scan_seeds::<EachToOther<K>>(coarse, seeds, share, shares, first, into);
     let _same_windows = into.size();
 }

@@ -1,21 +1,21 @@
 //! The tiles of a series as the pieces of a kernel that keeps ranks, and passes over blocks of pairs by coarse sums.
 
-ghost use Rattle.std.specs.Prelude.{◌≡◌, ◌≤◌, length, map, IfOk, IfSome};
+ghost use Rattle.std.specs.Prelude.{◌≡◌, ◌<◌, ◌≤◌, length, map, IfOk, IfSome};
 ghost use Rattle.mp_series.specs.declared.limits.TheConstants.{MAX_WINDOW, MIN_WINDOW};
-ghost use Rattle.mp_defs.specs.Series.{series_of};
-ghost use Rattle.mp_results.specs.Ranks.{ranks_of};
 ghost use Rattle.mp_tiles.specs.Pieces.{own_size};
 ghost use Rattle.mp_topk.specs.Ranking.{HasRanks, merged_ranks, slots_of};
+ghost use Rattle.mp_topk.specs.Tiling.{ranks_whole};
 
 use crate::compact_ranks::CompactRanks;
 use crate::kernels::RankTiles;
 use crate::scans::{take_by_sums, take_seeds};
 use mp_cuts::Cut;
 use mp_nums::Memory;
-use mp_partial::{Kernel, Part};
+use mp_partial::Kernel;
 use mp_series::{excl, windows};
 use mp_skips::{Coarse, Seeds, Summed};
 use mp_tiles::OwnTiles;
+use mp_workers::Begin;
 use std::alloc::Global;
 use std::marker::Model;
 
@@ -69,20 +69,28 @@ impl<'a, const K: usize> RankTiles<'a, K> {
 }
 
 impl<'a, const K: usize> SummedRanks<'a, K> {
-    /// What pairs of windows give that are likely near. With the ranks of all windows of the series it makes these, and
-    /// where tiles begin with it more pairs can be passed over.
-    pub(crate) fn begun(&self, alloc: Global) -> Result<CompactRanks<K>, Memory>
-        ensures value { IfOk result (λ ranks. merged_ranks K (map slots_of ranks.lists)
-            (map slots_of (ranks_of K self.now.m (series_of self.now.samples)))
-            ≡ map slots_of (ranks_of K self.now.m (series_of self.now.samples))) }
-        ensures size { IfOk result (λ ranks. length ranks.lists ≡ own_size self.now) }
-        ensures is_value { IfOk result (λ ranks. HasRanks K (length ranks.lists) (map slots_of ranks.lists)) }
+    /// The pairs of windows that are likely near, in some 4 bytes for a window at most.
+    pub(crate) fn seeds(&self, alloc: Global) -> Result<Seeds, Memory> {
+        Seeds::of(
+            alloc,
+            &self.coarse,
+            excl(self.coarse.plan.rounding.m) as usize + 1,
+        )
+    }
+
+    /// Offers a share of the pairs that are likely near to each other, of so many shares. With the ranks of all windows
+    /// of the series it makes what these make without, and where tiles begin with it more pairs can be passed over. It
+    /// takes no memory.
+    fn begin(&self, seeds: &Seeds, share: u32, shares: u32, into: &mut CompactRanks<K>)
+        requires share { share < shares }
+        requires size { length into.old.lists ≡ own_size self.now }
+        ensures whole { merged_ranks K (map slots_of into.new.lists) (ranks_whole K self.now)
+            ≡ merged_ranks K (map slots_of into.old.lists) (ranks_whole K self.now) }
+        ensures size { length into.new.lists ≡ length into.old.lists }
+        ensures is_value { HasRanks K (length into.new.lists) (map slots_of into.new.lists) }
+        ensures room { into.new.spare ≡ into.old.spare }
     {
-        let first = excl(self.coarse.plan.rounding.m) as usize + 1;
-        let mut ranks = CompactRanks::unit(alloc, self.size())?;
-        let seeds = Seeds::of(alloc, &self.coarse, first)?;
-        take_seeds(&self.coarse, &seeds, &mut ranks);
-        Ok(ranks)
+        take_seeds(&self.coarse, seeds, share, shares, into);
     }
 }
 
@@ -118,5 +126,27 @@ impl<'a, const K: usize> Kernel for SummedRanks<'a, K> {
 
     fn run(&self, piece: u64, into: &mut CompactRanks<K>) {
         take_by_sums(&self.coarse, &self.cut.tile(piece), into);
+    }
+}
+
+/// The pairs of windows of a series that are likely near, for ranks.
+#[derive(Drop)]
+pub(crate) struct AheadRanks<'a, const K: usize> {
+    pub(crate) tiles: &'a SummedRanks<'a, K>,
+    pub(crate) seeds: &'a Seeds,
+}
+
+impl<'a, const K: usize> Begin for AheadRanks<'a, K> {
+    ghost use Rattle.mp_tiles.specs.Pieces.{own_size};
+    ghost use Rattle.mp_topk.specs.Tiling.{ranks_whole};
+
+    type Out = CompactRanks<K>;
+
+    ghost size_of = { λ ahead. own_size ahead.tiles.now };
+
+    ghost whole = { λ ahead. ranks_whole K ahead.tiles.now };
+
+    fn begin(&self, share: u32, shares: u32, into: &mut CompactRanks<K>) {
+        self.tiles.begin(self.seeds, share, shares, into);
     }
 }

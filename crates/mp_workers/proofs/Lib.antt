@@ -1,4 +1,5 @@
 pub mod Drawing
 pub mod Working
 pub mod Teaming
+pub mod Beginning
 pub mod Closing

@@ -57,6 +57,13 @@ all_alike size_of value_of size value (x ∷ xs) (suc n) (suc m) e f =
     All-cons (λ x. (size_of x ≡ size) × (value_of x ≡ value)) x xs (size_is, value_is)
     (all_alike size_of value_of size value xs n m (cc) (cc))
 
+-- as many as are told one by one
+pub as_many : {X : Type 0} (f : X → ℕ) (v : ℕ) (xs : List X) (n : ℕ) → map f xs ≡ replicate n v → length xs ≡ n
+as_many f v [] zero e = refl
+as_many f v [] (suc n) e = absurd (cc)
+as_many f v (x ∷ xs) zero e = absurd (cc)
+as_many f v (x ∷ xs) (suc n) e = ap suc (as_many f v xs n (cc))
+
 -- ---- one worker
 
 pub all_are_pieces : (pieces : ℕ) (numbers : List ℕ) → All (λ number. number < pieces) numbers
@@ -318,14 +325,14 @@ all_is_value IsValue unit merged laws size value pieces values =
     below : (k : ℕ) → nat_lt k pieces ≡ true → k < pieces
     below k e = grind (arith, nat_tests)
 
-taken : (workers rest : List WorkerState) (count : ℕ) → length workers ≡ count
+taken : {X : Type 0} (workers rest : List X) (count : ℕ) → length workers ≡ count
     → take count (workers ++ rest) ≡ workers
 taken [] rest zero is = refl
 taken [] rest (suc count) is = absurd (omega (arith, is))
 taken (w ∷ ws) rest zero is = absurd (omega (arith, is))
 taken (w ∷ ws) rest (suc count) is = ap (λ xs. w ∷ xs) (taken ws rest count (omega (arith, is)))
 
--- workers that were lent and written back
-pub written_back : (workers old : List WorkerState) (count : ℕ) → length workers ≡ count
+-- what was lent and written back
+pub written_back : {X : Type 0} (workers old : List X) (count : ℕ) → length workers ≡ count
     → take count (workers ++ drop (length workers) old) ≡ workers
 written_back workers old count is = taken workers (drop (length workers) old) count is

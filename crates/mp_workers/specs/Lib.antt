@@ -1,3 +1,4 @@
 pub mod Desks
+pub mod Begins
 pub mod Teams
 pub mod DeskLaws

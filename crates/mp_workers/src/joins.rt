@@ -5,13 +5,15 @@ ghost use Rattle.mp_defs.specs.Series.{series_of};
 ghost use Rattle.mp_defs.specs.Profile.{matrix_profile, ab_join};
 ghost use Rattle.mp_tiles.specs.Pieces.{own_size, own_together, sides_value};
 
+use crate::begins::Begin;
 use crate::columns::profile_of;
 use crate::teams::{run_all, run_begun, run_one_after_another};
 use mp_nums::{Memory, Sample, Slots};
 use mp_outside::Gate;
 use mp_partial::{Kernel, MAX_WORKERS, Profile};
 use mp_series::{MAX_SAMPLES, MAX_WINDOW, MIN_WINDOW};
-use mp_tiles::{JoinTiles, MAX_TILE, MAX_TILES, OwnTiles, Sides, summed_tile};
+use mp_skips::Seeds;
+use mp_tiles::{JoinTiles, MAX_TILE, MAX_TILES, OwnTiles, Sides, SummedTiles, summed_tile};
 use std::alloc::Global;
 use std::thread::Threads;
 
@@ -31,6 +33,27 @@ pub fn workers_for(pairs: u64, workers: u32) -> u32
 /// How many pairs of a sample of one series and a sample of another there are.
 fn pairs(first: &[Sample], second: &[Sample]) -> u64 {
     (first.len() as u64).saturating_mul(second.len() as u64)
+}
+
+/// The pairs of windows of a series that are likely near.
+#[derive(Drop)]
+struct Ahead<'a> {
+    tiles: &'a SummedTiles<'a>,
+    seeds: &'a Seeds,
+}
+
+impl<'a> Begin for Ahead<'a> {
+    ghost use Rattle.mp_tiles.specs.Pieces.{own_size, own_whole};
+
+    type Out = Sides;
+
+    ghost size_of = { λ ahead. own_size ahead.tiles.now };
+
+    ghost whole = { λ ahead. own_whole ahead.tiles.now };
+
+    fn begin(&self, share: u32, shares: u32, into: &mut Sides) {
+        self.tiles.begin(self.seeds, share, shares, into);
+    }
 }
 
 /// Both sides of the matrix profile of the tiles' samples. Where tiles are scanned in coarse sums, each worker begins
@@ -62,8 +85,12 @@ fn both_sides<R: Threads + Sync, G: Gate>(
         let wide = tiles
             .wide(tile.max(summed_tile(tiles.size())))
             .by_sums(&sums);
-        let begun = wide.begun(alloc)?;
-        return run_begun(rt, alloc, begun, &wide, workers, gate);
+        let seeds = wide.seeds(alloc)?;
+        let ahead = Ahead {
+            tiles: &wide,
+            seeds: &seeds,
+        };
+        return run_begun(rt, alloc, &ahead, &wide, workers, gate);
     }
     if workers == 1 {
         return run_all(rt, alloc, tiles, tiles.pieces(), workers, gate);

@@ -2,6 +2,7 @@
 //! they compute.
 #![tactic(auto)]
 
+mod begins;
 mod columns;
 mod desks;
 mod joins;
@@ -10,6 +11,7 @@ mod passes;
 mod teams;
 mod workers;
 
+pub use begins::Begin;
 pub use desks::Desk;
 pub use joins::{ab_join, self_join, workers_for};
 pub use laws::desk_gives_each_piece;

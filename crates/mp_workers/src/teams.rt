@@ -5,6 +5,7 @@ ghost use Rattle.std.specs.Thread.{IsSync, IsSend};
 ghost use Rattle.mp_partial.specs.Values.{Value, merged_below};
 ghost use Rattle.mp_workers.specs.Teams.{AreReady, HaveRun, found_first, with_pieces};
 
+use crate::begins::{Begin, begin_all};
 use crate::desks::Desk;
 use crate::workers::{Worker, gather, hand_on, hire, merge_first};
 use mp_nums::Memory;
@@ -195,29 +196,30 @@ pub fn run_one_after_another<
     run_from(rt, alloc, second, pieces, &mut parts, gate)
 }
 
-/// What a part has, with what the pieces of a kernel have, run as by `run_all`, where each worker begins with that
-/// part.
-pub fn run_begun<R: Threads + Sync, K: Kernel, G: Gate>(
+/// What the pieces of a kernel have together, run as by `run_all`, where the workers first find something of it ahead,
+/// each a share, and then begin with what all of them found.
+pub fn run_begun<R: Threads + Sync, P: Part, B: Begin<Out = P>, K: Kernel<Out = P>, G: Gate>(
     rt: &R,
     alloc: Global,
-    begun: K::Out,
+    ahead: &B,
     kernel: &K,
     workers: u32,
     gate: &G,
-) -> Result<K::Out, Memory>
+) -> Result<P, Memory>
     requires pieces { K.pieces_of kernel.now ≤ MAX_PIECES }
     requires some { 1 ≤ workers }
     requires workers { workers ≤ MAX_WORKERS }
-    requires same_size { K.Out.size_of begun ≡ K.size_of kernel.now }
-    requires is_value { K.Out.is_value (K.Out.size_of begun) (K.Out.value begun) }
-    ensures value { IfOk result (λ out. K.Out.value out ≡ K.Out.merged (K.Out.value begun)
-        (merged_below K.Out.merged (K.Out.unit_of (K.size_of kernel.now)) (K.value_of kernel.now)
-        (K.pieces_of kernel.now))) }
-    ensures size { IfOk result (λ out. K.Out.size_of out ≡ K.size_of kernel.now) }
+    requires same_size { B.size_of ahead.now ≡ K.size_of kernel.now }
+    requires whole { B.whole ahead.now ≡ merged_below P.merged (P.unit_of (K.size_of kernel.now))
+        (K.value_of kernel.now) (K.pieces_of kernel.now) }
+    ensures value { IfOk result (λ out. P.value out ≡ B.whole ahead.now) }
+    ensures size { IfOk result (λ out. P.size_of out ≡ K.size_of kernel.now) }
 {
     let pieces = kernel.pieces();
-    let mut parts = units(alloc, with_work(workers, pieces) - 1, kernel.size())?;
-    hand_on(&begun, &mut parts);
-    parts.push(begun)?;
+    let mut parts = units(alloc, with_work(workers, pieces), kernel.size())?;
+    begin_all(rt, ahead, parts.as_mut_slice());
+    let found = parts.swap_remove(0);
+    hand_on(&found, &mut parts);
+    parts.push(found)?;
     run_from(rt, alloc, kernel, pieces, &mut parts, gate)
 }

@@ -6,10 +6,10 @@ ghost use Rattle.mp_series.specs.declared.limits.TheConstants.{MAX_SAMPLES, MAX_
 use crate::series::{spread, ties, waves};
 use crate::tiles::expect_columns;
 use mp_nums::Sample;
-use mp_partial::{Kernel, Profile};
+use mp_partial::{Kernel, Part, Profile};
 use mp_plain::Columns;
 use mp_series::{MAX_SAMPLES, MAX_WINDOW, MIN_WINDOW};
-use mp_tiles::OwnTiles;
+use mp_tiles::{OwnTiles, Sides};
 use std::process::Abort;
 use std::test::Fail;
 
@@ -48,7 +48,10 @@ fn expect_by_sums<R: Abort + AllocGlobal>(
     let sums = tiles.sums_of(rt.alloc(), eights)?;
     let room = Profile::with_capacity(rt.alloc(), tiles.size())?;
     let pieces = tiles.by_sums(&sums).untried();
-    let mut sides = pieces.begun(rt.alloc())?;
+    let seeds = pieces.seeds(rt.alloc())?;
+    let mut sides = Sides::unit(rt.alloc(), pieces.size())?;
+    pieces.begin(&seeds, 1, 2, &mut sides);
+    pieces.begin(&seeds, 0, 2, &mut sides);
     pieces.run_all(&mut sides);
     expect_columns(rt, &sides.profile(room), every);
     Ok(())

@@ -196,6 +196,17 @@ fn two_workers_of_ranks_meet(rt: HostRuntime) -> Result<(), Fail> {
     Ok(())
 }
 
+#[test]
+fn two_workers_of_ranks_in_coarse_sums_meet(rt: HostRuntime) -> Result<(), Fail> {
+    let samples = ties(rt.alloc(), 4_200, 1_000, 5)?;
+    assert!(rt; samples.len() as u64 <= MAX_SAMPLES);
+    let gate = MeetGate::new();
+    let lists = nearest(&rt, rt.alloc(), samples.as_slice(), 16, 2, 64, 2, &gate)?;
+    assert!(rt; gate.met());
+    assert_eq!(rt; lists.len() as u64, 4_185);
+    Ok(())
+}
+
 /// Compares some lists by each number of ranks and by one worker and several with all windows in order.
 fn expect_some<R: Abort + AllocGlobal + Threads + Sync>(
     rt: &R,

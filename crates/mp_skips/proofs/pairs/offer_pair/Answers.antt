@@ -13,4 +13,5 @@ pub returns-else-are_free : goal.returns-else-are_free
 returns-else-are_free g c = record {
   scanned = g.met.O.Offers.laws.skipped _ _ _ c.args.row c.args.column c.args.into.now c.requires.fits c.requires.row
       c.requires.column c.requires.apart (none_there _ _ c.if-are_free.false c.are_free.ensures);
+  exact = c.requires.exact;
 }

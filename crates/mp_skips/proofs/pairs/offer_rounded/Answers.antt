@@ -27,14 +27,5 @@ returns-then-is_beyond-2 g c =
             c.column_limit-to_column.ensures row d (omega arith)
                 (c.is_beyond-then-is_beyond.ensures c.if-is_beyond-2.true d below),
           ));
+      exact = c.requires.exact;
     }
-
-pub offer_at-requires-clause-small : goal.offer_at-requires-clause-small
-offer_at-requires-clause-small g c =
-    let grid = c.args.coarse.now.plan.grid in
-    omega (
-      arith,
-      is_small grid.m (row_numbers grid) c.args.row (column_numbers grid) c.args.column c.free_distance-dist.result
-          c.free_distance-dist.ensures.sum,
-      mul-le grid.m greatest_square 16384 greatest_square (omega (arith, grid.short)) (omega arith),
-    )

@@ -1,4 +1,5 @@
 use Rattle.std.proofs.Common.{ℕ, ◌+◌, ◌-◌, ◌<◌}
+use Rattle.mp_scans.specs.Exacts.{IsExact}
 use Rattle.mp_scans.specs.Offering.{in_block}
 use Rattle.mp_scans.specs.Windows.{FitIn, AreScannedIn}
 use Rattle.mp_skips.specs.Needs.{IsRowsNeed, IsColumnNeed}
@@ -13,6 +14,7 @@ invariant-loop-r g l =
     record {
       fits : FitIn offers.fits grid l.into;
       scanned : AreScannedIn offers.is_scanned grid (in_block k (k + 1) s.row (s.row + l.r)) l.initial.into l.into;
+      exact : IsExact grid k l.exact;
       rows_need : IsRowsNeed l.coarse (offers.keeps_row l.into) s.column s.row s.count l.need.need;
       columns_need : (c : ℕ) → c < s.count
           → IsColumnNeed l.coarse (offers.keeps_column l.into) s.row (s.column + c) l.need.need;

@@ -7,4 +7,5 @@ returns-else-sum-need g c = record {
   scanned = quiet_far g.met.O.Offers.limits c.args.coarse.now c.args.into.now c.args.row c.args.column
       c.args.need.now.need c.args.need.now.most c.args.sum c.requires.fits c.requires.apart c.requires.row_need
       c.requires.column_need c.requires.most c.requires.sum (omega arith);
+  exact = c.requires.exact;
 }

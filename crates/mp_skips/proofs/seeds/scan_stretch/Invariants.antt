@@ -1,4 +1,5 @@
 use Rattle.std.proofs.Common.{◌+◌, ◌-◌}
+use Rattle.mp_scans.specs.Exacts.{IsExact}
 use Rattle.mp_scans.specs.Offering.{in_block}
 use Rattle.mp_scans.specs.Windows.{FitIn, AreScannedIn}
 use Rattle.mp_skips.proofs.seeds.scan_stretch.Given as goal
@@ -12,4 +13,5 @@ invariant-loop-r g l =
     record {
       fits : FitIn offers.fits grid l.into;
       scanned : AreScannedIn offers.is_scanned grid (in_block k (k + 1) s.row (s.row + l.r)) l.initial.into l.into;
+      exact : IsExact grid k l.exact;
     }
