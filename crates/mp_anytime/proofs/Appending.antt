@@ -34,7 +34,8 @@ column_more f g w same last =
     ∙ ap (λ x. column f w ++ x ∷ []) last
     ∙ ap (λ c. c ++ None ∷ []) (column_same f g w same)
   where
-    column_same : (f g : ℕ → Option Near) (w : ℕ) → ((i : ℕ) → i < w → f i ≡ g i) → column f w ≡ column g w
+    column_same : (f g : ℕ → Option Near) (w : ℕ) → ((i : ℕ) → i < w → f i ≡ g i)
+        → column f w ≡ column g w
     column_same f g w h =
         ext_get_or None (column f w) (column g w)
         (columns_have_places.count f w ∙ sym (columns_have_places.count g w))
@@ -55,7 +56,8 @@ among_first covered w i j side lt lt' =
     with_true true = refl
     with_true false = refl
 
-none_behind : (covered : List ℕ) (w i j : ℕ) (side : Bool) → w ≤ j → (first_pairs covered w i j && side) ≡ false
+none_behind : (covered : List ℕ) (w i j : ℕ) (side : Bool) → w ≤ j
+    → (first_pairs covered w i j && side) ≡ false
 none_behind covered w i j side le =
     ap (λ t. (lie_along covered i j && (nat_lt i w && t)) && side) (not_less j w le)
     ∙ nothing (lie_along covered i j) (nat_lt i w) side
@@ -68,7 +70,8 @@ none_behind covered w i j side le =
     nothing true false u = refl
     nothing false t u = refl
 
-none_of_last : (covered : List ℕ) (w i j : ℕ) (side : Bool) → w ≤ i → (first_pairs covered w i j && side) ≡ false
+none_of_last : (covered : List ℕ) (w i j : ℕ) (side : Bool) → w ≤ i
+    → (first_pairs covered w i j && side) ≡ false
 none_of_last covered w i j side le =
     ap (λ t. (lie_along covered i j && (t && nat_lt j w)) && side) (not_less i w le)
     ∙ nothing (lie_along covered i j) side
@@ -80,7 +83,8 @@ none_of_last covered w i j side le =
     nothing true u = refl
     nothing false u = refl
 
-module _ (grow : EntriesGrow) (m : ℕ) (a : Series) (s : Option ℤ) (covered : List ℕ) (long : m ≤ length a + 1) where
+module _ (grow : EntriesGrow) (m : ℕ) (a : Series) (s : Option ℤ) (covered : List ℕ)
+    (long : m ≤ length a + 1) where
   -- the left entries of the first windows
   first_left : (i : ℕ) → i < windows_of m a
       → left_entry (first_pairs covered (windows_of m a)) m (with_one a s) i ≡ left_entry (lie_along covered) m a i
@@ -91,7 +95,8 @@ module _ (grow : EntriesGrow) (m : ℕ) (a : Series) (s : Option ℤ) (covered :
       (λ j below. among_first covered (windows_of m a) i j (nat_lt j i) lt below)
 
   first_right : (i : ℕ) → i < windows_of m a
-      → right_entry (first_pairs covered (windows_of m a)) m (with_one a s) i ≡ right_entry (lie_along covered) m a i
+      → right_entry (first_pairs covered (windows_of m a)) m (with_one a s) i
+      ≡ right_entry (lie_along covered) m a i
   first_right i lt =
       let w = windows_of m a in
       grow.right (first_pairs covered w) m a s i long lt
@@ -168,7 +173,8 @@ with_last covered w i j side lt lt' =
     less_or_last i w lt = grind (arith, nat_tests)
 
 -- what the pairs of the last window bring to a column of the first ones
-pub joined_column : (covered : List ℕ) (m : ℕ) (b : Series) (w : ℕ) (side : ℕ → ℕ → Bool) → windows_of m b ≡ w + 1
+pub joined_column : (covered : List ℕ) (m : ℕ) (b : Series) (w : ℕ) (side : ℕ → ℕ → Bool)
+    → windows_of m b ≡ w + 1
     → merged_column (nearest_column (λ i j. first_pairs covered w i j && side i j) m b b)
     (nearest_column (λ i j. either_way (is_last_pair covered w) i j && side i j) m b b)
     ≡ nearest_column (λ i j. lie_along covered i j && side i j) m b b

@@ -1,7 +1,9 @@
 -- Which diagonals aren't covered, place by place.
-use Rattle.std.proofs.Common.{◌≡◌, ℕ, zero, suc, ◌+◌, ◌<◌, ◌≤◌, inl, inr, List, [], ◌∷◌, ◌++◌, length, get_or, set}
+use Rattle.std.proofs.Common.{◌≡◌, ℕ, zero, suc, ◌+◌, ◌<◌, ◌≤◌, inl, inr, List, [], ◌∷◌}
+use Rattle.std.proofs.Common.{◌++◌, length, get_or, set}
 use Rattle.std.proofs.Common.{take, drop, ◌*◌, ◌/◌, ◌%◌, length-drop}
-use Rattle.std.proofs.Common.{◌⊎◌, Bool, true, false, refl, sym, ap, ◌∙◌, arith, subst, get_or-set_same, get_or-set_other}
+use Rattle.std.proofs.Common.{◌⊎◌, Bool, true, false, refl, sym, ap, ◌∙◌, arith, subst, get_or-set_same}
+use Rattle.std.proofs.Common.{get_or-set_other}
 use Rattle.std.specs.Prelude.{if◌then◌else◌, ◌&&◌, ◌||◌, ◌==◌, nat_lt, filter, All}
 use Rattle.std.proofs.Math.Bool.{not}
 use Rattle.std.proofs.lemmas.Bool.{cases_eq}
@@ -114,7 +116,8 @@ marked_anew places marks block is_any h within none_waits = record {
 
 -- one more that doesn't wait
 pub none_with : (places : List Bool) (n : ℕ) (was now : Bool)
-    → (was ≡ false → (k : ℕ) → k < n → get_or places k false ≡ false) → now ≡ (was || get_or places n false)
+    → (was ≡ false → (k : ℕ) → k < n → get_or places k false ≡ false)
+    → now ≡ (was || get_or places n false)
     → now ≡ false → (k : ℕ) → k < n + 1 → get_or places k false ≡ false
 none_with places n was now before e none k lt = elim (cases_eq k n) [
   | inl same ↦ ap (λ q. get_or places q false) same ∙ or_second was (get_or places n false) (sym e ∙ none)
@@ -123,7 +126,8 @@ none_with places n was now before e none k lt = elim (cases_eq k n) [
 
 -- a part of all places
 pub part_none : (places : List Bool) (start n : ℕ)
-    → ((k : ℕ) → k < length (take n (drop start places)) → get_or (take n (drop start places)) k false ≡ false)
+    → ((k : ℕ) → k < length (take n (drop start places))
+    → get_or (take n (drop start places)) k false ≡ false)
     → start + n ≤ length places → (k : ℕ) → k < n → get_or places (start + k) false ≡ false
 part_none places start n none within k lt =
     sym (get_or-take n (drop start places) k false lt ∙ get_or-drop start places k false)
@@ -192,7 +196,8 @@ cover_at m w covered d x old is false e =
 -- ---- the list
 
 pub one_more : (p : ℕ → Bool) (n : ℕ)
-    → filter p (by_reversal (n + 1)) ≡ filter p (by_reversal n) ++ (if p (reversal n) then reversal n ∷ [] else [])
+    → filter p (by_reversal (n + 1))
+    ≡ filter p (by_reversal n) ++ (if p (reversal n) then reversal n ∷ [] else [])
 unfolding by_reversal
 one_more p n = filter_of_map_range_with_len_more p reversal 0 n n (omega arith)
 
@@ -227,7 +232,8 @@ second_false true t e f = e
 second_false false t e f = absurd (cc)
 
 -- one more is chosen
-pub chosen_more : (p : ℕ → Bool) (n count : ℕ) (chosen : List ℕ) → chosen ≡ take count (filter p (by_reversal n))
+pub chosen_more : (p : ℕ → Bool) (n count : ℕ) (chosen : List ℕ)
+    → chosen ≡ take count (filter p (by_reversal n))
     → p (reversal n) ≡ true → length chosen < count
     → chosen ++ reversal n ∷ [] ≡ take count (filter p (by_reversal (n + 1)))
 chosen_more p n count chosen e passes lt =
@@ -244,7 +250,8 @@ chosen_more p n count chosen e passes lt =
     all_taken (suc count) (x ∷ xs) h = ap (λ ys. x ∷ ys) (all_taken count xs (omega (arith, h)))
 
 -- no more are chosen
-pub chosen_same : (p : ℕ → Bool) (n count : ℕ) (chosen : List ℕ) → chosen ≡ take count (filter p (by_reversal n))
+pub chosen_same : (p : ℕ → Bool) (n count : ℕ) (chosen : List ℕ)
+    → chosen ≡ take count (filter p (by_reversal n))
     → (t : Bool) → p (reversal n) ≡ t → (t ≡ true → count ≤ length chosen)
     → chosen ≡ take count (filter p (by_reversal (n + 1)))
 chosen_same p n count chosen e true passes full =

@@ -1,5 +1,6 @@
 -- How many diagonals aren't covered.
-use Rattle.std.proofs.Common.{◌≡◌, ℕ, zero, suc, ◌+◌, ◌-◌, ◌<◌, ◌≤◌, inl, inr, List, [], ◌∷◌, ◌++◌, length, map, take}
+use Rattle.std.proofs.Common.{◌≡◌, ℕ, zero, suc, ◌+◌, ◌-◌, ◌<◌, ◌≤◌, inl, inr, List, []}
+use Rattle.std.proofs.Common.{◌∷◌, ◌++◌, length, map, take}
 use Rattle.std.proofs.Common.{Bool, true, false, refl, sym, ap, ◌∙◌, arith, subst, length-drop}
 use Rattle.std.specs.Prelude.{if◌then◌else◌, ◌&&◌, nat_le, nat_lt, filter}
 use Rattle.std.specs.List.{range_with_len}
@@ -41,7 +42,8 @@ passing_more p start n =
 abbrev is_among : ℕ → ℕ → ℕ → Bool
 is_among start n r = nat_le start r && nat_lt r (start + n)
 
-among_first : (start n r : ℕ) → start ≡ r → one_if (is_among start (suc n) r) ≡ 1 + one_if (is_among (start + 1) n r)
+among_first : (start n r : ℕ) → start ≡ r
+    → one_if (is_among start (suc n) r) ≡ 1 + one_if (is_among (start + 1) n r)
 among_first start n r e = grind (arith, nat_tests)
 
 among_others : (start n r : ℕ) → (start ≡ r → ⊥)
@@ -85,7 +87,8 @@ one_more_passes p q d start (suc n) small few same fails passes =
     ]
 
 -- tests that agree
-alike_pass : (p q : ℕ → Bool) (start n : ℕ) → ((x : ℕ) → p x ≡ q x) → passing q start n ≡ passing p start n
+alike_pass : (p q : ℕ → Bool) (start n : ℕ) → ((x : ℕ) → p x ≡ q x)
+    → passing q start n ≡ passing p start n
 alike_pass p q start zero same = omega (arith, passing_none p start, passing_none q start)
 alike_pass p q start (suc n) same =
     omega (
@@ -102,7 +105,8 @@ passing_all p = refl
 
 -- ---- with one window more
 
-before_last : (z x w : ℕ) (t : Bool) → (x ≡ w → ⊥) → ((nat_lt z x && nat_lt x w) && t) ≡ ((nat_lt z x && nat_lt x (w + 1)) && t)
+before_last : (z x w : ℕ) (t : Bool) → (x ≡ w → ⊥)
+    → ((nat_lt z x && nat_lt x w) && t) ≡ ((nat_lt z x && nat_lt x (w + 1)) && t)
 before_last z x w t ne = grind (arith, nat_tests)
 
 not_the_last : (z w : ℕ) (t : Bool) → ((nat_lt z w && nat_lt w w) && t) ≡ false
@@ -140,7 +144,8 @@ none_more_left m w covered near =
     ∙ alike_pass p q 0 numbers (λ x. in_the_zone (excl m) x w (not (is_covered covered x)) near)
     ∙ sym (passing_all p)
 
-pub counted_more : (m w : ℕ) (covered : List ℕ) → w < numbers → is_covered covered w ≡ false → IsCounted m w covered
+pub counted_more : (m w : ℕ) (covered : List ℕ) → w < numbers → is_covered covered w ≡ false
+    → IsCounted m w covered
     → IsCounted m (w + 1) covered
 counted_more m w covered small none h = elim (cases_lt (excl m) w) [
   | inl behind ↦ omega (arith, h, one_more_left m w covered small none behind, behind)

@@ -1,7 +1,9 @@
 -- The distance of two windows by their sum, and sums with one sample more.
-use Rattle.std.proofs.Common.{◌≡◌, ℕ, zero, suc, ◌+◌, ◌<◌, ◌≤◌, List, [], ◌∷◌, ◌++◌, length, get_or, Bool, true, false}
+use Rattle.std.proofs.Common.{◌≡◌, ℕ, zero, suc, ◌+◌, ◌<◌, ◌≤◌, List, [], ◌∷◌, ◌++◌}
+use Rattle.std.proofs.Common.{length, get_or, Bool, true, false}
 use Rattle.std.proofs.Common.{refl, sym, ap, ◌∙◌, arith, subst, rules}
-use Rattle.std.specs.Prelude.{Option, Some, None, if◌then◌else◌, ◌&&◌, ◌↔◌, IsSome, IsTrue, ℤ, pos, slice_get}
+use Rattle.std.specs.Prelude.{Option, Some, None, if◌then◌else◌, ◌&&◌, ◌↔◌, IsSome, IsTrue, ℤ, pos}
+use Rattle.std.specs.Prelude.{slice_get}
 use Rattle.mp_nums.specs.declared.samples.Sample.{Sample}
 use Rattle.mp_nums.specs.declared.samples.Sample.TheVariants.{Missing, Value}
 use Rattle.mp_defs.specs.Series.{Series, present, series_of}
@@ -40,7 +42,8 @@ none_past zero = refl
 none_past (suc i) = refl
 
 -- the numbers of samples are those of the series
-pub number_same : (items : List Sample) (i : ℕ) → get_or (numbers_in items) i (pos 0) ≡ numbers_of (series_of items) i
+pub number_same : (items : List Sample) (i : ℕ)
+    → get_or (numbers_in items) i (pos 0) ≡ numbers_of (series_of items) i
 number_same [] i = none_past i
 number_same (Missing ∷ rest) zero = refl
 number_same (Value n ∷ rest) zero = refl
@@ -51,7 +54,8 @@ get_front [] ys i lt = absurd (omega arith)
 get_front (x ∷ xs) ys zero lt = refl
 get_front (x ∷ xs) ys (suc i) lt = get_front xs ys i (omega arith)
 
-number_front : (a : Series) (s : Option ℤ) (i : ℕ) → i < length a → numbers_of (with_one a s) i ≡ numbers_of a i
+number_front : (a : Series) (s : Option ℤ) (i : ℕ) → i < length a
+    → numbers_of (with_one a s) i ≡ numbers_of a i
 number_front a s i lt = ap (λ x. filled (present x)) (get_front a (s ∷ []) i lt)
 
 -- a sum stays with one sample more

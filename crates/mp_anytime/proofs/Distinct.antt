@@ -1,5 +1,6 @@
 -- Diagonals of which each is covered once.
-use Rattle.std.proofs.Common.{◌≡◌, ℕ, zero, suc, ◌+◌, ◌<◌, ◌≤◌, inl, inr, List, [], ◌∷◌, ◌++◌, length, get_or, take, drop}
+use Rattle.std.proofs.Common.{◌≡◌, ℕ, zero, suc, ◌+◌, ◌<◌, ◌≤◌, inl, inr, List, [], ◌∷◌}
+use Rattle.std.proofs.Common.{◌++◌, length, get_or, take, drop}
 use Rattle.std.proofs.Common.{Bool, true, false, refl, sym, ap, ◌∙◌, arith, subst}
 use Rattle.std.specs.Prelude.{◌&&◌, ◌||◌, ◌==◌, nat_lt}
 use Rattle.std.proofs.Math.Bool.{not}
@@ -31,7 +32,8 @@ take_less (x ∷ xs) (suc k) (suc n) le = ap (λ l. x ∷ l) (take_less xs k n (
 
 -- ---- covered diagonals
 
-not_among : (covered : List ℕ) (k x q : ℕ) → k ≤ length covered → is_covered (take k covered) x ≡ false → q < k
+not_among : (covered : List ℕ) (k x q : ℕ) → k ≤ length covered → is_covered (take k covered) x ≡ false
+    → q < k
     → get_or covered q 0 ≡ x → ⊥
 not_among [] k x q le none lt same = absurd (omega (arith, le, lt))
 not_among (y ∷ ys) zero x q le none lt same = absurd (omega (arith, lt))
@@ -48,7 +50,8 @@ apart covered q k h lt within same =
     not_among covered k (get_or covered k 0) q (omega (arith, within)) (h.each k within) lt same
 
 -- what holds of each place of a list holds of what is covered
-pub each_covered : (P : ℕ → Type 0) (covered : List ℕ) → ((k : ℕ) → k < length covered → P (get_or covered k 0))
+pub each_covered : (P : ℕ → Type 0) (covered : List ℕ)
+    → ((k : ℕ) → k < length covered → P (get_or covered k 0))
     → (d : ℕ) → is_covered covered d ≡ true → P d
 each_covered P [] h d is = absurd (cc)
 each_covered P (y ∷ ys) h d is =
@@ -72,7 +75,8 @@ distinct_more covered d h fresh = record { each = at }
         → is_covered (take k (covered ++ d ∷ [])) (get_or (covered ++ d ∷ []) k 0) ≡ false
     at k lt = elim (cases_lt k (length covered)) [
       | inl less ↦
-          ap (λ l. is_covered l (get_or (covered ++ d ∷ []) k 0)) (take_front covered (d ∷ []) k (omega (arith, less)))
+          ap (λ l. is_covered l (get_or (covered ++ d ∷ []) k 0))
+          (take_front covered (d ∷ []) k (omega (arith, less)))
           ∙ ap (is_covered (take k covered)) (get_or-append covered (d ∷ []) 0 k less)
           ∙ h.each k less
       | inr ge ↦
@@ -98,7 +102,8 @@ chosen_fresh m w count covered chosen e q lt =
     let some : 0 < length (uncovered m w before) = omega (arith, ap length behind, length-drop q left, within) in
     let first : get_or (uncovered m w before) 0 0 ≡ x =
     ap (λ (l : List ℕ). get_or l 0 0) behind ∙ get_or-drop q left 0 0 ∙ ap (λ n. get_or left n 0) there in
-    ap (λ (l : List ℕ). is_covered (covered ++ l) (get_or chosen q 0)) (ap (take q) e ∙ take_less left q count (omega (arith, few)))
+    ap (λ (l : List ℕ). is_covered (covered ++ l) (get_or chosen q 0))
+    (ap (take q) e ∙ take_less left q count (omega (arith, few)))
     ∙ ap (is_covered before) (ap (λ (l : List ℕ). get_or l q 0) e ∙ get_or-take count left q 0 few)
     ∙ open_test (nat_lt (excl m) x && nat_lt x w) (is_covered before x)
     (ap (is_uncovered m w before) (sym first) ∙ passing (is_uncovered m w before) (by_reversal numbers) 0 0 some)

@@ -1,5 +1,6 @@
 -- What slots have: of profiles by any test of pairs, of merged slots and of those with numbers alone.
-use Rattle.std.proofs.Common.{◌≡◌, ℕ, ◌<◌, [], ◌∷◌, length, get_or, refl, sym, ap, ◌∙◌, arith, subst, Bool}
+use Rattle.std.proofs.Common.{◌≡◌, ℕ, ◌<◌, [], ◌∷◌, length, get_or, refl, sym, ap, ◌∙◌, arith}
+use Rattle.std.proofs.Common.{subst, Bool}
 use Rattle.std.proofs.Common.{true, false}
 use Rattle.std.specs.Prelude.{Option, Some, None, IfSome, ◌&&◌, nat_lt, if◌then◌else◌}
 use Rattle.std.proofs.lemmas.Bool.Decides.{nat_tests}
@@ -48,7 +49,8 @@ left_is_earlier may m a =
           (earlier_slot may m a k (left_entry may m a k) (entries_are_nearest.left may m a k));
     }
 
-pub right_is_later : (may : ℕ → ℕ → Bool) (m : ℕ) (a : Series) → AreLater (windows_of m a) (profile may m a).right
+pub right_is_later : (may : ℕ → ℕ → Bool) (m : ℕ) (a : Series)
+    → AreLater (windows_of m a) (profile may m a).right
 right_is_later may m a =
     let long = columns_have_places.count (right_entry may m a) (windows_of m a) in
     record {

@@ -46,12 +46,14 @@ no_distance m a free i j are lt lt' e =
     (sym (marks_are m a free i j are lt lt') ∙ e)
 
 -- a number that is the distance where there is one
-pub is_distance : (x : Option ℕ) (dist : ℕ) → IsSome x → ((d : ℕ) → x ≡ Some d → dist ≡ d) → x ≡ Some dist
+pub is_distance : (x : Option ℕ) (dist : ℕ) → IsSome x → ((d : ℕ) → x ≡ Some d → dist ≡ d)
+    → x ≡ Some dist
 is_distance None dist is h = absurd (cc)
 is_distance (Some d) dist is h = ap Some (sym (h d refl))
 
 -- rows and columns are of one series
 pub in_one : (m i j : ℕ) (rows columns : List Sample) (x : Option ℕ) → columns ≡ rows
-    → distance m (series_of rows) i (series_of rows) j ≡ x → distance m (series_of rows) i (series_of columns) j ≡ x
+    → distance m (series_of rows) i (series_of rows) j ≡ x
+    → distance m (series_of rows) i (series_of columns) j ≡ x
 in_one m i j rows columns x e h =
     subst (λ (xs : List Sample). distance m (series_of rows) i (series_of xs) j ≡ x) (sym e) h

@@ -1,5 +1,6 @@
 -- Why entries never rise, and why the whole is the matrix profile.
-use Rattle.std.proofs.Common.{◌≡◌, ℕ, zero, suc, ◌+◌, ◌<◌, ◌≤◌, inl, inr, List, [], ◌∷◌, ◌++◌, Bool, true, false}
+use Rattle.std.proofs.Common.{◌≡◌, ℕ, zero, suc, ◌+◌, ◌<◌, ◌≤◌, inl, inr, List, [], ◌∷◌}
+use Rattle.std.proofs.Common.{◌++◌, Bool, true, false}
 use Rattle.std.proofs.Common.{refl, sym, ap, ◌∙◌, arith, subst}
 use Rattle.std.specs.Prelude.{Option, if◌then◌else◌, ◌&&◌, ◌||◌, ◌==◌, nat_lt, filter}
 use Rattle.std.specs.Int.{abs_diff}
@@ -46,7 +47,8 @@ entries_never_rise = record {
       let new = entry (is_allowed_along (covered ++ more) m) m a i in
       let both : new ≡ nearer_of old (entry (is_allowed_along more m) m a i) =
       nearest_by_choice.same m (is_allowed_along (covered ++ more) m i)
-      (λ j. is_allowed_along covered m i j || is_allowed_along more m i j) a i a (λ j _. along_more m covered more i j)
+      (λ j. is_allowed_along covered m i j || is_allowed_along more m i j) a i a
+      (λ j _. along_more m covered more i j)
       ∙ nearest_by_choice.either m (is_allowed_along covered m i) (is_allowed_along more m i) a i a in
       subst (λ (x : Option Near). nearer_of x old ≡ x) (sym both)
       (stays_first old (entry (is_allowed_along more m) m a i));
@@ -99,7 +101,8 @@ close w i j lt lt' = grind (arith, nat_tests)
 less_than : (w i j n : ℕ) → i < w → j < w → w ≤ n → abs_diff i j < n
 less_than w i j n lt lt' le = grind (arith, nat_tests)
 
-whole : (m : ℕ) (covered : List ℕ) (a : Series) → windows_of m a ≤ numbers → uncovered m (windows_of m a) covered ≡ []
+whole : (m : ℕ) (covered : List ℕ) (a : Series) → windows_of m a ≤ numbers
+    → uncovered m (windows_of m a) covered ≡ []
     → columns_value (lazy_profile m covered a) ≡ columns_value (matrix_profile m a)
 whole m covered a few e =
     let w = windows_of m a in

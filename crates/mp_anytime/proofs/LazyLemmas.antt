@@ -1,5 +1,6 @@
 -- Profiles of the pairs on some diagonals: those of two lists together, and of none.
-use Rattle.std.proofs.Common.{◌≡◌, ℕ, zero, suc, ◌+◌, ◌<◌, List, [], ◌∷◌, ◌++◌, length, get_or, Bool, true, false}
+use Rattle.std.proofs.Common.{◌≡◌, ℕ, zero, suc, ◌+◌, ◌<◌, List, [], ◌∷◌, ◌++◌, length}
+use Rattle.std.proofs.Common.{get_or, Bool, true, false}
 use Rattle.std.proofs.Common.{refl, sym, ap, ◌∙◌, arith}
 use Rattle.std.specs.Prelude.{◌&&◌, ◌||◌, ◌==◌, nat_lt, All}
 use Rattle.std.specs.Int.{abs_diff}
@@ -25,12 +26,14 @@ use Rattle.mp_anytime.specs.Kept.{IsDiagonal}
 abbrev pub value_by : (ℕ → ℕ → Bool) → ℕ → Series → Value
 value_by may m a = columns_value (profile may m a)
 
-pub three : (a b c a' b' c' : Column) → a ≡ a' → b ≡ b' → c ≡ c' → ◌≡◌ {A = Value} (a ∷ b ∷ c ∷ []) (a' ∷ b' ∷ c' ∷ [])
+pub three : (a b c a' b' c' : Column) → a ≡ a' → b ≡ b' → c ≡ c'
+    → ◌≡◌ {A = Value} (a ∷ b ∷ c ∷ []) (a' ∷ b' ∷ c' ∷ [])
 three a b c a' b' c' e f g = cc
 
 -- tests that agree
 pub value_same : (p q : ℕ → ℕ → Bool) (m : ℕ) (a : Series)
-    → ((i j : ℕ) → i < windows_of m a → j < windows_of m a → p i j ≡ q i j) → value_by p m a ≡ value_by q m a
+    → ((i j : ℕ) → i < windows_of m a → j < windows_of m a → p i j ≡ q i j)
+    → value_by p m a ≡ value_by q m a
 value_same p q m a same = three _ _ _ _ _ _
     (columns_by_choice.same m p q a a same)
     (columns_by_choice.same m (λ i j. p i j && nat_lt j i) (λ i j. q i j && nat_lt j i) a a
@@ -41,7 +44,8 @@ value_same p q m a same = three _ _ _ _ _ _
 -- one of two tests, on a side
 side_both : (side : ℕ → ℕ → Bool) (p q : ℕ → ℕ → Bool) (m : ℕ) (a : Series)
     → nearest_column (λ i j. (p i j || q i j) && side i j) m a a
-    ≡ merged_column (nearest_column (λ i j. p i j && side i j) m a a) (nearest_column (λ i j. q i j && side i j) m a a)
+    ≡ merged_column (nearest_column (λ i j. p i j && side i j) m a a)
+    (nearest_column (λ i j. q i j && side i j) m a a)
 side_both side p q m a =
     columns_by_choice.same m (λ i j. (p i j || q i j) && side i j)
     (λ i j. (p i j && side i j) || (q i j && side i j)) a a (λ i j _ _. sym (and_either (p i j) (q i j) (side i j)))
@@ -133,11 +137,14 @@ lazy_is_along m w covered a all =
     (λ i j _ _. outside_zone m w (abs_diff i j) covered all)
 
 -- columns of a value
-pub left_of : (x y z x' y' z' : Column) → ◌≡◌ {A = Value} (x ∷ y ∷ z ∷ []) (x' ∷ y' ∷ z' ∷ []) → y ≡ y'
+pub left_of : (x y z x' y' z' : Column) → ◌≡◌ {A = Value} (x ∷ y ∷ z ∷ []) (x' ∷ y' ∷ z' ∷ [])
+    → y ≡ y'
 left_of x y z x' y' z' e = cc
 
-pub right_of : (x y z x' y' z' : Column) → ◌≡◌ {A = Value} (x ∷ y ∷ z ∷ []) (x' ∷ y' ∷ z' ∷ []) → z ≡ z'
+pub right_of : (x y z x' y' z' : Column) → ◌≡◌ {A = Value} (x ∷ y ∷ z ∷ []) (x' ∷ y' ∷ z' ∷ [])
+    → z ≡ z'
 right_of x y z x' y' z' e = cc
 
-pub all_of : (x y z x' y' z' : Column) → ◌≡◌ {A = Value} (x ∷ y ∷ z ∷ []) (x' ∷ y' ∷ z' ∷ []) → x ≡ x'
+pub all_of : (x y z x' y' z' : Column) → ◌≡◌ {A = Value} (x ∷ y ∷ z ∷ []) (x' ∷ y' ∷ z' ∷ [])
+    → x ≡ x'
 all_of x y z x' y' z' e = cc

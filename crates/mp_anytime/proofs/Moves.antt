@@ -1,5 +1,6 @@
 -- Rounded samples in parts of their list, and the cores of blocks.
-use Rattle.std.proofs.Common.{◌≡◌, ℕ, ◌+◌, ◌-◌, ◌<◌, ◌≤◌, inl, inr, List, length, take, drop, sym, ap, ◌∙◌, arith}
+use Rattle.std.proofs.Common.{◌≡◌, ℕ, ◌+◌, ◌-◌, ◌<◌, ◌≤◌, inl, inr, List, length, take, drop}
+use Rattle.std.proofs.Common.{sym, ap, ◌∙◌, arith}
 use Rattle.std.proofs.Common.{subst, length-drop, ℤ, pos, w32}
 use Rattle.std.specs.Int.{int_wrap}
 use Rattle.std.proofs.lemmas.Bool.{cases_lt}
@@ -12,7 +13,8 @@ use Rattle.mp_sums.specs.SumLaws.{first_of_all, sum_joined, sum_of_none}
 use Rattle.mp_anytime.specs.Rounded.{core_sum, rounded_in, rounded_sum}
 
 -- some successive numbers of a list
-pub part_numbers : (x : ℕ → ℤ) (start n : ℕ) (numbers : List ℤ) → AreNumbers x 0 numbers → start + n ≤ length numbers
+pub part_numbers : (x : ℕ → ℤ) (start n : ℕ) (numbers : List ℤ) → AreNumbers x 0 numbers
+    → start + n ≤ length numbers
     → AreNumbers x start (take n (drop start numbers))
 part_numbers x start n numbers h within = record {
   each = λ k lt.
@@ -86,7 +88,8 @@ core_within m shift a i j k lt = elim (cases_lt m 31) [
 ]
   where
     none : (n : ℕ) → n ≡ 0
-        → square_sum n (rounded_in shift a) (i + 31) (rounded_in shift a) (j + 31) ≤ rounded_sum m shift a (i + k) (j + k)
+        → square_sum n (rounded_in shift a) (i + 31) (rounded_in shift a) (j + 31) ≤ rounded_sum m shift a (i + k)
+        (j + k)
     none n e =
         subst (λ q. square_sum q (rounded_in shift a) (i + 31) (rounded_in shift a) (j + 31)
         ≤ rounded_sum m shift a (i + k) (j + k)) (sym e)

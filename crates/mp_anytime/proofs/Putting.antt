@@ -1,5 +1,6 @@
 -- Sums of diagonals that are put one after another.
-use Rattle.std.proofs.Common.{◌≡◌, ℕ, ◌+◌, ◌<◌, ◌≤◌, inl, inr, List, length, get_or, sym, ◌∙◌, arith, subst}
+use Rattle.std.proofs.Common.{◌≡◌, ℕ, ◌+◌, ◌<◌, ◌≤◌, inl, inr, List, length, get_or, sym}
+use Rattle.std.proofs.Common.{◌∙◌, arith, subst}
 use Rattle.std.proofs.lemmas.Bool.{cases_eq}
 use Rattle.mp_anytime.specs.Kept.{AreDistinct}
 use Rattle.mp_anytime.specs.Sums.{HavePlaces, IsPut, sum_in}
@@ -8,7 +9,8 @@ use Rattle.mp_anytime.proofs.Distinct.{apart}
 
 pub done_more : (P : ℕ → ℕ → Type 0) (covered : List ℕ) (k sum : ℕ) (old new : Sums) → AreDistinct covered
     → k < length covered → IsPut (get_or covered k 0) sum old new
-    → ((q : ℕ) → q < k → P (get_or covered q 0) (sum_in old (get_or covered q 0))) → P (get_or covered k 0) sum
+    → ((q : ℕ) → q < k → P (get_or covered q 0) (sum_in old (get_or covered q 0)))
+    → P (get_or covered k 0) sum
     → (q : ℕ) → q < k + 1 → P (get_or covered q 0) (sum_in new (get_or covered q 0))
 done_more P covered k sum old new h within put before here q lt = elim (cases_eq q k) [
   | inl same ↦

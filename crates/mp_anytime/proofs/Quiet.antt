@@ -1,5 +1,6 @@
 -- Pairs that give nothing, and pairs of a diagonal one after another.
-use Rattle.std.proofs.Common.{◌≡◌, ℕ, ◌+◌, ◌-◌, ◌<◌, ◌≤◌, inl, inr, List, length, get_or, set, refl, sym, ap, ◌∙◌}
+use Rattle.std.proofs.Common.{◌≡◌, ℕ, ◌+◌, ◌-◌, ◌<◌, ◌≤◌, inl, inr, List, length, get_or, set}
+use Rattle.std.proofs.Common.{refl, sym, ap, ◌∙◌}
 use Rattle.std.proofs.Common.{arith, subst, Bool, true, false, ℤ, pos, replicate}
 use Rattle.std.specs.Prelude.{◌<ℤ◌, ◌≤ℤ◌, Option, Some, None, ◌||◌}
 use Rattle.std.proofs.lemmas.Bool.{cases_eq, cases_lt}
@@ -62,7 +63,8 @@ limit_is_bound m shift near bound e = record {
     ]
 
 -- no residue exceeds the greatest number
-pub always_bound : (m shift : ℕ) (slot : Option Near) (bound : ℤ) → bound ≡ pos 2147483647 → IsBound m shift slot bound
+pub always_bound : (m shift : ℕ) (slot : Option Near) (bound : ℤ) → bound ≡ pos 2147483647
+    → IsBound m shift slot bound
 always_bound m shift slot bound e = record {
   above = λ r above. record {
     nothing = λ a i j d sum index there part is. absurd (above_and_within (residue sum) (pos 2147483647)
@@ -96,7 +98,8 @@ merged_bounds m shift slots others bounds long h =
       places = h.places ∙ sym same;
       each = λ k lt.
           subst (λ s. IsBound m shift s (item bounds k))
-          (sym (get_or-zip2 nearer_of slots others k None None None (omega (arith, lt, same)) (omega (arith, lt, same, long))))
+          (sym (get_or-zip2 nearer_of slots others k None None None (omega (arith, lt, same))
+          (omega (arith, lt, same, long))))
           (bound_stays m shift (get_or slots k None) (get_or others k None) (item bounds k)
           (h.each k (omega (arith, lt, same))));
     }
@@ -122,7 +125,8 @@ bounds_put m shift at slots bounds slot bound lt h is = record {
 }
 
 -- a window is offered, and the slot's bound is found anew
-pub bounds_offered : (m shift at : ℕ) (slots new : Column) (bounds changed : List ℤ) (near : Near) (slot : Option Near)
+pub bounds_offered : (m shift at : ℕ) (slots new : Column) (bounds changed : List ℤ) (near : Near)
+    (slot : Option Near)
     (bound : ℤ) → at < length slots → AreBounds m shift slots bounds → new ≡ offered slots at near
     → slot ≡ get_or new at None → IsBound m shift slot bound → changed ≡ set bounds at bound
     → AreBounds m shift new changed
@@ -144,8 +148,10 @@ pair_offered i j dist old new order all left right room spare = λ m a places wi
 
 -- ---- residues that tell of slots
 
-pub quiet_at : (m shift : ℕ) (slots : Column) (bounds : List ℤ) (place : ℕ) (bound r : ℤ) → AreBounds m shift slots bounds
-    → place < length slots → item bounds place ≤ℤ bound → bound <ℤ r → IsQuiet m shift (get_or slots place None) r
+pub quiet_at : (m shift : ℕ) (slots : Column) (bounds : List ℤ) (place : ℕ) (bound r : ℤ)
+    → AreBounds m shift slots bounds
+    → place < length slots → item bounds place ≤ℤ bound → bound <ℤ r
+    → IsQuiet m shift (get_or slots place None) r
 quiet_at m shift slots bounds place bound r h lt le below =
     (h.each place lt).above r (below_then (item bounds place) bound r le below)
   where
@@ -188,11 +194,14 @@ quiet_pairs pairs m a p places lesser order quiet =
         ∙ get_or-zip2 nearer_of p.left p.right i None None None (omega (arith, lt, places.sides.left))
         (omega (arith, lt, places.sides.right))
 
-    of_left : (i j d : ℕ) → i < windows_of m a → Covers (get_or p.left i None) j d → Covers (get_or p.all i None) j d
+    of_left : (i j d : ℕ) → i < windows_of m a → Covers (get_or p.left i None) j d
+        → Covers (get_or p.all i None) j d
     of_left i j d lt h =
-        subst (λ s. Covers s j d) (sym (at_all i lt)) (covers_more (get_or p.left i None) (get_or p.right i None) j d h)
+        subst (λ s. Covers s j d) (sym (at_all i lt))
+        (covers_more (get_or p.left i None) (get_or p.right i None) j d h)
 
-    of_right : (i j d : ℕ) → i < windows_of m a → Covers (get_or p.right i None) j d → Covers (get_or p.all i None) j d
+    of_right : (i j d : ℕ) → i < windows_of m a → Covers (get_or p.right i None) j d
+        → Covers (get_or p.all i None) j d
     of_right i j d lt h =
         subst (λ s. Covers s j d)
         (sym (at_all i lt ∙ nearer_commutes (get_or p.left i None) (get_or p.right i None)))
@@ -303,7 +312,8 @@ some_same x y e = cc
 pub pair_quiet : (i j dist : ℕ) (p : Profiled) → i < j → p.all ≡ merged_column p.left p.right
     → Covers (get_or p.right i None) j dist → Covers (get_or p.left j None) i dist → IsPairTaken i j true dist p p
 pair_quiet i j dist p order lesser right left = λ m a places within is.
-    quiet_pairs (only i j) m a p places lesser (λ r c e. let at = is_only i j r c e in omega (arith, at.row, at.column, order))
+    quiet_pairs (only i j) m a p places lesser
+    (λ r c e. let at = is_only i j r c e in omega (arith, at.row, at.column, order))
     (λ r c d e there.
     let at = is_only i j r c e in
     let here : distance m a i a j ≡ Some d =
@@ -319,7 +329,8 @@ pair_quiet i j dist p order lesser right left = λ m a places within is.
 
 -- ---- pairs one after another
 
-pub still_for : (plan : Plan) (pairs : ℕ → ℕ → Bool) (old new : Bounded) → IsFor plan old → AreTaken plan pairs old new
+pub still_for : (plan : Plan) (pairs : ℕ → ℕ → Bool) (old new : Bounded) → IsFor plan old
+    → AreTaken plan pairs old new
     → IsFor plan new
 still_for plan pairs old new is t = record {
   m_is = t.same_m ∙ is.m_is;
@@ -361,7 +372,8 @@ taken_on plan offset first end last old mid new is le le' s t = record {
     joined offset first end last i j le le' = grind (arith, nat_tests)
 
 -- a pair alone
-pub one_taken : (plan : Plan) (offset row column : ℕ) (old new : Bounded) → IsFor plan old → row + offset ≡ column
+pub one_taken : (plan : Plan) (offset row column : ℕ) (old new : Bounded) → IsFor plan old
+    → row + offset ≡ column
     → AreTaken plan (only row column) old new → AreTaken plan (is_pair_from offset row (row + 1)) old new
 one_taken plan offset row column old new is e t = record {
   scanned = each_to_other.same plan.grid.m (series_in plan) (series_in plan) (only row column)

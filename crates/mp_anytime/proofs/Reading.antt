@@ -38,7 +38,8 @@ some_read s t n e small =
       reads = omega (arith, reads);
     }
 
-pub then_read : (s t u : Counted) (n k all : ℕ) → n + k ≡ all → OnlyReads n s t → OnlyReads k t u → OnlyReads all s u
+pub then_read : (s t u : Counted) (n k all : ℕ) → n + k ≡ all → OnlyReads n s t → OnlyReads k t u
+    → OnlyReads all s u
 then_read s t u n k all e h g = record {
   items = g.items ∙ h.items;
   spare = g.spare ∙ h.spare;
@@ -66,7 +67,8 @@ lent_number items i =
     there : i + 0 ≡ i
     there = omega arith
 
-pub lent_some : (items : List Sample) (i : ℕ) (xs : List ℤ) → i < length items → xs ≡ take 1 (drop i (numbers_in items))
+pub lent_some : (items : List Sample) (i : ℕ) (xs : List ℤ) → i < length items
+    → xs ≡ take 1 (drop i (numbers_in items))
     → 0 < length xs
 lent_some items i xs lt e =
     let long = length-map items number_in in
@@ -98,7 +100,8 @@ no_last_pair last m a p places =
     never : (t : Bool) → (t && false) ≡ false
     never t = grind (arith, nat_tests)
 
-pub last_pair_more : (covered : List ℕ) (k i last m : ℕ) (a : Series) (old mid new : Profiled) → k < length covered
+pub last_pair_more : (covered : List ℕ) (k i last m : ℕ) (a : Series) (old mid new : Profiled)
+    → k < length covered
     → i ≡ last - get_or covered k 0 → get_or covered k 0 < last → windows_of m a ≡ last + 1
     → HasPlaces (windows_of m a) old → IsScanned (is_last_pair (take k covered) last) m a old mid
     → IsScanned (only i last) m a mid new → IsScanned (is_last_pair (take (k + 1) covered) last) m a old new
@@ -122,7 +125,8 @@ last_pair_more covered k i last m a old mid new lt e within count places s t =
 -- ---- one place of a list that is written
 
 pub set_more : {A : Type 0} (none : A) (P : ℕ → A → Type 0) (xs : List A) (t : ℕ) (y : A) → t < length xs
-    → ((q : ℕ) → q < t → P q (get_or xs q none)) → P t y → (q : ℕ) → q < t + 1 → P q (get_or (set xs t y) q none)
+    → ((q : ℕ) → q < t → P q (get_or xs q none)) → P t y → (q : ℕ) → q < t + 1
+    → P q (get_or (set xs t y) q none)
 set_more none P xs t y lt before here q below = elim (cases_eq q t) [
   | inl same ↦ subst (λ p. P p (get_or (set xs t y) p none)) (sym same)
       (subst (P t) (sym (get_or-set_same xs t y none lt)) here)

@@ -1,5 +1,6 @@
 -- The pairs of the last window, by their diagonals.
-use Rattle.std.proofs.Common.{◌≡◌, ℕ, ◌+◌, ◌-◌, ◌^◌, ◌<◌, ◌≤◌, inl, inr, List, [], ◌∷◌, ◌++◌, length, get_or, set}
+use Rattle.std.proofs.Common.{◌≡◌, ℕ, ◌+◌, ◌-◌, ◌^◌, ◌<◌, ◌≤◌, inl, inr, List, []}
+use Rattle.std.proofs.Common.{◌∷◌, ◌++◌, length, get_or, set}
 use Rattle.std.proofs.Common.{refl, sym, ap, ◌∙◌}
 use Rattle.std.proofs.Common.{arith, subst, Bool, true, false}
 use Rattle.std.proofs.Math.Bool.{not}
@@ -70,7 +71,8 @@ offered_changes place old new near e =
 
 -- the limit of the place that changed is found anew
 limits_set : (place limit : ℕ) (old new : Column) (limits : List ℕ) → place < length old → AreLimits old limits
-    → ChangesAt place old new → limit ≡ limit_of (get_or new place None) → AreLimits new (set limits place limit)
+    → ChangesAt place old new → limit ≡ limit_of (get_or new place None)
+    → AreLimits new (set limits place limit)
 limits_set place limit old new limits lt h changed is = record {
   places = length-set limits place limit ∙ h.places ∙ sym changed.places;
   each = λ q less. elim (cases_eq q place) [
@@ -84,7 +86,8 @@ limits_set place limit old new limits lt h changed is = record {
 }
 
 -- a window more, of which nothing was found
-pub limits_more : (old new : Column) (limits more : List ℕ) → new ≡ old ++ None ∷ [] → more ≡ limits ++ 2 ^ 63 ∷ []
+pub limits_more : (old new : Column) (limits more : List ℕ) → new ≡ old ++ None ∷ []
+    → more ≡ limits ++ 2 ^ 63 ∷ []
     → AreLimits old limits → AreLimits new more
 limits_more old new limits more e f h =
     let long = ap length e ∙ length-append old (None ∷ []) in
@@ -112,7 +115,8 @@ limits_more old new limits more e f h =
 -- ---- windows
 
 pub grown_places : (old new : Profiled) → length old.all ≡ length old.left → length old.right ≡ length old.left
-    → new.all ≡ old.all ++ None ∷ [] → new.left ≡ old.left ++ None ∷ [] → new.right ≡ old.right ++ None ∷ []
+    → new.all ≡ old.all ++ None ∷ [] → new.left ≡ old.left ++ None ∷ []
+    → new.right ≡ old.right ++ None ∷ []
     → HasPlaces (length old.left + 1) new
 grown_places old new all right e f g = record {
   all = omega (arith, all, ap length e ∙ length-append old.all (None ∷ []));
@@ -136,14 +140,16 @@ places_back : (m : ℕ) (items : List Sample) (last : ℕ) (p : Profiled) → 1 
 places_back m items last p some within places =
     subst (λ w. HasPlaces w p) (row_count m items last some within) places
 
-pub scanned_places : (m : ℕ) (items : List Sample) (last : ℕ) (pairs : ℕ → ℕ → Bool) (old new : Profiled) → 1 ≤ m
+pub scanned_places : (m : ℕ) (items : List Sample) (last : ℕ) (pairs : ℕ → ℕ → Bool) (old new : Profiled)
+    → 1 ≤ m
     → last + m ≡ length items → HasPlaces (last + 1) old → IsScanned pairs m (series_of items) old new
     → HasPlaces (last + 1) new
 scanned_places m items last pairs old new some within places s =
     places_back m items last new some within
     (still_places pairs m (series_of items) old new (row_places m items last old some within places) s)
 
-pub ready_again : (m : ℕ) (items : List Sample) (last place limit : ℕ) (pairs : ℕ → ℕ → Bool) (old new : Profiled)
+pub ready_again : (m : ℕ) (items : List Sample) (last place limit : ℕ) (pairs : ℕ → ℕ → Bool)
+    (old new : Profiled)
     (limits : List ℕ) → 1 ≤ m → last + m ≡ length items → place < last + 1 → IsReady last old limits
     → IsScanned pairs m (series_of items) old new → ChangesAt place old.right new.right
     → limit ≡ limit_of (get_or new.right place None) → IsReady last new (set limits place limit)
@@ -179,7 +185,8 @@ is_at covered last first end i j e = record {
     among false true u e = e
     among false false u e = e
 
-    not_less : (t s : Bool) (first x end : ℕ) → (s && (t && (nat_le first x && nat_lt x end))) ≡ true → first ≤ x
+    not_less : (t s : Bool) (first x end : ℕ) → (s && (t && (nat_le first x && nat_lt x end))) ≡ true
+        → first ≤ x
     not_less t s first x end e = grind (arith, nat_tests)
 
     less : (t s : Bool) (first x end : ℕ) → (s && (t && (nat_le first x && nat_lt x end))) ≡ true → x < end
@@ -192,7 +199,8 @@ pub quiet_row : (m : ℕ) (items : List Sample) (covered : List ℕ) (waiting : 
     → ((d : ℕ) → first ≤ d → d < end → get_or limits (last - d) 0 ≤ get_or sums d 0)
     → ((d : ℕ) → first ≤ d → d < end → best ≤ get_or sums d 0)
     → IsScanned (is_last_from covered last first end) m (series_of items) p p
-quiet_row m items covered waiting sums last first end best p limits row ready lesser some within best_is above above_best =
+quiet_row m items covered waiting sums last first end best p limits row ready lesser some within best_is above
+    above_best =
     quiet_pairs (is_last_from covered last first end) m (series_of items) p
     (row_places m items last p row.shortest row.within ready.places) lesser
     (λ i j e. let at = is_at covered last first end i j e in omega (arith, at.column, at.behind, some))
@@ -202,16 +210,20 @@ quiet_row m items covered waiting sums last first end best p limits row ready le
     let i_is : last - x ≡ i = omega (arith, at.behind, some) in
     let here : distance m (series_of items) i (series_of items) last ≡ Some d =
     subst (λ q. distance m (series_of items) i (series_of items) q ≡ Some d) at.column there in
-    let sum : get_or sums x 0 ≡ square_sum m (numbers_of (series_of items)) (last - x) (numbers_of (series_of items)) last =
+    let sum : get_or sums x 0 ≡ square_sum m (numbers_of (series_of items)) (last - x)
+    (numbers_of (series_of items)) last =
     (row.lasts x (omega (arith, at.before, within)) at.is_in).sum_is in
     let same : d ≡ get_or sums x 0 =
     distances_are_sums m (series_of items) i (series_of items) last d here
-    ∙ sym (sum ∙ ap (λ q. square_sum m (numbers_of (series_of items)) q (numbers_of (series_of items)) last) i_is) in
+    ∙ sym (sum
+    ∙ ap (λ q. square_sum m (numbers_of (series_of items)) q (numbers_of (series_of items)) last) i_is) in
     let small = row.small x (omega (arith, at.before, within)) at.is_in in
     let limit : get_or limits (last - x) 0 ≡ limit_of (get_or p.right (last - x) None) =
     ready.limits.each (last - x) (omega (arith, ready.places.sides.right)) in
-    let of_row : limit_of (get_or p.right (last - x) None) ≤ d = omega (arith, limit, same, above x at.behind at.before) in
-    let of_last : limit_of (get_or p.left last None) ≤ d = omega (arith, best_is, same, above_best x at.behind at.before) in (
+    let of_row : limit_of (get_or p.right (last - x) None) ≤ d =
+    omega (arith, limit, same, above x at.behind at.before) in
+    let of_last : limit_of (get_or p.left last None) ≤ d =
+    omega (arith, best_is, same, above_best x at.behind at.before) in (
       subst (λ q. Covers (get_or p.right q None) j d) i_is
           (beyond_limit (get_or p.right (last - x) None) j d of_row (omega (arith, same, small))),
       subst (λ q. Covers (get_or p.left q None) i d) (sym at.column)
@@ -256,7 +268,8 @@ no_last m items covered last d p some within none places =
     each_to_other.none m (series_of items) (series_of items) (is_last_from covered last d (d + 1)) p
     (row_places m items last p some within places, refl) (λ i j. never i j)
   where
-    other_case : (s t : Bool) (x : ℕ) → (x ≡ d → ⊥) → (s && (t && (nat_le d x && nat_lt x (d + 1)))) ≡ false
+    other_case : (s t : Bool) (x : ℕ) → (x ≡ d → ⊥)
+        → (s && (t && (nat_le d x && nat_lt x (d + 1)))) ≡ false
     other_case s t x ne = grind (arith, nat_tests)
 
     nothing : (s u : Bool) → (s && (false && u)) ≡ false
@@ -305,7 +318,8 @@ then_from m items covered last first mid end old now new some within le le' plac
 
 -- all of them
 pub all_from : (m : ℕ) (items : List Sample) (covered : List ℕ) (last first : ℕ) (old new : Profiled) → 1 ≤ m
-    → last + m ≡ length items → first ≡ excl m + 1 → All (IsDiagonal m last) covered → HasPlaces (last + 1) old
+    → last + m ≡ length items → first ≡ excl m + 1 → All (IsDiagonal m last) covered
+    → HasPlaces (last + 1) old
     → IsScanned (is_last_from covered last first last) m (series_of items) old new
     → IsScanned (is_last_pair covered last) m (series_of items) old new
 all_from m items covered last first old new some within e all places s =
@@ -345,17 +359,21 @@ all_from m items covered last first old new some within e all places s =
         ∙ ap (λ x. (j == last) && is_covered covered x) (apart i j lt is)
 
 -- a diagonal that doesn't wait is covered
-pub not_waiting : (m w d : ℕ) (covered : List ℕ) (t : Bool) → excl m < d → d < w → t ≡ is_uncovered m w covered d
+pub not_waiting : (m w d : ℕ) (covered : List ℕ) (t : Bool) → excl m < d → d < w
+    → t ≡ is_uncovered m w covered d
     → t ≡ false → is_covered covered d ≡ true
 not_waiting m w d covered t lt lt' e is = open_test (excl m) d w (is_covered covered d) lt lt' (sym e ∙ is)
   where
-    open_test : (z d w : ℕ) (s : Bool) → z < d → d < w → ((nat_lt z d && nat_lt d w) && not s) ≡ false → s ≡ true
+    open_test : (z d w : ℕ) (s : Bool) → z < d → d < w → ((nat_lt z d && nat_lt d w) && not s) ≡ false
+        → s ≡ true
     open_test z d w true lt lt' e = refl
     open_test z d w false lt lt' e = grind (arith, nat_tests)
 
-pub waits_still : (m w d : ℕ) (covered : List ℕ) (t : Bool) → excl m < d → d < w → t ≡ is_uncovered m w covered d
+pub waits_still : (m w d : ℕ) (covered : List ℕ) (t : Bool) → excl m < d → d < w
+    → t ≡ is_uncovered m w covered d
     → t ≡ true → is_covered covered d ≡ false
-waits_still m w d covered t lt lt' e is = open_test (nat_lt (excl m) d && nat_lt d w) (is_covered covered d) (sym e ∙ is)
+waits_still m w d covered t lt lt' e is =
+    open_test (nat_lt (excl m) d && nat_lt d w) (is_covered covered d) (sym e ∙ is)
   where
     open_test : (u s : Bool) → (u && not s) ≡ true → s ≡ false
     open_test u false e = refl
@@ -364,7 +382,8 @@ waits_still m w d covered t lt lt' e is = open_test (nat_lt (excl m) d && nat_lt
 
 -- ---- sums
 
-pub row_is : (m : ℕ) (items : List Sample) (covered : List ℕ) (waiting : List Bool) (last : ℕ) (old new : Sums) → 1 ≤ m
+pub row_is : (m : ℕ) (items : List Sample) (covered : List ℕ) (waiting : List Bool) (last : ℕ) (old new : Sums)
+    → 1 ≤ m
     → last + m ≡ length items → last < numbers → All (IsDiagonal m last) covered → HavePlaces (last + 1) new
     → AreWaiting m (last + 1) covered waiting → AreSums m (series_of items) covered (last - 1) old
     → ((d : ℕ) → d < last → IsSumAt m (series_of items) (last - 1 - d) (last - 1) (sum_in old d)

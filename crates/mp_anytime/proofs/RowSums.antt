@@ -1,5 +1,6 @@
 -- Sums of the last pairs, moved one place on in 64 bits.
-use Rattle.std.proofs.Common.{◌≡◌, ℕ, ◌+◌, ◌-◌, ◌*◌, ◌^◌, ◌<◌, ◌≤◌, List, length, get_or, take, drop, refl, sym, ap, ◌∙◌}
+use Rattle.std.proofs.Common.{◌≡◌, ℕ, ◌+◌, ◌-◌, ◌*◌, ◌^◌, ◌<◌, ◌≤◌, List, length}
+use Rattle.std.proofs.Common.{get_or, take, drop, refl, sym, ap, ◌∙◌}
 use Rattle.std.proofs.Common.{arith, subst}
 use Rattle.std.specs.Prelude.{ℤ, pos}
 use Rattle.std.proofs.lemmas.List.{length-map, length-take, length-drop, get_or-take, get_or-drop}
@@ -54,7 +55,8 @@ in_range : (items : List Sample) (range : Range) (k : ℕ) → AreWithin range (
 in_range items range k within lt =
     subst (IsInRange range) (number_same items k) (within k (omega (arith, lt, length-map items number_in)))
 
-close_square : (m : ℕ) (items : List Sample) (i j : ℕ) → 2 ≤ m → LieClose m (numbers_in items) → i < length items
+close_square : (m : ℕ) (items : List Sample) (i j : ℕ) → 2 ≤ m → LieClose m (numbers_in items)
+    → i < length items
     → j < length items
     → squared_difference (numbers_of (series_of items) i) (numbers_of (series_of items) j) < 2 ^ 62
 close_square m items i j some close lt lt' =
@@ -67,7 +69,8 @@ close_square m items i j some close lt lt' =
     omega (arith, twice, fits, square)
 
 -- the square of the last number of a part and of one before it
-part_square : (items : List Sample) (first count d : ℕ) (part : List ℤ) → IsPart items first count part → d < count
+part_square : (items : List Sample) (first count d : ℕ) (part : List ℤ) → IsPart items first count part
+    → d < count
     → square_behind part d
     ≡ squared_difference (numbers_of (series_of items) (first + (count - 1 - d)))
     (numbers_of (series_of items) (first + (count - 1)))
@@ -103,7 +106,8 @@ square_there a i i' j j' e f =
     ap (λ n. squared_difference (numbers_of a n) (numbers_of a j)) e
     ∙ ap (λ n. squared_difference (numbers_of a i') (numbers_of a n)) f
 
-pub sum_moved : (m : ℕ) (items : List Sample) (last d : ℕ) (enters leaves : List ℤ) (upper lower moved : ℕ) → 2 ≤ m
+pub sum_moved : (m : ℕ) (items : List Sample) (last d : ℕ) (enters leaves : List ℤ) (upper lower moved : ℕ)
+    → 2 ≤ m
     → d < last → last + m ≡ length items → enters ≡ take last (drop m (numbers_in items))
     → leaves ≡ take last (drop 0 (numbers_in items)) → LieClose m (numbers_in items)
     → IsMoved (square_behind enters d) (square_behind leaves d) lower moved
@@ -115,7 +119,8 @@ sum_moved m items last d enters leaves upper lower moved some lt within e f clos
     let i = last - 1 - d in
     let j = last - 1 in
     let sum = upper * 2 ^ 64 + lower in
-    let below : sum < 2 ^ 63 = small_sum m items i j sum close (omega (arith, within, lt)) (omega (arith, within, lt)) h in
+    let below : sum < 2 ^ 63 =
+    small_sum m items i j sum close (omega (arith, within, lt)) (omega (arith, within, lt)) h in
     let none : upper ≡ 0 = omega (arith, below) in
     let in_part = part_of items m last enters (omega (arith, within)) e in
     let out_part = part_of items 0 last leaves (omega (arith, within)) f in

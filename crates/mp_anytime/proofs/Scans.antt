@@ -1,8 +1,11 @@
 -- The scan along a diagonal, pair by pair.
-use Rattle.std.proofs.Common.{◌≡◌, ℕ, zero, suc, ◌≤◌, List, [], ◌∷◌, length, Bool}
-use Rattle.std.proofs.Common.{refl, sym, ap, ◌∙◌, arith}
+use Rattle.std.proofs.Common.{◌≡◌, ℕ, zero, suc, List, [], ◌∷◌, length, Bool}
+use Rattle.std.proofs.Common.{refl, subst, sym, ap, ◌∙◌, arith}
 use Rattle.std.specs.List.{range_with_len}
-use Rattle.std.specs.Prelude.{slice_index, Result, Ok, Err, IfOk}
+use Rattle.std.specs.Prelude.{slice_index, Result, Ok, Err, IfOk, ◌==◌}
+use Rattle.std.specs.Int.{abs_diff}
+use Rattle.std.specs.List.Sorted.{IsPermutation}
+use Rattle.std.proofs.lemmas.List.Sorted.{list_any-IsPermutation}
 use Rattle.std.proofs.lemmas.Bool.Decides.{nat_tests}
 use Rattle.mp_nums.specs.declared.samples.Sample.{Sample}
 use Rattle.mp_defs.specs.Series.{Series, series_of}
@@ -20,7 +23,8 @@ use Rattle.mp_anytime.specs.Diagonals.{Along, along_size, along_value}
 use Rattle.mp_anytime.specs.Scanning.{lie_along, lie_apart, starts_behind}
 use Rattle.mp_anytime.proofs.LazyLemmas.{pieces_together, three, value_by, value_same}
 
-pub still_places : (pairs : ℕ → ℕ → Bool) (m : ℕ) (a : Series) (old new : Profiled) → HasPlaces (windows_of m a) old
+pub still_places : (pairs : ℕ → ℕ → Bool) (m : ℕ) (a : Series) (old new : Profiled)
+    → HasPlaces (windows_of m a) old
     → IsScanned pairs m a old new → HasPlaces (windows_of m a) new
 still_places pairs m a old new places s = (each_to_other.still_fits m a a pairs old new (places, refl) s).0
 
@@ -38,7 +42,8 @@ scanned_value offset m a old new s =
     (value_same (either_way (starts_behind offset)) (lie_apart offset) m a (λ i j _ _. either_apart offset i j))
 
 pub piece_taken : (own seen : Along) (piece offset : ℕ) (old new : Profiled) → own ≡ seen
-    → offset ≡ slice_index own.offsets piece → IsScanned (starts_behind offset) own.m (series_of own.samples) old new
+    → offset ≡ slice_index own.offsets piece
+    → IsScanned (starts_behind offset) own.m (series_of own.samples) old new
     → ◌≡◌ {A = Value} (new.all ∷ new.left ∷ new.right ∷ [])
     (merged_columns (old.all ∷ old.left ∷ old.right ∷ []) (along_value seen piece))
 piece_taken own seen piece offset old new view e s =
@@ -64,7 +69,8 @@ piece_columns w p h = record {
 }
 
 -- all pieces together
-pub pieces_are : (along : Along) (offsets : List ℕ) (m : ℕ) (items : List Sample) (count : ℕ) → along.offsets ≡ offsets
+pub pieces_are : (along : Along) (offsets : List ℕ) (m : ℕ) (items : List Sample) (count : ℕ)
+    → along.offsets ≡ offsets
     → along.m ≡ m → along.samples ≡ items → count ≡ length along.offsets
     → merged_below merged_columns (empty_columns 3 (along_size along)) (along_value along) count
     ≡ value_by (lie_along offsets) m (series_of items)
@@ -90,41 +96,67 @@ kept_over kept k (j ∷ js) =
     ap (merged_columns (columns_of (kept_sides kept))) (kept_over kept j js)
     ∙ (columns_merge 3).idempotent (length kept.all) (columns_of (kept_sides kept)) (kept_have_places kept)
 
-kept_first : (kept : Profiled) (pieces : ℕ) → 1 ≤ pieces
+kept_first : (kept : Profiled) (pieces : ℕ)
+    → (pieces ≡ 0 → columns_of (kept_sides kept) ≡ empty_columns 3 (length kept.all))
     → merged_below merged_columns (empty_columns 3 (length kept.all)) (λ _. columns_of (kept_sides kept)) pieces
     ≡ columns_of (kept_sides kept)
-kept_first kept zero some = absurd (omega (arith, some))
-kept_first kept (suc n) some = kept_over kept 0 (range_with_len 1 n)
+kept_first kept zero nothing = sym (nothing refl)
+kept_first kept (suc n) nothing = kept_over kept 0 (range_with_len 1 n)
 
 -- the pieces of both kernels
-pub both_are : (first : KeptPieces) (kept : Profiled) (along : Along) (offsets : List ℕ) (m : ℕ) (items : List Sample)
-    (found : Value) → 1 ≤ first.pieces → first.profile ≡ kept → length kept.all ≡ along_size along
+pub both_are : (first : KeptPieces) (kept : Profiled) (along : Along) (offsets : List ℕ) (m : ℕ)
+    (items : List Sample)
+    (found : Value) → (first.pieces ≡ 0 → columns_of (kept_sides kept) ≡ empty_columns 3 (length kept.all))
+    → first.profile ≡ kept → length kept.all ≡ along_size along
     → along.offsets ≡ offsets → along.m ≡ m → along.samples ≡ items
     → found ≡ merged_columns
     (merged_below merged_columns (empty_columns 3 (length first.profile.all))
     (λ _. columns_of (kept_sides first.profile)) first.pieces)
-    (merged_below merged_columns (empty_columns 3 (length first.profile.all)) (along_value along) (length along.offsets))
+    (merged_below merged_columns (empty_columns 3 (length first.profile.all)) (along_value along)
+    (length along.offsets))
     → found ≡ merged_columns (columns_of (kept_sides kept)) (value_by (lie_along offsets) m (series_of items))
-both_are first kept along offsets m items found some is size e f g h =
+both_are first kept along offsets m items found nothing is size e f g h =
     let rest = merged_below merged_columns (empty_columns 3 (length first.profile.all)) (along_value along)
     (length along.offsets) in
     h ∙ ap (λ v. merged_columns v rest)
-    (kept_first first.profile first.pieces some ∙ ap (λ (p : Profiled). columns_of (kept_sides p)) is)
+    (kept_first first.profile first.pieces (subst (λ (p : Profiled). first.pieces ≡ 0
+    → columns_of (kept_sides p)
+    ≡ empty_columns 3 (length p.all)) (sym is) nothing) ∙ ap (λ (p : Profiled). columns_of (kept_sides p)) is)
     ∙ ap (merged_columns (columns_of (kept_sides kept)))
     (ap (λ w. merged_below merged_columns (empty_columns 3 w) (along_value along) (length along.offsets))
     (ap (λ (p : Profiled). length p.all) is ∙ size)
     ∙ pieces_are along offsets m items (length along.offsets) e f g refl)
 
+-- the pairs along them are the same in any order
+pub in_any_order : (offsets order : List ℕ) (m : ℕ) (a : Series) → IsPermutation offsets order
+    → value_by (lie_along order) m a ≡ value_by (lie_along offsets) m a
+in_any_order offsets order m a moved =
+    value_same (lie_along order) (lie_along offsets) m a
+    (λ i j _ _. sym (list_any-IsPermutation (λ other. other == abs_diff i j) offsets order moved))
+
+pub found_in_order : {E : Type 0} (r : Result Bounded E) (kept : Profiled) (offsets order : List ℕ) (m : ℕ)
+    (items : List Sample) → IsPermutation offsets order
+    → IfOk r (λ found. columns_of found.profile
+    ≡ merged_columns (columns_of (kept_sides kept)) (value_by (lie_along order) m (series_of items)))
+    → IfOk r (λ found. columns_of found.profile
+    ≡ merged_columns (columns_of (kept_sides kept)) (value_by (lie_along offsets) m (series_of items)))
+found_in_order (Ok found) kept offsets order m items moved h =
+    h ∙ ap (merged_columns (columns_of (kept_sides kept))) (in_any_order offsets order m (series_of items) moved)
+found_in_order (Err e) kept offsets order m items moved h = tt
+
 pub found_by : {E : Type 0} (r : Result Bounded E) (first : KeptPieces) (kept : Profiled) (along : Along)
-    (offsets : List ℕ) (m : ℕ) (items : List Sample) → 1 ≤ first.pieces → first.profile ≡ kept
+    (offsets : List ℕ) (m : ℕ) (items : List Sample)
+    → (first.pieces ≡ 0 → columns_of (kept_sides kept) ≡ empty_columns 3 (length kept.all))
+    → first.profile ≡ kept
     → length kept.all ≡ along_size along → along.offsets ≡ offsets → along.m ≡ m
     → along.samples ≡ items
     → IfOk r (λ found. columns_of found.profile ≡ merged_columns
     (merged_below merged_columns (empty_columns 3 (length first.profile.all))
     (λ _. columns_of (kept_sides first.profile)) first.pieces)
-    (merged_below merged_columns (empty_columns 3 (length first.profile.all)) (along_value along) (length along.offsets)))
+    (merged_below merged_columns (empty_columns 3 (length first.profile.all)) (along_value along)
+    (length along.offsets)))
     → IfOk r (λ found. columns_of found.profile
     ≡ merged_columns (columns_of (kept_sides kept)) (value_by (lie_along offsets) m (series_of items)))
-found_by (Ok found) first kept along offsets m items some is size e f g h =
-    both_are first kept along offsets m items (columns_of found.profile) some is size e f g h
-found_by (Err e) first kept along offsets m items some is size d f g h = tt
+found_by (Ok found) first kept along offsets m items nothing is size e f g h =
+    both_are first kept along offsets m items (columns_of found.profile) nothing is size e f g h
+found_by (Err e) first kept along offsets m items nothing is size d f g h = tt

@@ -1,5 +1,6 @@
 -- Slots that are merged, copied and cleared place by place, and windows that are offered on both sides.
-use Rattle.std.proofs.Common.{◌≡◌, ◌≢◌, ℕ, ◌+◌, ◌<◌, ◌≤◌, inl, inr, List, [], ◌∷◌, length, get_or, set, refl}
+use Rattle.std.proofs.Common.{◌≡◌, ◌≢◌, ℕ, ◌+◌, ◌<◌, ◌≤◌, inl, inr, List, [], ◌∷◌}
+use Rattle.std.proofs.Common.{length, get_or, set, refl}
 use Rattle.std.proofs.Common.{sym, ap, ◌∙◌, arith, subst, replicate, true, false, ℤ, pos}
 use Rattle.std.specs.Prelude.{Option, Some, None}
 use Rattle.std.proofs.lemmas.Bool.{cases_eq}
@@ -31,7 +32,8 @@ use Rattle.mp_anytime.proofs.Quiet.{always_bounds}
 
 -- a nearer window is put in its place
 pub taken_by : (slots : Column) (place : ℕ) (found given there : Option Near) → found ≡ given
-    → there ≡ get_or slots place None → nearer_of there found ≡ found → set slots place found ≡ taken slots place given
+    → there ≡ get_or slots place None → nearer_of there found ≡ found
+    → set slots place found ≡ taken slots place given
 taken_by slots place found given there is at nearer =
     ap (set slots place)
     (sym (ap (λ s. nearer_of s given) (sym at) ∙ ap (nearer_of there) (sym is) ∙ nearer))
@@ -46,7 +48,8 @@ not_taken slots place found given there is at nearer =
 
 -- ---- lists
 
-set_at : {X : Type 0} (P : ℕ → X → Type 0) (d : X) (v : List X) (n : ℕ) (z : X) → n < length v → P n z → (k : ℕ)
+set_at : {X : Type 0} (P : ℕ → X → Type 0) (d : X) (v : List X) (n : ℕ) (z : X) → n < length v → P n z
+    → (k : ℕ)
     → (k ≢ n → P k (get_or v k d)) → P k (get_or (set v n z) k d)
 set_at P d v n z lt here k before = elim (cases_eq k n) [
   | inl same ↦ subst (λ q. P q (get_or (set v n z) q d)) (sym same)
@@ -105,7 +108,8 @@ pub cleared_next : (i : ℕ) (slots : Column) (slot : Option Near) → i < lengt
 cleared_next i slots slot lt before e q below =
     set_at (λ _ s. s ≡ None) None slots i slot lt e q (λ ne. before q (omega (arith, below, ne)))
 
-pub all_cleared : (n : ℕ) (slots : Column) → length slots ≡ n → ((q : ℕ) → q < n → get_or slots q None ≡ None)
+pub all_cleared : (n : ℕ) (slots : Column) → length slots ≡ n
+    → ((q : ℕ) → q < n → get_or slots q None ≡ None)
     → slots ≡ replicate n None
 all_cleared n slots long h =
     ext_get_or None slots (replicate n None) (long ∙ sym (length-replicate {A = Option Near} n None))
@@ -155,7 +159,8 @@ always_of m shift slots old bounds e f =
 
 -- ---- columns of both sides
 
-three : (a b c a' b' c' : Column) → a ≡ a' → b ≡ b' → c ≡ c' → ◌≡◌ {A = Value} (a ∷ b ∷ c ∷ []) (a' ∷ b' ∷ c' ∷ [])
+three : (a b c a' b' c' : Column) → a ≡ a' → b ≡ b' → c ≡ c'
+    → ◌≡◌ {A = Value} (a ∷ b ∷ c ∷ []) (a' ∷ b' ∷ c' ∷ [])
 three a b c a' b' c' e f g = cc
 
 pub sides_merged : (l r l' r' m s : Column) → l' ≡ merged_column l m → r' ≡ merged_column r s
@@ -163,7 +168,8 @@ pub sides_merged : (l r l' r' m s : Column) → l' ≡ merged_column l m → r' 
     (merged_columns (merged_column l r ∷ l ∷ r ∷ []) (merged_column m s ∷ m ∷ s ∷ []))
 sides_merged l r l' r' m s e f =
     three _ _ _ _ _ _
-    (ap (λ (c : Column). merged_column c r') e ∙ ap (merged_column (merged_column l m)) f ∙ crossed_columns l m r s) e f
+    (ap (λ (c : Column). merged_column c r') e ∙ ap (merged_column (merged_column l m)) f
+    ∙ crossed_columns l m r s) e f
 
 pub sides_same : (l r l' r' : Column) → l' ≡ l → r' ≡ r
     → ◌≡◌ {A = Value} (merged_column l' r' ∷ l' ∷ r' ∷ []) (merged_column l r ∷ l ∷ r ∷ [])

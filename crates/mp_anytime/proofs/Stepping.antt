@@ -1,5 +1,6 @@
 -- The diagonals are covered one by one, each time the one with the least reversal.
-use Rattle.std.proofs.Common.{◌≡◌, ℕ, zero, suc, ◌+◌, ◌<◌, ◌≤◌, inl, inr, List, [], ◌∷◌, ◌++◌, map, take, drop}
+use Rattle.std.proofs.Common.{◌≡◌, ℕ, zero, suc, ◌+◌, ◌<◌, ◌≤◌, inl, inr, List, [], ◌∷◌}
+use Rattle.std.proofs.Common.{◌++◌, map, take, drop}
 use Rattle.std.proofs.Common.{Bool, true, false, refl, sym, ap, ◌∙◌, arith, subst, append_assoc}
 use Rattle.std.specs.Prelude.{if◌then◌else◌, ◌&&◌, ◌||◌, ◌==◌, nat_lt, filter}
 use Rattle.std.specs.List.{range_with_len}
@@ -35,9 +36,11 @@ same_filter p q start (suc n) h =
     heads (p (reversal start)) (q (reversal start)) (reversal start) _ _ (h start (omega arith) (omega arith))
     (same_filter p q (start + 1) n (λ place le lt. h place (omega (arith, le)) (omega (arith, lt))))
 
-other_reversal : (x y : ℕ) → x < numbers → y < numbers → (x ≡ y → ⊥) → (reversal x == reversal y) ≡ false
+other_reversal : (x y : ℕ) → x < numbers → y < numbers → (x ≡ y → ⊥)
+    → (reversal x == reversal y) ≡ false
 other_reversal x y lt lt' other =
-    other_test (reversal x) (reversal y) (λ e. other (sym (reversal_back x lt) ∙ ap reversal e ∙ reversal_back y lt'))
+    other_test (reversal x) (reversal y)
+    (λ e. other (sym (reversal_back x lt) ∙ ap reversal e ∙ reversal_back y lt'))
   where
     other_test : (x y : ℕ) → (x ≡ y → ⊥) → (x == y) ≡ false
     other_test x y ne = grind (arith, nat_tests)
@@ -64,7 +67,8 @@ none_passes_besides p first rest taken fails =
     else filter (passes_besides p taken) rest) fails
 
 first_is_taken : (p : ℕ → Bool) (first : ℕ) (rest taken : List ℕ)
-    → filter (passes_besides p (first ∷ taken)) (first ∷ rest) ≡ filter (passes_besides p (first ∷ taken)) rest
+    → filter (passes_besides p (first ∷ taken)) (first ∷ rest)
+    ≡ filter (passes_besides p (first ∷ taken)) rest
 first_is_taken p first rest taken =
     ap (λ t. if t then first ∷ filter (passes_besides p (first ∷ taken)) rest
     else filter (passes_besides p (first ∷ taken)) rest)
@@ -73,7 +77,8 @@ first_is_taken p first rest taken =
 
 rest_of_failing : (p : ℕ → Bool) (k first : ℕ) (rest : List ℕ) → p first ≡ false
     → filter (passes_besides p (take k (filter p rest))) rest ≡ drop k (filter p rest)
-    → filter (passes_besides p (take k (filter p (first ∷ rest)))) (first ∷ rest) ≡ drop k (filter p (first ∷ rest))
+    → filter (passes_besides p (take k (filter p (first ∷ rest)))) (first ∷ rest)
+    ≡ drop k (filter p (first ∷ rest))
 rest_of_failing p k first rest fails h =
     subst (λ (kept : List ℕ). filter (passes_besides p (take k kept)) (first ∷ rest) ≡ drop k kept)
     (sym (ap (λ t. if t then first ∷ filter p rest else filter p rest) fails))
@@ -144,7 +149,8 @@ unfolding by_reversal
 first_below p place n lt passes before = first_passes p place 0 n (omega arith) (omega (arith, lt)) passes before
 
 pub rest_below : (p : ℕ → Bool) (k n : ℕ) → n ≤ numbers
-    → filter (passes_besides p (take k (filter p (by_reversal n)))) (by_reversal n) ≡ drop k (filter p (by_reversal n))
+    → filter (passes_besides p (take k (filter p (by_reversal n)))) (by_reversal n)
+    ≡ drop k (filter p (by_reversal n))
 unfolding by_reversal
 rest_below p k n few = rest_passes p k 0 n (omega (arith, few))
 
@@ -213,7 +219,8 @@ next_covered m w diagonal covered few next =
     (λ other lt. before other lt (is_uncovered m w covered (reversal other)) refl)
     ∙ ap (λ d. d ∷ []) back)
   where
-    before : (other : ℕ) → other < reversal diagonal → (t : Bool) → is_uncovered m w covered (reversal other) ≡ t
+    before : (other : ℕ) → other < reversal diagonal → (t : Bool)
+        → is_uncovered m w covered (reversal other) ≡ t
         → is_uncovered m w covered (reversal other) ≡ false
     before other lt false fails = fails
     before other lt true passes = absurd (omega (

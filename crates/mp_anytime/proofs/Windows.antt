@@ -1,14 +1,17 @@
 -- What is kept, with one window more and with some diagonals more.
-use Rattle.std.proofs.Common.{◌≡◌, ℕ, zero, suc, ◌+◌, ◌-◌, ◌<◌, ◌≤◌, inl, inr, List, [], ◌∷◌, ◌++◌, length, get_or}
+use Rattle.std.proofs.Common.{◌≡◌, ℕ, zero, suc, ◌+◌, ◌-◌, ◌<◌, ◌≤◌, inl, inr, List, []}
+use Rattle.std.proofs.Common.{◌∷◌, ◌++◌, length, get_or}
 use Rattle.std.proofs.Common.{Bool, true, false}
 use Rattle.std.proofs.Common.{take, drop, refl, sym, ap, ◌∙◌, arith, subst}
 use Rattle.std.specs.Int.{abs_diff}
-use Rattle.std.specs.Prelude.{All, Option, None, ℤ, pos, nat_lt, slice_index, ◌&&◌, ◌||◌}
+use Rattle.std.specs.Prelude.{All, Option, None, ℤ, pos, map, nat_lt, slice_index, ◌&&◌, ◌||◌}
 use Rattle.std.proofs.Math.ListN.{get_or-append}
 use Rattle.std.proofs.Math.Seq.{get_or-append_seam}
 use Rattle.std.proofs.lemmas.Bool.{cases_eq, cases_lt}
 use Rattle.std.proofs.lemmas.List.{length-map, length-append, length-take, map-append, take_all, take_more}
-use Rattle.std.proofs.lemmas.Simd.{length-zip2}
+use Rattle.std.proofs.lemmas.Simd.{length-zip2, zip2_splat}
+use Rattle.std.proofs.lemmas.List.{length-replicate}
+use Rattle.mp_nums.specs.declared.nearest.Near.{Near}
 use Rattle.mp_nums.specs.Near.{nearer_of}
 use Rattle.mp_nums.specs.declared.samples.Sample.{Sample}
 use Rattle.mp_nums.specs.declared.samples.Sample.TheVariants.{Missing}
@@ -19,7 +22,7 @@ use Rattle.mp_defs.specs.Profile.{column, left_entry, nearest_column, profile, r
 use Rattle.mp_partial.specs.Profiled.{Profiled}
 use Rattle.mp_defs.specs.NearestLaws.{zone_is_mutual}
 use Rattle.mp_defs.specs.SeriesLaws.{series_are_of_samples}
-use Rattle.mp_partial.specs.Values.{Column, Value, empty_columns, merged_column, merged_columns}
+use Rattle.mp_partial.specs.Values.{Column, Value, empty_column, empty_columns, merged_column, merged_columns}
 use Rattle.mp_stream.specs.Appended.{EntriesGrow, with_one}
 use Rattle.mp_tiles.specs.Among.{columns_value, either_way}
 use Rattle.mp_tiles.specs.Scanning.{IsScanned}
@@ -43,11 +46,12 @@ use Rattle.mp_sums.specs.declared.ranges.Range.{Range}
 use Rattle.mp_tiles.specs.Scanning.{HasPlaces as HasEntries}
 use Rattle.mp_anytime.specs.declared.coverage.Coverage.{Coverage}
 use Rattle.mp_anytime.proofs.Choosing.{other_test}
-use Rattle.mp_anytime.proofs.Entries.{each_merged, each_numbered, kept_is, left_is_earlier, merged_again, right_is_later}
+use Rattle.mp_anytime.proofs.Entries.{each_merged, each_numbered, kept_is, left_is_earlier, merged_again}
+use Rattle.mp_anytime.proofs.Entries.{right_is_later}
 use Rattle.mp_anytime.proofs.Counting.{counted_more, none_counted}
 use Rattle.mp_anytime.proofs.Appending.{first_pairs, grown_left, grown_right, joined_column}
 use Rattle.mp_anytime.proofs.Distances.{sum_front}
-use Rattle.mp_anytime.proofs.LazyLemmas.{along_both, left_of, lazy_is_along, right_of, value_none}
+use Rattle.mp_anytime.proofs.LazyLemmas.{along_both, left_of, lazy_is_along, right_of, three, value_none}
 
 -- ---- one sample more
 
@@ -56,10 +60,12 @@ front_taken [] ys = refl
 front_taken (x ∷ xs) ys = ap (λ l. x ∷ l) (front_taken xs ys)
 
 -- what stood before the last one
-pub front_is : (front items : List Sample) (sample : Sample) → items ≡ front ++ sample ∷ [] → without_last items ≡ front
+pub front_is : (front items : List Sample) (sample : Sample) → items ≡ front ++ sample ∷ []
+    → without_last items ≡ front
 front_is front items sample e =
     let long = length-append front (sample ∷ []) in
-    ap without_last e ∙ ap (λ n. take n (front ++ sample ∷ [])) (omega (arith, long)) ∙ front_taken front (sample ∷ [])
+    ap without_last e ∙ ap (λ n. take n (front ++ sample ∷ [])) (omega (arith, long))
+    ∙ front_taken front (sample ∷ [])
 
 pub last_sample : (items : List Sample) → 1 ≤ length items
     → items ≡ without_last items ++ get_or items (length items - 1) Missing ∷ []
@@ -132,7 +138,8 @@ right_grows grow m w covered a s old grown new long count all was more scanned =
 
 -- the sums of the pairs before the last window's
 pub sums_front : (m w : ℕ) (a : Series) (s : Option ℤ) (covered : List ℕ) (sums : Sums) → windows_of m a ≡ w
-    → All (IsDiagonal m w) covered → AreSums m a covered (w - 1) sums → AreSums m (with_one a s) covered (w - 1) sums
+    → All (IsDiagonal m w) covered → AreSums m a covered (w - 1) sums
+    → AreSums m (with_one a s) covered (w - 1) sums
 sums_front m w a s covered sums count all h = record {
   each = λ k lt.
       let less = (all k 0 lt).1 in
@@ -148,7 +155,8 @@ all_both P (x ∷ xs) ys h g zero d lt = h zero d (omega arith)
 all_both P (x ∷ xs) ys h g (suc k) d lt =
     all_both P xs ys (λ i e less. h (suc i) e (omega (arith, less))) g k d (omega (arith, lt))
 
-pub diagonals_both : (m w : ℕ) (covered chosen : List ℕ) → All (IsDiagonal m w) covered → All (IsDiagonal m w) chosen
+pub diagonals_both : (m w : ℕ) (covered chosen : List ℕ) → All (IsDiagonal m w) covered
+    → All (IsDiagonal m w) chosen
     → All (IsDiagonal m w) (covered ++ chosen)
 diagonals_both m w covered chosen h g = all_both (IsDiagonal m w) covered chosen h g
 
@@ -160,7 +168,8 @@ not_covered m w (d ∷ ds) all =
     ∙ not_covered m w ds (λ k e lt. all (suc k) e (omega (arith, lt)))
 
 -- how many windows a profile has
-pub kept_places : (m : ℕ) (items : List Sample) (covered : List ℕ) (p : Profiled) → IsAlongCovered m items covered p
+pub kept_places : (m : ℕ) (items : List Sample) (covered : List ℕ) (p : Profiled)
+    → IsAlongCovered m items covered p
     → length p.left ≡ windows (length items) m
 kept_places m items covered p h =
     ap length h.left
@@ -174,7 +183,8 @@ IsFoundOf m items chosen old found =
     columns_of found ≡ merged_columns (columns_of (both_sides (numbered_slots old.left) (numbered_slots old.right) 0))
     (columns_value (profile (lie_along chosen) m (series_of items)))
 
-pub is_found : (m : ℕ) (items : List Sample) (chosen : List ℕ) (old found : Profiled) → length old.left ≡ length old.all
+pub is_found : (m : ℕ) (items : List Sample) (chosen : List ℕ) (old found : Profiled)
+    → length old.left ≡ length old.all
     → length old.right ≡ length old.all
     → columns_of found ≡ merged_columns (columns_of (kept_sides old))
     (columns_value (profile (lie_along chosen) m (series_of items))) → IsFoundOf m items chosen old found
@@ -197,7 +207,8 @@ found_places m items covered chosen old found was e =
     ∙ kept
 
 -- what was written to a part of a list that is all of it
-pub written_back : (xs ys : List ℕ) → length xs ≡ length ys → take (length ys) (xs ++ drop (length xs) ys) ≡ xs
+pub written_back : (xs ys : List ℕ) → length xs ≡ length ys
+    → take (length ys) (xs ++ drop (length xs) ys) ≡ xs
 written_back xs ys e =
     ap (λ n. take n (xs ++ drop (length xs) ys)) (sym e) ∙ front_taken xs (drop (length xs) ys)
 
@@ -220,9 +231,61 @@ none_along m items p e =
     never true = refl
     never false = refl
 
+none_in : (f : Option Near → Option Near) (w : ℕ) → f None ≡ None → map f (empty_column w) ≡ empty_column w
+none_in f zero e = refl
+none_in f (suc w) e = ap (λ x. x ∷ map f (empty_column w)) e ∙ ap (λ (c : Column). None ∷ c) (none_in f w e)
+
+none_merged : (w : ℕ) → merged_column (empty_column w) (empty_column w) ≡ empty_column w
+none_merged w =
+    zip2_splat nearer_of (empty_column w) w None (length-replicate w None) ∙ none_in (λ x. nearer_of x None) w refl
+
+no_numbers : (xs : List ℕ) → length xs ≡ 0 → xs ≡ []
+no_numbers [] e = refl
+no_numbers (x ∷ xs) e = absurd (omega (arith, e))
+
+-- then nothing is kept
+pub nothing_kept : (m : ℕ) (items : List Sample) (covered : List ℕ) (p : Profiled) → length covered ≡ 0
+    → IsAlongCovered m items covered p → length p.left ≡ length p.all → length p.right ≡ length p.all
+    → columns_of (kept_sides p) ≡ empty_columns 3 (length p.all)
+nothing_kept m items covered p none h left right =
+    ap columns_of (kept_is p left right)
+    ∙ three _ _ _ _ _ _
+    (ap (λ (c : Column). merged_column c (numbered_slots p.right)) left_is
+    ∙ ap (merged_column (empty_column (length p.all))) right_is ∙ none_merged (length p.all))
+    left_is right_is
+  where
+    a : Series
+    a = series_of items
+
+    w : ℕ
+    w = windows_of m a
+
+    never : (t : Bool) → (t && false) ≡ false
+    never true = refl
+    never false = refl
+
+    empty : columns_value (lazy_profile m [] a) ≡ empty_columns 3 w
+    empty = value_none (is_allowed_along [] m) m a (λ i j. never (is_allowed m i j))
+
+    was : IsAlongCovered m items [] p
+    was = subst (λ ds. IsAlongCovered m items ds p) (no_numbers covered none) h
+
+    numbered_none : (c : Column) → c ≡ empty_column w → length c ≡ length p.all
+        → numbered_slots c ≡ empty_column (length p.all)
+    numbered_none c is count =
+        ap numbered_slots is ∙ none_in numbered w refl
+        ∙ ap empty_column (sym (length-replicate {A = Option Near} w None) ∙ sym (ap length is) ∙ count)
+
+    left_is : numbered_slots p.left ≡ empty_column (length p.all)
+    left_is = numbered_none p.left (was.left ∙ left_of _ _ _ _ _ _ empty) left
+
+    right_is : numbered_slots p.right ≡ empty_column (length p.all)
+    right_is = numbered_none p.right (was.right ∙ right_of _ _ _ _ _ _ empty) right
+
 -- ---- both sides
 
-pub all_entries : (m : ℕ) (covered : List ℕ) (a : Series) (all left right : Column) → all ≡ merged_column left right
+pub all_entries : (m : ℕ) (covered : List ℕ) (a : Series) (all left right : Column)
+    → all ≡ merged_column left right
     → left ≡ (lazy_profile m covered a).left → right ≡ (lazy_profile m covered a).right
     → all ≡ (lazy_profile m covered a).all
 all_entries m covered a all left right e f g =
@@ -325,7 +388,8 @@ none_kept m count items coverage is value no_covered places limits unknown waiti
 
 -- a window was added, and its pairs are still to be taken
 pub now_waiting : (m : ℕ) (items front : List Sample) (sample : Sample) (old grown : Coverage) (last : ℕ)
-    → items ≡ front ++ sample ∷ [] → 1 ≤ m → m ≤ length items → last ≡ length old.profile.left → IsOf m front old
+    → items ≡ front ++ sample ∷ [] → 1 ≤ m → m ≤ length items → last ≡ length old.profile.left
+    → IsOf m front old
     → IsGrown m old grown → (0 < length old.covered.items → AreWithin old.range (numbers_in items))
     → IsWaiting m items last grown
 now_waiting m items front sample old grown last e least long is was g range =
@@ -488,7 +552,8 @@ listed_more m items diagonal sum old new is fresh within was more put limits ran
     IsThere d = IsSumAt m (series_of items) (last_place m items - d) (last_place m items) (sum_in new.sums d)
 
     own : IsThere diagonal
-    own = subst (λ s. IsSumAt m (series_of items) (last_place m items - diagonal) (last_place m items) s) (sym put.here)
+    own = subst (λ s. IsSumAt m (series_of items) (last_place m items - diagonal) (last_place m items) s)
+        (sym put.here)
         here
 
     kept : (d : ℕ) → IsSumAt m (series_of items) (last_place m items - d) (last_place m items) (sum_in old.sums d)
@@ -500,7 +565,8 @@ listed_more m items diagonal sum old new is fresh within was more put limits ran
           (sym (put.others d other)) h
     ]
 
-    placed : (k : ℕ) → k < length old.covered.items + 1 → IsThere (get_or (old.covered.items ++ diagonal ∷ []) k 0)
+    placed : (k : ℕ) → k < length old.covered.items + 1
+        → IsThere (get_or (old.covered.items ++ diagonal ∷ []) k 0)
     placed k lt = elim (cases_lt k (length old.covered.items)) [
       | inl less ↦
           subst IsThere (sym (get_or-append old.covered.items (diagonal ∷ []) 0 k less))
@@ -520,7 +586,8 @@ pub wider_range : (range before : Range) (xs : List ℤ) → Reaches range befor
 wider_range range before xs wider h k lt =
     let is = h k lt in (omega (arith, ints, wider.0, is.0), omega (arith, ints, wider.1, is.1))
 
-pub range_with : (items front : List Sample) (sample : Sample) (range before : Range) → items ≡ front ++ sample ∷ []
+pub range_with : (items front : List Sample) (sample : Sample) (range before : Range)
+    → items ≡ front ++ sample ∷ []
     → Reaches range before → IsInRange range (number_in sample) → AreWithin before (numbers_in front)
     → AreWithin range (numbers_in items)
 range_with items front sample range before e wider here within k lt =

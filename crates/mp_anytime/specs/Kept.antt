@@ -1,5 +1,6 @@
 -- What is kept of a series of which some diagonals are covered.
-use Rattle.std.specs.Prelude.{◌≡◌, ℕ, ◌+◌, ◌-◌, ◌<◌, ◌≤◌, List, Bool, length, slice_index, All}
+use Rattle.std.specs.Prelude.{◌≡◌, ℕ, ◌+◌, ◌-◌, ◌<◌, ◌≤◌, List, Bool, length, slice_index}
+use Rattle.std.specs.Prelude.{All}
 use Rattle.std.specs.Prelude.{◌==◌, ◌&&◌, take, true, false, min, [], ◌∷◌, ◌++◌, None}
 use Rattle.std.specs.Int.{abs_diff}
 use Rattle.mp_nums.specs.declared.samples.Sample.{Sample}

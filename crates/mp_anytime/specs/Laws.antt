@@ -19,7 +19,8 @@ pub record CoversTheNext : Type 0 where
       → advanced m w (k + 1) covered ≡ advanced m w 1 (advanced m w k covered)
   pub next : (m w diagonal : ℕ) (covered : List ℕ) → w ≤ numbers → IsNext m w covered diagonal
       → advanced m w 1 covered ≡ covered ++ diagonal ∷ []
-  pub none_left : (m w : ℕ) (covered : List ℕ) → ((diagonal : ℕ) → is_uncovered m w covered diagonal ≡ false)
+  pub none_left : (m w : ℕ) (covered : List ℕ)
+      → ((diagonal : ℕ) → is_uncovered m w covered diagonal ≡ false)
       → advanced m w 1 covered ≡ covered
 
 -- with more diagonals each entry is as it was, or comes before it
@@ -35,4 +36,5 @@ pub record WholeIsTheProfile : Type 0 where
   pub left : (m : ℕ) (covered : List ℕ) (a : Series) → windows_of m a ≤ numbers
       → uncovered m (windows_of m a) covered ≡ [] → (lazy_profile m covered a).left ≡ (matrix_profile m a).left
   pub right : (m : ℕ) (covered : List ℕ) (a : Series) → windows_of m a ≤ numbers
-      → uncovered m (windows_of m a) covered ≡ [] → (lazy_profile m covered a).right ≡ (matrix_profile m a).right
+      → uncovered m (windows_of m a) covered ≡ []
+      → (lazy_profile m covered a).right ≡ (matrix_profile m a).right

@@ -1,7 +1,6 @@
 pub mod Scanning
 pub mod Rounded
 pub mod Bounds
-pub mod Exacts
 pub mod Waiting
 pub mod Sums
 pub mod Kept

@@ -1,5 +1,6 @@
 -- The pairs of windows along a diagonal.
-use Rattle.std.specs.Prelude.{◌≡◌, ℕ, ◌+◌, ◌<◌, Bool, ◌==◌, ◌&&◌, nat_le, nat_lt, List, length, slice_index_or, false}
+use Rattle.std.specs.Prelude.{◌≡◌, ℕ, ◌+◌, ◌<◌, Bool, ◌==◌, ◌&&◌, nat_le, nat_lt, List, length}
+use Rattle.std.specs.Prelude.{slice_index_or, false}
 use Rattle.std.specs.Prelude.{if◌then◌else◌, Some, None, IfSome}
 use Rattle.std.specs.Int.{abs_diff}
 use Rattle.mp_nums.specs.declared.nearest.Near.{Near}

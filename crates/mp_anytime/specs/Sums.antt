@@ -1,5 +1,6 @@
 -- The sums of the last pairs of all diagonals.
-use Rattle.std.specs.Prelude.{◌≡◌, ℕ, ◌+◌, ◌-◌, ◌*◌, ◌^◌, ◌<◌, ◌≤◌, List, length, slice_index, min, ℤ}
+use Rattle.std.specs.Prelude.{◌≡◌, ℕ, ◌+◌, ◌-◌, ◌*◌, ◌^◌, ◌<◌, ◌≤◌, List, length}
+use Rattle.std.specs.Prelude.{slice_index, min, ℤ}
 use Rattle.mp_defs.specs.Distance.{squared_difference}
 use Rattle.mp_sums.specs.Residues.{item}
 use Rattle.mp_sums.specs.Ranges.{AreWithin, SumsFit}

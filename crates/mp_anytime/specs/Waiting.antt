@@ -1,5 +1,6 @@
 -- Which diagonals wait to be covered, by their reversals.
-use Rattle.std.specs.Prelude.{◌≡◌, ℕ, ◌+◌, ◌-◌, ◌/◌, ◌<◌, List, Bool, false, length, slice_index_or}
+use Rattle.std.specs.Prelude.{◌≡◌, ℕ, ◌+◌, ◌-◌, ◌/◌, ◌<◌, List, Bool, false, length}
+use Rattle.std.specs.Prelude.{slice_index_or}
 use Rattle.mp_defs.specs.Window.{excl}
 use Rattle.mp_results.specs.Reversal.{reversal, numbers}
 use Rattle.mp_results.specs.Covering.{is_uncovered, uncovered}

@@ -1,6 +1,7 @@
 //! Bounds of residues, and the greatest of successive ones.
 
-ghost use Rattle.std.specs.Prelude.{◌≡◌, ℕ, ◌+◌, ◌*◌, ◌<◌, ◌≤◌, length, slice_set, IfOk, List, ℤ, ◌≤ℤ◌};
+ghost use Rattle.std.specs.Prelude.{◌≡◌, ℕ, ◌+◌, ◌*◌, ◌<◌, ◌≤◌, length, slice_set, IfOk};
+ghost use Rattle.std.specs.Prelude.{List, ℤ, ◌≤ℤ◌};
 ghost use Rattle.std.specs.Prelude.{replicate};
 ghost use Rattle.mp_sums.specs.declared.residues.TheConstants.{ALWAYS};
 ghost use Rattle.mp_sums.specs.Residues.{item};

@@ -1,6 +1,7 @@
 //! What is kept of a series of which some diagonals are covered.
 
-ghost use Rattle.std.specs.Prelude.{◌≡◌, ◌+◌, ◌*◌, ◌<◌, ◌≤◌, ◌++◌, ◌∷◌, [], length, All, IfOk, IsOk, OnOk};
+ghost use Rattle.std.specs.Prelude.{◌≡◌, ◌+◌, ◌*◌, ◌<◌, ◌≤◌, ◌++◌, ◌∷◌, [], length};
+ghost use Rattle.std.specs.Prelude.{All, IfOk, IsOk, OnOk};
 ghost use Rattle.std.specs.Prelude.{ℕ, List, false, true, slice_index, take};
 ghost use Rattle.mp_defs.specs.Limits.{max_samples};
 ghost use Rattle.mp_defs.specs.Series.{series_of};
@@ -35,16 +36,22 @@ use mp_stream::entries_grow;
 use mp_sums::{Range, number_of};
 use std::alloc::Global;
 
-/// The profile of the pairs of windows on the covered diagonals, these in the order in which they were covered, the sum
-/// of the last pair of each, and which diagonals aren't covered, by their reversals.
+/// What is kept of the covered diagonals: their profile, and what an appended sample's pairs with them are found by.
 #[derive(Debug, Drop)]
 pub(crate) struct Coverage {
+    /// The profile of the pairs of windows on the covered diagonals.
     pub(crate) profile: Profile,
+    /// The covered diagonals, in the order in which they were covered.
     pub(crate) covered: Items<u64>,
+    /// Of each covered diagonal the sum of its last pair, from which that of the next one is found.
     pub(crate) sums: Sums,
+    /// Of each window, where these are known, from which sum on a later window gives it nothing.
     pub(crate) limits: Items<u64>,
+    /// Whether the limits are those of the profile. They are found anew where an append next asks for them.
     pub(crate) are_limits_known: bool,
+    /// From which number up to which the samples reach, where a diagonal is covered: it tells how long sums are.
     pub(crate) range: Range,
+    /// Which diagonals aren't covered, by their reversals.
     pub(crate) waiting: Waiting,
 }
 
@@ -103,7 +110,8 @@ impl Coverage {
     /// Offers the last window to the windows before it, by the sums of their pairs.
     fn offer_last(&mut self, samples: &Samples, m: u32, last: u64)
         requires shortest { 1 ≤ m }
-        requires row { IsRow m samples.now.items self.old.covered.items self.old.waiting self.old.sums.lower.items last }
+        requires row { IsRow m samples.now.items self.old.covered.items self.old.waiting
+            self.old.sums.lower.items last }
         requires diagonals { All (IsDiagonal m last) self.old.covered.items }
         requires order { zone_of m + 1 ≤ last }
         requires ready { IsReady last self.old.profile self.old.limits.items }

@@ -1,6 +1,7 @@
 //! Diagonals as the pieces of a kernel.
 
 ghost use Rattle.std.specs.Prelude.{◌≡◌, ◌≤◌, [], ◌∷◌, length, All, IfOk};
+ghost use Rattle.std.specs.List.Sorted.{IsPermutation};
 ghost use Rattle.mp_defs.specs.Limits.{max_samples};
 ghost use Rattle.mp_defs.specs.Series.{series_of};
 ghost use Rattle.mp_defs.specs.Window.{windows as windows_in};
@@ -9,16 +10,17 @@ ghost use Rattle.mp_series.specs.declared.limits.TheConstants.{MAX_WINDOW};
 ghost use Rattle.mp_partial.specs.declared.limits.TheConstants.{MAX_PIECES, MAX_WORKERS};
 ghost use Rattle.mp_tiles.specs.Among.{columns_value};
 ghost use Rattle.mp_anytime.specs.Scanning.{AreFree, lie_along};
-ghost use Rattle.mp_anytime.specs.Kept.{IsDiagonal};
+ghost use Rattle.mp_anytime.specs.Kept.{IsDiagonal, IsOf};
 ghost use Rattle.mp_anytime.specs.Bounds.{columns_of, kept_sides};
 ghost use Rattle.mp_partial.specs.Values.{merged_columns};
 
+use crate::coverage::Coverage;
 use crate::found::Found;
 use crate::kept::Kept;
 use crate::rounded::{Lists, Rounded};
 use mp_nums::{Memory, Sample};
 use mp_outside::Gate;
-use mp_partial::{Kernel, Part, Profile};
+use mp_partial::{Kernel, Part};
 use mp_scans::Plan;
 use mp_series::{Samples, windows};
 use mp_sums::Grid;
@@ -122,6 +124,34 @@ fn own_plan<'a>(samples: &'a [Sample], m: u32) -> Plan<'a>
     })
 }
 
+/// Up to so many diagonals are walked by length.
+const SORTED: usize = 256;
+
+/// Diagonals in the order in which they are walked. Of a few the longest come first: they have a pair for most windows,
+/// so that fewer of the later ones are nearer than what was found.
+fn walked(alloc: Global, offsets: &[u64]) -> Result<Vec<u64>, Memory>
+    ensures { IfOk result (λ order. IsPermutation offsets.now order.items) }
+{
+    let mut order = offsets.to_vec(alloc)?;
+    if offsets.len() <= SORTED {
+        order.sort_unstable();
+    }
+    Ok(order)
+}
+
+/// How many workers begin with what is kept: none of them where no diagonal was covered, since nothing is kept then.
+fn beginners(covered: &[u64], workers: u32) -> u64
+    requires { 1 ≤ workers }
+    ensures none { result ≡ 0 → length covered.now ≡ 0 }
+    ensures few { result ≤ workers }
+{
+    if covered.is_empty() {
+        0
+    } else {
+        u64::from(workers)
+    }
+}
+
 /// What the pairs of windows on the diagonals have together, with what is kept of others, found by so many workers. A
 /// few pairs are left to fewer.
 pub(crate) fn found_along<R: Threads + Sync, G: Gate>(
@@ -129,7 +159,7 @@ pub(crate) fn found_along<R: Threads + Sync, G: Gate>(
     alloc: Global,
     samples: &mut Samples,
     m: u32,
-    kept: &Profile,
+    kept: &Coverage,
     offsets: &[u64],
     workers: u32,
     gate: &G,
@@ -140,20 +170,23 @@ pub(crate) fn found_along<R: Threads + Sync, G: Gate>(
     requires diagonals { All (IsDiagonal m (windows_in (length samples.old.items) m)) offsets.now }
     requires some { 1 ≤ workers }
     requires workers { workers ≤ MAX_WORKERS }
-    requires places { length kept.now.left ≡ windows_in (length samples.old.items) m }
-    ensures found { IfOk result (λ found. columns_of found.profile ≡ merged_columns (columns_of (kept_sides kept.now))
+    requires is_of { IsOf m samples.old.items kept.now }
+    ensures found { IfOk result (λ found. columns_of found.profile
+        ≡ merged_columns (columns_of (kept_sides kept.now.profile))
         (columns_value (profile (lie_along offsets.now) m (series_of samples.old.items)))) }
     ensures few { IfOk result (λ _. length samples.old.items ≤ max_samples) }
     ensures items { samples.new.items ≡ samples.old.items }
     ensures spare { samples.new.spare ≡ samples.old.spare }
     ensures reads_rise { samples.old.reads ≤ samples.new.reads }
 {
-    let _windows = kept.len();
+    let _windows = kept.profile.len();
     let free = free_windows(alloc, samples, m)?;
     let plan = own_plan(samples.lend(), m);
     let lists = Lists::of(alloc, &plan, free)?;
-    let diagonals = Diagonals::new(lists.rounded(), offsets);
+    let order = walked(alloc, offsets)?;
+    let diagonals = Diagonals::new(lists.rounded(), order.as_slice());
     let workers = workers_for(diagonals.pieces().saturating_mul(diagonals.size()), workers);
-    let first = Kept::new(kept, plan.rounding, u64::from(workers));
+    let count = beginners(kept.covered.as_slice(), workers);
+    let first = Kept::new(&kept.profile, plan.rounding, count);
     run_one_after_another(rt, alloc, &first, &diagonals, workers, gate)
 }

@@ -1,6 +1,7 @@
 //! What was found along some diagonals, and which residues tell that nothing more is.
 
-ghost use Rattle.std.specs.Prelude.{◌≡◌, ℕ, ◌+◌, ◌-◌, ◌*◌, ◌^◌, ◌<◌, ◌≤◌, ◌<ℤ◌, [], ◌∷◌, length};
+ghost use Rattle.std.specs.Prelude.{◌≡◌, ℕ, ◌+◌, ◌-◌, ◌*◌, ◌^◌, ◌<◌, ◌≤◌, ◌<ℤ◌};
+ghost use Rattle.std.specs.Prelude.{[], ◌∷◌, length};
 ghost use Rattle.std.specs.Prelude.{slice_index_or, None, true, false};
 ghost use Rattle.mp_sums.specs.Residues.{residue as residue_of};
 ghost use Rattle.mp_partial.specs.Values.{HasColumns, empty_columns, merged_column, merged_columns};
@@ -10,15 +11,15 @@ ghost use Rattle.mp_tiles.specs.Scanning.{HasPlaces, IsScanned};
 ghost use Rattle.mp_anytime.specs.Scanning.{AreEarlier, AreLater, IsPairTaken, is_pair_from, starts_behind};
 ghost use Rattle.mp_anytime.specs.Rounded.{core_in, series_in, whole_in};
 ghost use Rattle.mp_anytime.specs.Bounds.{AreTaken, IsFor, IsQuiet, columns_of, kept_sides};
-ghost use Rattle.mp_anytime.specs.Exacts.{IsExact};
+ghost use Rattle.mp_scans.specs.Exacts.{IsExact};
 ghost use Rattle.mp_series.specs.declared.limits.TheConstants.{MAX_SAMPLES};
 
-use crate::exacts::Exact;
 use crate::pairs::{offer_earlier, offer_later};
 use crate::rounded::{BLOCK, Rounded};
-use crate::sides::Side;
+use crate::sides::{Side, bound_of};
 use mp_nums::{Memory, Near, Sq};
 use mp_partial::{Part, Profile};
+use mp_scans::Exact;
 use mp_sums::{Rounding, passes};
 use std::alloc::Global;
 use std::marker::Model;
@@ -144,8 +145,9 @@ impl Found {
             dist,
             index: row as u64,
         };
-        self.right.offer(&self.rounding, row, later);
-        self.left.offer(&self.rounding, column, earlier);
+        let bound = bound_of(&self.rounding, dist);
+        self.right.offer(row, later, bound);
+        self.left.offer(column, earlier, bound);
     }
 
     /// Offers a row and a later column to each other, which have this residue, where no sample of them is missing.

@@ -1,6 +1,7 @@
 //! A profile in parts.
 
-ghost use Rattle.std.specs.Prelude.{◌≡◌, ℕ, ◌+◌, ◌*◌, ◌<◌, ◌≤◌, ◌↔◌, [], ◌∷◌, ◌++◌, length};
+ghost use Rattle.std.specs.Prelude.{◌≡◌, ℕ, ◌+◌, ◌*◌, ◌<◌, ◌≤◌, ◌↔◌, [], ◌∷◌};
+ghost use Rattle.std.specs.Prelude.{◌++◌, length};
 ghost use Rattle.std.specs.Prelude.{IsOk, IsErrOf, IsTrue, IfOk, OnOk, OnErr};
 ghost use Rattle.mp_defs.specs.Limits.{max_samples};
 ghost use Rattle.mp_defs.specs.Series.{series_of};
@@ -160,7 +161,7 @@ impl Anytime {
             alloc,
             &mut self.samples,
             self.m,
-            &self.coverage.profile,
+            &self.coverage,
             chosen,
             workers,
             gate,
@@ -174,7 +175,8 @@ impl Anytime {
     pub fn profile(&self) -> &Profile
         ensures all { result.now.all ≡ (lazy_profile self.now.m self.now.covered (series_of self.now.items)).all }
         ensures left { result.now.left ≡ (lazy_profile self.now.m self.now.covered (series_of self.now.items)).left }
-        ensures right { result.now.right ≡ (lazy_profile self.now.m self.now.covered (series_of self.now.items)).right }
+        ensures right { result.now.right
+            ≡ (lazy_profile self.now.m self.now.covered (series_of self.now.items)).right }
     {
         let _entries = self.coverage.profile.all();
         &self.coverage.profile

@@ -8,7 +8,6 @@
 mod bounds;
 mod coverage;
 mod diagonals;
-mod exacts;
 mod extending;
 mod found;
 mod kept;

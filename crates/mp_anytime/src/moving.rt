@@ -1,6 +1,7 @@
 //! The sums of all diagonals' last pairs, moved one place on in 64 bits.
 
-ghost use Rattle.std.specs.Prelude.{◌≡◌, ℕ, ◌+◌, ◌-◌, ◌*◌, ◌^◌, ◌<◌, ◌≤◌, length, slice_index};
+ghost use Rattle.std.specs.Prelude.{◌≡◌, ℕ, ◌+◌, ◌-◌, ◌*◌, ◌^◌, ◌<◌, ◌≤◌, length};
+ghost use Rattle.std.specs.Prelude.{slice_index};
 ghost use Rattle.mp_defs.specs.Distance.{squared_difference};
 ghost use Rattle.mp_defs.specs.Series.{series_of};
 ghost use Rattle.mp_series.specs.Samples.{numbers_in};
@@ -33,8 +34,9 @@ fn move_each(enters: &[Whole], leaves: &[Whole], sums: &mut [u64])
     requires entering { AreClose enters.now }
     requires leaving { AreClose leaves.now }
     ensures places { length sums.new ≡ length sums.old }
-    ensures moved { (d : ℕ) → d < length enters.now → IsMoved (square_behind enters.now d) (square_behind leaves.now d)
-        (slice_index sums.old d) (slice_index sums.new d) }
+    ensures moved { (d : ℕ) → d < length enters.now
+        → IsMoved (square_behind enters.now d) (square_behind leaves.now d) (slice_index sums.old d)
+        (slice_index sums.new d) }
 {
     let last = enters.len() - 1;
     let (last_enters, last_leaves) = (enters[last], leaves[last]);

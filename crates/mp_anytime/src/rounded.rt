@@ -1,15 +1,15 @@
 //! A series in rounded samples, whose residues tell of most pairs of windows that they give nothing.
 
-ghost use Rattle.std.specs.Prelude.{◌≡◌, ℕ, ◌+◌, ◌-◌, ◌^◌, ◌<◌, ◌≤◌, length, IfOk, IsSome, Some, ℤ};
+ghost use Rattle.std.specs.Prelude.{◌≡◌, ℕ, ◌+◌, ◌-◌, ◌^◌, ◌<◌, ◌≤◌, length, IfOk};
+ghost use Rattle.std.specs.Prelude.{IsSome, Some, ℤ};
 ghost use Rattle.mp_sums.specs.Grids.{distance_in};
 ghost use Rattle.mp_sums.specs.Residues.{AreChanges, AreNumbers, item, residue as residue_of};
 ghost use Rattle.mp_anytime.specs.Scanning.{AreFree};
-ghost use Rattle.mp_anytime.specs.Exacts.{IsExact};
+ghost use Rattle.mp_scans.specs.Exacts.{IsExact};
 ghost use Rattle.mp_anytime.specs.Rounded.{AreRounded, core_in, rounded_in, series_in, whole_in};
 
-use crate::exacts::{Exact, distance_by};
 use mp_nums::Memory;
-use mp_scans::Plan;
+use mp_scans::{Exact, Plan, exact_distance};
 use mp_sums::{Change, fill_changes, first_residue, next_residue, sum_of};
 use std::alloc::Global;
 
@@ -133,7 +133,7 @@ impl<'a> Rounded<'a> {
         if self.plan.is_exact {
             sum_of(residue)
         } else {
-            distance_by(&self.plan.grid, exact, row, column)
+            exact_distance(&self.plan.grid, exact, row, column)
         }
     }
 }

@@ -1,6 +1,7 @@
 //! The nearest windows on one side, in one number each, and the bounds of residues that they keep to.
 
-ghost use Rattle.std.specs.Prelude.{◌≡◌, ℕ, ◌+◌, ◌<◌, ◌≤◌, length, replicate, slice_set, true, IfOk, ◌≤ℤ◌};
+ghost use Rattle.std.specs.Prelude.{◌≡◌, ℕ, ◌+◌, ◌<◌, ◌≤◌, length, replicate, slice_set, true};
+ghost use Rattle.std.specs.Prelude.{IfOk, Some, ◌≤ℤ◌};
 ghost use Rattle.mp_sums.specs.declared.residues.TheConstants.{ALWAYS};
 ghost use Rattle.mp_sums.specs.Residues.{item};
 ghost use Rattle.mp_partial.specs.Values.{empty_column, merged_column, offered};
@@ -9,7 +10,7 @@ ghost use Rattle.mp_anytime.specs.Bounds.{AreBounds, IsBound, IsSmall, has_numbe
 
 use crate::bounds::Bounds;
 use crate::rounded::BLOCK;
-use mp_nums::{Memory, Near, Slot};
+use mp_nums::{Memory, Near, Slot, Sq};
 use mp_series::MAX_SAMPLES;
 use mp_sums::{ALWAYS, Limit, Rounding};
 use mp_tiles::Compact;
@@ -42,15 +43,13 @@ impl Model for Side {
     ghost invariant = { λ side. length side.bounds ≡ length side.slots.items };
 }
 
-/// The greatest residue of windows as near as what stands in a slot.
+/// The greatest residue of windows at a distance.
 #[inline]
-fn bound_of(rounding: &Rounding, slot: Slot) -> i32
-    ensures { IsBound rounding.now.m rounding.now.shift slot result }
+pub(crate) fn bound_of(rounding: &Rounding, dist: Sq) -> i32
+    ensures { (index : ℕ) → IsBound rounding.now.m rounding.now.shift
+        (Some (record { dist = dist; index = index })) result }
 {
-    match slot {
-        Some(near) => rounding.residue_limit(Limit::Within(near.dist)),
-        None => ALWAYS,
-    }
+    rounding.residue_limit(Limit::Within(dist))
 }
 
 /// Whether a window and its distance have a number together, as those of all windows of a series have.
@@ -182,19 +181,19 @@ impl Side {
         self.bounds.set(place, bound);
     }
 
-    /// Offers a window to the one at a place, whose bound is found anew where it takes it.
+    /// Offers a window to the one at a place, with the bound of its distance.
     #[inline]
-    pub(crate) fn offer(&mut self, rounding: &Rounding, place: usize, near: Near)
+    pub(crate) fn offer(&mut self, place: usize, near: Near, bound: i32)
         requires place { place < length self.old.slots }
         requires small { IsSmall near }
-        requires bounds { AreBounds rounding.now.m rounding.now.shift self.old.slots self.old.bounds }
         ensures slots { self.new.slots ≡ offered self.old.slots place near }
-        ensures bounds { AreBounds rounding.now.m rounding.now.shift self.new.slots self.new.bounds }
+        ensures bounds { (m shift : ℕ) → IsBound m shift (Some near) bound
+            → AreBounds m shift self.old.slots self.old.bounds → AreBounds m shift self.new.slots self.new.bounds }
         ensures room { self.new.room ≡ self.old.room }
     {
         let found = Compact::of(near);
         if found.comes_before(&self.slots.as_slice()[place]) {
-            self.put(place, found, bound_of(rounding, Some(near)));
+            self.put(place, found, bound);
         }
     }
 
@@ -209,7 +208,7 @@ impl Side {
     {
         if let Some(near) = slot {
             if is_small(*near) {
-                self.offer(rounding, place, *near);
+                self.offer(place, *near, bound_of(rounding, near.dist));
             }
         }
     }

@@ -1,6 +1,7 @@
 //! Which diagonals aren't covered, by their reversals.
 
-ghost use Rattle.std.specs.Prelude.{◌≡◌, ℕ, ◌+◌, ◌*◌, ◌<◌, ◌≤◌, ◌==◌, [], ◌∷◌, ◌++◌, if◌then◌else◌};
+ghost use Rattle.std.specs.Prelude.{◌≡◌, ℕ, ◌+◌, ◌*◌, ◌<◌, ◌≤◌, ◌==◌, [], ◌∷◌};
+ghost use Rattle.std.specs.Prelude.{◌++◌, if◌then◌else◌};
 ghost use Rattle.std.specs.Prelude.{List, filter, take, length, slice_index_or, Bool, false, IfOk, OnOk};
 ghost use Rattle.mp_results.specs.Reversal.{reversal as reversal_of};
 ghost use Rattle.mp_results.specs.Covering.{by_reversal, is_covered, is_uncovered, uncovered};
@@ -88,7 +89,8 @@ fn mark(places: &[bool], marks: &mut [bool], block: usize)
 /// Chooses the diagonal at a place, where it is waiting and fewer than `count` are chosen.
 fn choose_at(places: &[bool], place: usize, count: u64, chosen: &mut Vec<u64>) -> Result<(), Memory>
     requires place { place < length places.now }
-    ensures chosen { (is_waiting : ℕ → Bool) → slice_index_or places.now place false ≡ is_waiting (reversal_of place)
+    ensures chosen { (is_waiting : ℕ → Bool)
+        → slice_index_or places.now place false ≡ is_waiting (reversal_of place)
         → chosen.old.items ≡ take count (filter is_waiting (by_reversal place))
         → OnOk result (chosen.new.items ≡ take count (filter is_waiting (by_reversal (place + 1)))) }
     ensures few { length chosen.new.items ≤ length chosen.old.items + 1 }
@@ -200,8 +202,8 @@ impl Waiting {
     /// With one window more there is one diagonal more, unless it lies in the exclusion zone.
     pub(crate) fn add_window(&mut self, m: u32, windows: u64)
         requires { windows < NUMBERS }
-        ensures { (covered : List ℕ) → is_covered covered windows ≡ false → AreWaiting m windows covered self.old
-            → AreWaiting m (windows + 1) covered self.new }
+        ensures { (covered : List ℕ) → is_covered covered windows ≡ false
+            → AreWaiting m windows covered self.old → AreWaiting m (windows + 1) covered self.new }
     {
         self.put(windows, excl(m) < windows);
     }

@@ -1,4 +1,5 @@
-use Rattle.std.proofs.Common.{◌≡◌, ◌+◌, ◌-◌, ◌<◌, ◌∙◌, arith, get_or, length, refl, subst, sym, take}
+use Rattle.std.proofs.Common.{◌≡◌, ◌+◌, ◌-◌, ◌<◌, ◌∙◌, arith, get_or, length, refl, subst, sym}
+use Rattle.std.proofs.Common.{take}
 use Rattle.std.specs.Prelude.{List}
 use Rattle.mp_nums.specs.declared.samples.Sample.{Sample}
 use Rattle.mp_defs.specs.Series.{series_of}
@@ -49,7 +50,8 @@ loop-k-preserved c =
     subst (λ (items : List Sample). IsScanned (only (last - get_or covered k 0) last) m (series_of items)
     c.loop-k.profile c.extend-sum.new.profile) c.loop-k.invariant.read.items c.extend-sum.ensures.scanned in
     record {
-      done = done_more (λ d s. IsSumAt m a (last - d) last s) covered k c.extend-sum.result c.loop-k.sums c.set.new.self
+      done = done_more (λ d s. IsSumAt m a (last - d) last s) covered k
+          c.extend-sum.result c.loop-k.sums c.set.new.self
           c.requires.distinct (omega arith) c.set.ensures.put c.loop-k.invariant.done here;
       rest = λ q le lt. rest_more covered k c.extend-sum.result q c.args.sums.now c.loop-k.sums c.set.new.self
           c.requires.distinct c.set.ensures.put le lt (c.loop-k.invariant.rest q (omega (arith, le)) lt);

@@ -1,4 +1,5 @@
-use Rattle.std.proofs.Common.{◌≡◌, ℕ, ◌+◌, ◌-◌, ◌<◌, ◌++◌, ◌∙◌, List, ap, arith, drop, get_or, length, sym, subst, take}
+use Rattle.std.proofs.Common.{◌≡◌, ℕ, ◌+◌, ◌-◌, ◌<◌, ◌++◌, ◌∙◌, List, ap, arith, drop}
+use Rattle.std.proofs.Common.{get_or, length, sym, subst, take}
 use Rattle.mp_series.specs.Samples.{numbers_in}
 use Rattle.mp_anytime.specs.Offers.{IsMovedSum}
 use Rattle.mp_anytime.specs.Sums.{IsMoved, square_behind}
@@ -27,7 +28,8 @@ returns-clause-sums c = λ d lt h.
     let leaves = c.parts.result.1.now in
     let entering = c.parts.ensures.first ∙ ap (λ n. take last (drop n (numbers_in items))) c.from.ensures in
     let long : length enters ≡ last = part_long items m last enters (omega (arith, c.requires.within)) entering in
-    let back = written_back new old.lower.items (c.move_each.ensures.places ∙ ap length c.as_mut_slice.ensures.value) in
+    let back =
+    written_back new old.lower.items (c.move_each.ensures.places ∙ ap length c.as_mut_slice.ensures.value) in
     let step : IsMoved (square_behind enters d) (square_behind leaves d) (get_or old.lower.items d 0) (get_or new d 0) =
     subst (λ (l : List ℕ). IsMoved (square_behind enters d) (square_behind leaves d) (get_or l d 0) (get_or new d 0))
     c.as_mut_slice.ensures.value (c.move_each.ensures.moved d (omega (arith, lt, long))) in

@@ -25,7 +25,8 @@ taken c =
     (distance_is m a (row.last - c.args.diagonal) row.last (get_or row.sums.now c.args.diagonal 0) sum
     ∙ ap (λ t. if t && is_free m a row.last then Some (get_or row.sums.now c.args.diagonal 0) else None)
     (sym c.free.ensures)
-    ∙ ap (λ t. if c.free.result && t then Some (get_or row.sums.now c.args.diagonal 0) else None) (sym c.free-2.ensures)
+    ∙ ap (λ t. if c.free.result && t then Some (get_or row.sums.now c.args.diagonal 0) else None)
+    (sym c.free-2.ensures)
     ∙ ap (λ s. if c.free.result && c.free-2.result then Some s else None) (sym c.from.ensures))
 
 pub returns-clause-ready : goal.returns-clause-ready

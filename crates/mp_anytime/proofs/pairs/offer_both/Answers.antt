@@ -37,4 +37,5 @@ returns-clause-right c =
     let at_j : Near = record { dist = c.args.dist; index = j } in
     let at_i : Near = record { dist = c.args.dist; index = i } in
     c.offer-2.ensures.right ∙ ap (λ t. if t then offered mid.right j at_i else mid.right) (last i j c.requires.order)
-    ∙ c.offer.ensures.right ∙ ap (λ t. if t then offered old.right i at_j else old.right) (first i j c.requires.order)
+    ∙ c.offer.ensures.right
+    ∙ ap (λ t. if t then offered old.right i at_j else old.right) (first i j c.requires.order)

@@ -1,4 +1,5 @@
-use Rattle.std.proofs.Common.{◌≡◌, ◌+◌, ◌*◌, ◌/◌, ◌∙◌, inl, inr, false, true, get_or, sym, ap, arith}
+use Rattle.std.proofs.Common.{◌≡◌, ◌+◌, ◌*◌, ◌/◌, ◌∙◌, inl, inr, false, true, get_or, sym, ap}
+use Rattle.std.proofs.Common.{arith}
 use Rattle.std.specs.Prelude.{nat_lt}
 use Rattle.mp_anytime.proofs.Choosing.{chosen_on, marked_or_not, not_less_of, second_false}
 use Rattle.mp_anytime.proofs.waiting.choose_marked.Goals as goal

@@ -14,7 +14,11 @@ wide c some =
     let items = c.args.samples.now.items in
     range_with items (without_last items) c.args.sample c.widen.new.self.range c.args.self.now.range c.requires.last
     c.widen.ensures.range c.widen.ensures.sample
-    (c.requires.is_of.listed.range (omega (arith, some, ap (λ (l : Listed ℕ). length l.items) c.widen.ensures.covered)))
+    (c.requires.is_of.listed.range (omega (
+      arith,
+      some,
+      ap (λ (l : Listed ℕ). length l.items) c.widen.ensures.covered,
+    )))
 
 pub add_window-requires-clause-is_of : goal.add_window-requires-clause-is_of
 add_window-requires-clause-is_of c =

@@ -9,7 +9,8 @@ use Rattle.mp_anytime.specs.Waiting.{IsCounted}
 use Rattle.mp_anytime.specs.Kept.{IsAlongCovered}
 use Rattle.mp_anytime.proofs.Counting.{counted_behind}
 use Rattle.mp_anytime.specs.Scanning.{AreLater}
-use Rattle.mp_anytime.proofs.Windows.{both_ways, covers_more, found_earlier, found_later, found_places, is_found, kept_places}
+use Rattle.mp_anytime.proofs.Windows.{both_ways, covers_more, found_earlier, found_later, found_places, is_found}
+use Rattle.mp_anytime.proofs.Windows.{kept_places}
 use Rattle.mp_anytime.proofs.coverage.Coverage.cover.Goals as goal
 
 pub put_into-requires : goal.put_into-requires

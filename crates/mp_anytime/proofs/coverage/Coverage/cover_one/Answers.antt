@@ -27,5 +27,6 @@ returns-clause-listed c =
       waiting = c.cover.new.self;
     })
     c.requires.diagonal c.requires.fresh c.requires.range c.requires.listed more c.set.ensures.put refl refl
-    (subst (λ j. IsSumAt m (series_of items) (j - c.args.diagonal) j c.sum_of-sum.result) last c.sum_of-sum.ensures.sum)
+    (subst (λ j. IsSumAt m (series_of items) (j - c.args.diagonal) j c.sum_of-sum.result) last
+    c.sum_of-sum.ensures.sum)
     kept

@@ -1,4 +1,5 @@
-use Rattle.std.proofs.Common.{◌≡◌, ◌+◌, ◌++◌, ◌∷◌, [], ◌^◌, ◌∙◌, ap, arith, false, length, refl, rules, subst, sym}
+use Rattle.std.proofs.Common.{◌≡◌, ◌+◌, ◌++◌, ◌∷◌, [], ◌^◌, ◌∙◌, ap, arith, false, length}
+use Rattle.std.proofs.Common.{refl, rules, subst, sym}
 use Rattle.std.proofs.lemmas.List.{length-append}
 use Rattle.mp_results.specs.Covering.{is_covered}
 use Rattle.mp_anytime.specs.Waiting.{AreWaiting}

@@ -1,4 +1,5 @@
-use Rattle.std.proofs.Common.{◌≡◌, ℕ, ◌+◌, ◌++◌, ◌∙◌, List, ap, arith, drop, length, subst, sym, take}
+use Rattle.std.proofs.Common.{◌≡◌, ℕ, ◌+◌, ◌++◌, ◌∙◌, List, ap, arith, drop, length, subst, sym}
+use Rattle.std.proofs.Common.{take}
 use Rattle.mp_defs.specs.Series.{series_of}
 use Rattle.mp_tiles.specs.Scanning.{IsScanned}
 use Rattle.mp_anytime.specs.Limits.{AreLimits}
@@ -14,7 +15,8 @@ invariant_of-row c =
     let old = c.args.self.now in
     let last = c.args.last in
     record {
-      row = subst (λ (ds : List ℕ). IsRow m items ds old.waiting c.as_slice-2.result.now last) (sym c.as_slice.ensures)
+      row = subst (λ (ds : List ℕ). IsRow m items ds old.waiting c.as_slice-2.result.now last)
+          (sym c.as_slice.ensures)
           (subst (λ (xs : List ℕ). IsRow m items old.covered.items old.waiting xs last) (sym c.as_slice-2.ensures)
           c.requires.row);
     }

@@ -10,7 +10,8 @@ returns-clause-is_of c = λ m items h. record {
     lasts = h.listed.lasts;
     places = h.listed.places;
     limits_are = h.listed.limits_are;
-    range = λ some. wider_range c.around-self.result c.args.self.now.range (numbers_in items) c.around-self.ensures.wider
+    range = λ some. wider_range c.around-self.result c.args.self.now.range (numbers_in items)
+        c.around-self.ensures.wider
         (h.listed.range some);
     waiting = h.listed.waiting;
   };

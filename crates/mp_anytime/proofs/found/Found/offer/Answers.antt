@@ -1,17 +1,25 @@
-use Rattle.std.proofs.Common.{◌+◌, ◌∙◌, ap, arith, length, refl, subst, sym, true}
+use Rattle.std.proofs.Common.{◌+◌, ◌∙◌, ap, arith, length, refl, rules, subst, sym, true, w32, FitsSigned}
+use Rattle.std.proofs.lemmas.Int.{to_z-of_z}
 use Rattle.std.proofs.lemmas.List.{length-set}
-use Rattle.mp_anytime.specs.Bounds.{Bounded, both_sides}
+use Rattle.mp_anytime.specs.Bounds.{Bounded, IsBound, both_sides}
 use Rattle.mp_anytime.specs.Scanning.{IsPairTaken}
 use Rattle.mp_anytime.proofs.SlotLemmas.{sides_offered}
 use Rattle.mp_anytime.proofs.found.Found.offer.Goals as goal
 
 pub invariant_of-self : goal.invariant_of-self
-invariant_of-self c = (
-  c.offer.ensures.bounds,
-  c.offer-2.ensures.bounds,
-  ap length c.offer.ensures.slots ∙ length-set _ _ _ ∙ c.self.invariant.2
-      ∙ sym (ap length c.offer-2.ensures.slots ∙ length-set _ _ _),
-)
+invariant_of-self c =
+    let rounding = c.self.inside.rounding in
+    let bound = c.bound_of-bound.result in
+    let fits : FitsSigned w32 bound = search rules in (
+      c.offer.ensures.bounds rounding.m rounding.shift
+          (subst (IsBound rounding.m rounding.shift _) (sym (to_z-of_z w32 bound fits))
+          (c.bound_of-bound.ensures c.args.column)) c.self.invariant.0,
+      c.offer-2.ensures.bounds rounding.m rounding.shift
+          (subst (IsBound rounding.m rounding.shift _) (sym (to_z-of_z w32 bound fits))
+          (c.bound_of-bound.ensures c.args.row)) c.self.invariant.1,
+      ap length c.offer.ensures.slots ∙ length-set _ _ _ ∙ c.self.invariant.2
+          ∙ sym (ap length c.offer-2.ensures.slots ∙ length-set _ _ _),
+    )
 
 pub returns-clause-profile : goal.returns-clause-profile
 returns-clause-profile c =

@@ -7,5 +7,6 @@ invariant_of-self c =
     let rounding = c.args.rounding.now in (
       always_of rounding.m rounding.shift _ _ _ c.forget_bounds.ensures.slots c.forget_bounds.ensures.bounds,
       always_of rounding.m rounding.shift _ _ _ c.forget_bounds-2.ensures.slots c.forget_bounds-2.ensures.bounds,
-      ap length c.forget_bounds.ensures.slots ∙ c.self.invariant.2 ∙ sym (ap length c.forget_bounds-2.ensures.slots),
+      ap length c.forget_bounds.ensures.slots ∙ c.self.invariant.2
+          ∙ sym (ap length c.forget_bounds-2.ensures.slots),
     )

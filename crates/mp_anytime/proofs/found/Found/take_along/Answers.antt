@@ -9,8 +9,10 @@ use Rattle.mp_anytime.specs.Bounds.{Bounded, IsFor}
 use Rattle.mp_anytime.proofs.Quiet.{all_taken, still_for, taken_on}
 use Rattle.mp_anytime.proofs.found.Found.take_along.Goals as goal
 
-is : (plan : Plan) (w : ℕ) (old new : Bounded) → w ≡ windows_of plan.grid.m (series_in plan) → HasPlaces w old.profile
-    → new.profile ≡ old.profile → new.m ≡ plan.rounding.m → new.shift ≡ plan.rounding.shift → IsFor plan new
+is : (plan : Plan) (w : ℕ) (old new : Bounded) → w ≡ windows_of plan.grid.m (series_in plan)
+    → HasPlaces w old.profile
+    → new.profile ≡ old.profile → new.m ≡ plan.rounding.m → new.shift ≡ plan.rounding.shift
+    → IsFor plan new
 is plan w old new count places same m shift = record {
   m_is = m ∙ plan.same_length;
   shift_is = shift;
@@ -41,7 +43,8 @@ returns c =
     let row = 32 * (pairs / 32) in
     let for_these = is plan (length rounded.free.now) c.args.self.now c.round_by.new.self rounded.lists.marks.places
     c.requires.places c.round_by.ensures.profile c.round_by.ensures.m c.round_by.ensures.shift in
-    subst (λ (p : Profiled). IsScanned (starts_behind offset) plan.grid.m (series_in plan) p c.take_rest.new.self.profile)
+    subst (λ (p : Profiled). IsScanned (starts_behind offset) plan.grid.m (series_in plan) p
+    c.take_rest.new.self.profile)
     c.round_by.ensures.profile
     (all_taken plan offset pairs c.round_by.new.self c.take_rest.new.self for_these
     (sym rounded.lists.marks.places ∙ omega (arith, c.requires.within))

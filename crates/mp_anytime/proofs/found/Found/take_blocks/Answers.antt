@@ -1,4 +1,5 @@
-use Rattle.std.proofs.Common.{◌≡◌, ◌+◌, ◌-◌, ◌*◌, ◌∙◌, arith, refl, rules, subst, w32, FitsSigned}
+use Rattle.std.proofs.Common.{◌≡◌, ◌+◌, ◌-◌, ◌*◌, ◌∙◌, arith, refl, rules, subst, w32}
+use Rattle.std.proofs.Common.{FitsSigned}
 use Rattle.std.proofs.lemmas.Int.{to_z-of_z}
 use Rattle.mp_anytime.specs.Scanning.{is_pair_from}
 use Rattle.mp_anytime.specs.Rounded.{rounded_in, series_in}
@@ -17,7 +18,8 @@ loop-block-init c =
     let first : 0 ≡ 32 * 0 = omega arith in
     record {
       residue = to_z-of_z w32 c.first_core-residue.result fits ∙ c.first_core-residue.ensures
-          ∙ residue_at core core (rounded_in plan.rounding.shift (series_in plan)) (0 + 31) (32 * 0 + 31) (offset + 31)
+          ∙ residue_at core core (rounded_in plan.rounding.shift (series_in plan)) (0 + 31) (32 * 0 + 31)
+          (offset + 31)
           (32 * 0 + offset + 31) refl (omega arith) (omega arith);
       taken = subst (λ q. AreTaken plan (is_pair_from offset 0 q) self self) first
           (none_taken plan offset 0 self c.requires.for_these);

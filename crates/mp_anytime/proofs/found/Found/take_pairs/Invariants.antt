@@ -3,7 +3,7 @@ use Rattle.mp_sums.specs.Residues.{residue}
 use Rattle.mp_anytime.specs.Scanning.{is_pair_from}
 use Rattle.mp_anytime.specs.Rounded.{whole_in}
 use Rattle.mp_anytime.specs.Bounds.{AreTaken}
-use Rattle.mp_anytime.specs.Exacts.{IsExact}
+use Rattle.mp_scans.specs.Exacts.{IsExact}
 use Rattle.mp_anytime.proofs.found.Found.take_pairs.Given as goal
 
 abbrev pub invariant-loop-k : goal.invariant-loop-k

@@ -15,7 +15,8 @@ merge-requires c =
 pub merge-requires-2 : goal.merge-requires-2
 merge-requires-2 c =
     c.other.invariant.2
-    ∙ one_length c.self.inside.left.slots c.self.inside.right.slots c.other.inside.left.slots c.other.inside.right.slots
+    ∙ one_length c.self.inside.left.slots c.self.inside.right.slots
+    c.other.inside.left.slots c.other.inside.right.slots
     c.self.invariant.2 c.other.invariant.2
     (ap (λ (v : Bounded). length v.profile.all) c.other.view_is ∙ c.requires
     ∙ sym (ap (λ (v : Bounded). length v.profile.all) c.self.view_is))
@@ -51,7 +52,8 @@ returns-clause-value c =
     c.merge-2.ensures.slots
     ∙ ap (λ (v : Bounded). merged_columns (columns_of v.profile)
     (merged_column other.left.slots other.right.slots ∷ other.left.slots ∷ other.right.slots ∷ [])) c.self.view_is
-    ∙ ap (λ (v : Bounded). merged_columns (columns_of c.args.self.now.profile) (columns_of v.profile)) c.other.view_is
+    ∙ ap
+    (λ (v : Bounded). merged_columns (columns_of c.args.self.now.profile) (columns_of v.profile)) c.other.view_is
 
 pub returns-clause-size : goal.returns-clause-size
 returns-clause-size c =

@@ -14,7 +14,8 @@ copy_from-requires c =
 pub copy_from-requires-2 : goal.copy_from-requires-2
 copy_from-requires-2 c =
     c.other.invariant.2
-    ∙ one_length c.self.inside.left.slots c.self.inside.right.slots c.other.inside.left.slots c.other.inside.right.slots
+    ∙ one_length c.self.inside.left.slots c.self.inside.right.slots
+    c.other.inside.left.slots c.other.inside.right.slots
     c.self.invariant.2 c.other.invariant.2
     (ap (λ (v : Bounded). length v.profile.all) c.other.view_is ∙ sym c.requires.size
     ∙ sym (ap (λ (v : Bounded). length v.profile.all) c.self.view_is))

@@ -7,7 +7,6 @@ use Rattle.mp_anytime.specs.Kept.{IsDiagonal, IsOf}
 use Rattle.mp_anytime.proofs.Choosing.{chosen_lie}
 use Rattle.mp_anytime.proofs.Counting.{left_of_chosen}
 use Rattle.mp_anytime.proofs.Distinct.{chosen_fresh}
-use Rattle.mp_anytime.proofs.Windows.{kept_places}
 use Rattle.mp_anytime.proofs.lazy.Anytime.advance.Goals as goal
 
 pub found_along-requires-clause-diagonals : goal.found_along-requires-clause-diagonals
@@ -67,12 +66,10 @@ cover-requires-clause-fresh g c =
     (chosen_fresh m w c.args.k covered c.in_ok-chosen.chosen.items
     (c.in_ok-chosen.ensures.chosen m w covered c.self.invariant.2.listed.waiting)))
 
-pub found_along-requires-clause-places : goal.found_along-requires-clause-places
-found_along-requires-clause-places g c = λ _ _.
+pub found_along-requires-clause-is_of : goal.found_along-requires-clause-is_of
+found_along-requires-clause-is_of g c = λ _ _.
     let inside = c.self.inside in
-    kept_places inside.m inside.samples.items c.reserve_covered.new.self.covered.items
-    c.reserve_covered.new.self.profile
-    (c.in_ok-reserve_covered.ensures.is_of inside.m inside.samples.items c.self.invariant.2).profile
+    c.in_ok-reserve_covered.ensures.is_of inside.m inside.samples.items c.self.invariant.2
 
 pub invariant_of-self-in_err-found : goal.invariant_of-self-in_err-found
 invariant_of-self-in_err-found g c =

@@ -15,7 +15,8 @@ returns c =
     let given : FitsSigned w32 c.args.residue = search rules in
     let fits : FitsSigned w32 c.next_residue.result = search rules in
     to_z-of_z w32 c.next_residue.result fits
-    ∙ moves_on m row column x own.windows.differences.now own.windows.sums.now (to_z w32 (of_z w32 c.args.residue)) _ _ _ _
+    ∙ moves_on m row column x own.windows.differences.now own.windows.sums.now
+    (to_z w32 (of_z w32 c.args.residue)) _ _ _ _
     c.next_residue.result own.lists.windows (omega (arith, c.requires.within, own.lists.all_windows))
     (omega (arith, c.requires.within, own.lists.all_windows))
     (to_z-of_z w32 c.args.residue given ∙ c.requires.residue)
