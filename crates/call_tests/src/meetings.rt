@@ -98,6 +98,26 @@ fn two_workers_of_a_join_meet(rt: HostRuntime) -> Result<(), Fail> {
 }
 
 #[test]
+fn two_workers_of_a_join_in_coarse_sums_meet(rt: HostRuntime) -> Result<(), Fail> {
+    let samples = long(rt.alloc())?;
+    assert!(rt; samples.len() as u64 <= MAX_SAMPLES);
+    let gate = MeetGate::new();
+    let found = ab_join(
+        &rt,
+        rt.alloc(),
+        samples.as_slice(),
+        samples.as_slice(),
+        16,
+        64,
+        2,
+        &gate,
+    )?;
+    assert!(rt; gate.met());
+    assert_eq!(rt; found.as_slice().len(), 1_985);
+    Ok(())
+}
+
+#[test]
 fn two_workers_of_a_consensus_meet(rt: HostRuntime) -> Result<(), Fail> {
     let samples = long(rt.alloc())?;
     assert!(rt; samples.len() as u64 <= MAX_SAMPLES);

@@ -52,8 +52,8 @@ fn sum_at(grid: &Grid, exact: &Option<Exact>, row: usize, column: usize) -> u128
     }
 }
 
-/// The distance of a row and a column that lack no sample, from what is known of their diagonal. It is known then: mostly
-/// the next pair's is asked for next, which takes two squares from there.
+/// The distance of a row and a column that lack no sample, from what is known of their diagonal. It is known
+/// then: mostly the next pair's is asked for next, which takes two squares from there.
 #[inline]
 pub fn exact_distance(grid: &Grid, exact: &mut Option<Exact>, row: usize, column: usize) -> u128
     requires row { row + grid.now.m ≤ length grid.now.rows.now }

@@ -9,3 +9,4 @@ pub mod FillLemmas
 pub mod LevelLemmas
 pub mod VectorLemmas
 pub mod SeedLemmas
+pub mod PartLemmas

@@ -1,7 +1,8 @@
-//! For some windows of a series, others that coarse sums tell to be near. Nothing is promised of them.
+//! For some windows of two series, those of the other that coarse sums tell to be near. Nothing is promised of them.
 
 ghost use Rattle.std.specs.Prelude.{◌≡◌, ◌+◌, ◌<◌, ◌≤◌, length, IfOk};
 
+use crate::scans::{count_columns, count_rows};
 use crate::sums::Coarse;
 use mp_nums::Memory;
 use std::alloc::Global;
@@ -17,12 +18,31 @@ pub(crate) struct Mate {
 /// More than any sum of a window.
 const NOT_FOUND: u64 = 9_223_372_036_854_775_807;
 
+/// A place that no window has.
+const NO_PLACE: usize = 1_099_511_627_776;
+
+/// For which windows others are looked for.
+#[derive(Clone, Copy, PartialEq, Eq)]
+pub(crate) enum Sought {
+    Both,
+    Rows,
+    Columns,
+}
+
 impl Mate {
     /// No window yet.
     pub(crate) fn none() -> Mate {
         Mate {
             sum: NOT_FOUND,
             place: 0,
+        }
+    }
+
+    /// No window for one that none is looked for: none is nearer.
+    fn unsought() -> Mate {
+        Mate {
+            sum: 0,
+            place: NO_PLACE,
         }
     }
 
@@ -74,15 +94,16 @@ fn drop_apart(sums: &mut u64x8, number: u32, others: &[u32], place: usize)
     *sums = *sums - squares_apart(number, others, place);
 }
 
-/// Adds to eight sums the squares of how far the first `count` numbers are apart from those from a place on, and from
+/// Adds to eight sums the squares of how far the first `count` numbers are apart from others from a place on, and from
 /// each of the seven places behind it.
-fn add_first(sums: &mut u64x8, numbers: &[u32], behind: usize, count: usize)
+fn add_first(sums: &mut u64x8, numbers: &[u32], others: &[u32], behind: usize, count: usize)
     requires sums { length sums.old ≡ 8 }
-    requires numbers { behind + count + 8 ≤ length numbers.now }
+    requires numbers { count ≤ length numbers.now }
+    requires others { behind + count + 8 ≤ length others.now }
     ensures { length sums.new ≡ 8 }
 {
     for t in 0..count {
-        add_apart(sums, numbers[t], numbers, behind + t);
+        add_apart(sums, numbers[t], others, behind + t);
     }
 }
 
@@ -128,34 +149,50 @@ fn take_near(sums: &u64x8, place: usize, other: usize, mates: &mut [Mates], leas
     }
 }
 
-/// Compares each of the first windows with the one that is `behind` places behind it, and with the seven behind that
-/// one. A window has as many numbers as `more`, and one. For each window `least` has the sum of the nearest one before
-/// it.
-fn compare(numbers: &[u32], more: usize, behind: usize, mates: &mut [Mates], least: &mut [u64])
-    requires windows { behind + 8 ≤ length mates.old }
+/// The numbers of two series that are compared: for each window of either as many as `more`, and one.
+#[derive(Clone, Copy)]
+struct Numbers<'a> {
+    rows: &'a [u32],
+    columns: &'a [u32],
+    more: usize,
+    ghost some_rows: { more ≤ length rows.now },
+}
+
+/// Compares each of the first rows with the column that is `behind` places behind it, and with the seven behind that
+/// one. For each column `least` has the sum of the nearest row before it.
+fn compare(numbers: &Numbers, behind: usize, mates: &mut [Mates], least: &mut [u64])
+    requires columns { behind + 8 + numbers.now.more ≤ length numbers.now.columns.now }
+    requires row_mates { length numbers.now.rows.now ≤ length mates.old + numbers.now.more }
+    requires column_mates { length numbers.now.columns.now ≤ length mates.old + numbers.now.more }
     requires same { length least.old ≡ length mates.old }
-    requires numbers { length mates.old + more ≤ length numbers.now }
     ensures mates { length mates.new ≡ length mates.old }
     ensures least { length least.new ≡ length least.old }
 {
+    let (rows, columns, more) = (numbers.rows, numbers.columns, numbers.more);
     let mut sums = u64x8::splat(0);
-    add_first(&mut sums, numbers, behind, more);
-    for k in 0..mates.len() - behind - 8 {
-        add_apart(&mut sums, numbers[k + more], numbers, k + behind + more);
+    add_first(&mut sums, rows, columns, behind, more);
+    let last = columns.len() - more - behind - 8;
+    for k in 0..last.min(rows.len() - more) {
+        add_apart(&mut sums, rows[k + more], columns, k + behind + more);
         take_near(&sums, k, k + behind, mates, least);
-        drop_apart(&mut sums, numbers[k], numbers, k + behind);
+        drop_apart(&mut sums, rows[k], columns, k + behind);
     }
 }
 
-/// Compares each window with all those that are at least `first` places behind it, but for the last eight.
-fn compare_all(numbers: &[u32], more: usize, first: usize, mates: &mut [Mates], least: &mut [u64])
+/// Compares each row with all columns that are at least `first` places behind it, but for the last eight.
+fn compare_all(numbers: &Numbers, first: usize, mates: &mut [Mates], least: &mut [u64])
+    requires row_mates { length numbers.now.rows.now ≤ length mates.old + numbers.now.more }
+    requires column_mates { length numbers.now.columns.now ≤ length mates.old + numbers.now.more }
     requires same { length least.old ≡ length mates.old }
-    requires numbers { length mates.old + more ≤ length numbers.now }
 {
-    let end = mates.len().saturating_sub(8);
+    let end = numbers
+        .columns
+        .len()
+        .saturating_sub(numbers.more)
+        .saturating_sub(8);
     let mut behind = first;
     while behind < end {
-        compare(numbers, more, behind, mates, least);
+        compare(numbers, behind, mates, least);
         behind += 8;
     }
 }
@@ -187,29 +224,49 @@ fn fill_every(numbers: &[u32], step: usize, some: &mut [u32])
     }
 }
 
-/// The mates of windows that start as many samples after one another as a sum has, by their number. Windows that start
-/// fewer than `first` samples after one another aren't compared. Behind the last there are eight places more.
+/// The windows of which none is compared yet.
+fn no_mates(sought: Sought) -> Mates {
+    let (none, unsought) = (Mate::none(), Mate::unsought());
+    match sought {
+        Sought::Both => Mates {
+            later: none,
+            earlier: none,
+        },
+        Sought::Rows => Mates {
+            later: none,
+            earlier: unsought,
+        },
+        Sought::Columns => Mates {
+            later: unsought,
+            earlier: none,
+        },
+    }
+}
+
+/// The mates of windows that start as many samples after one another as a sum has, by their number: of rows the columns
+/// behind them, and of columns the rows before them. Windows that start fewer than `first` samples after one another
+/// aren't compared. Behind the last there are eight places more.
 pub(crate) fn find_mates(
     alloc: Global,
     coarse: &Coarse,
+    sought: Sought,
     first: usize,
 ) -> Result<Vec<Mates>, Memory> {
-    let step = 8 * coarse.rows.units.eights;
-    let windows = (coarse.plan.grid.rows.len() + 1).saturating_sub(coarse.plan.grid.m);
-    let count = windows.div_ceil(step) + 8;
-    let numbers = every(alloc, coarse.rows.floors, step, count + coarse.terms)?;
-    let none = Mates {
-        later: Mate::none(),
-        earlier: Mate::none(),
+    let (step, more) = (8 * coarse.rows.units.eights, coarse.terms);
+    let rows = count_rows(coarse).div_ceil(step);
+    let columns = count_columns(coarse).div_ceil(step);
+    let row_numbers = every(alloc, coarse.rows.floors, step, rows + more)?;
+    let column_numbers = every(alloc, coarse.columns.floors, step, columns + 8 + more)?;
+    let numbers = Numbers {
+        rows: row_numbers.as_slice(),
+        columns: column_numbers.as_slice(),
+        more,
     };
+    let none = no_mates(sought);
+    let count = rows.max(columns) + 8;
     let mut mates = vec![in alloc; none; count]?;
-    let mut least = vec![in alloc; NOT_FOUND; count]?;
-    compare_all(
-        numbers.as_slice(),
-        coarse.terms,
-        first.div_ceil(step),
-        mates.as_mut_slice(),
-        least.as_mut_slice(),
-    );
+    let mut least = vec![in alloc; none.earlier.sum; count]?;
+    let behind = first.div_ceil(step);
+    compare_all(&numbers, behind, mates.as_mut_slice(), least.as_mut_slice());
     Ok(mates)
 }

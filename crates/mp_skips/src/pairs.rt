@@ -55,8 +55,8 @@ fn is_beyond(limit: Limit, least: u128) -> bool
     }
 }
 
-/// Offers a row and a column to each other whose sum doesn't tell their distance, but that it is so great at least. What
-/// is known of their diagonal tells it.
+/// Offers a row and a column to each other whose sum doesn't tell their distance, but that it is so great at least.
+/// What is known of their diagonal tells it.
 fn offer_rounded<O: Offers>(
     coarse: &Coarse,
     row: usize,

@@ -16,6 +16,14 @@ use crate::vectors::are_above;
 use mp_scans::{GROUP, Offers, ROWS};
 use std::simd::prelude::*;
 
+/// How many windows the series of the rows has.
+#[inline]
+pub(crate) fn count_rows(coarse: &Coarse) -> usize
+    ensures { result ≡ row_windows coarse.now.plan.grid }
+{
+    (coarse.plan.grid.rows.len() + 1).saturating_sub(coarse.plan.grid.m)
+}
+
 /// How many windows the series of the columns has.
 #[inline]
 pub(crate) fn count_columns(coarse: &Coarse) -> usize

@@ -6,9 +6,9 @@ ghost use Rattle.mp_scans.specs.Windows.{row_windows, column_windows, FitIn, Are
 ghost use Rattle.mp_skips.specs.Levels.{squares_in};
 ghost use Rattle.mp_skips.specs.Seeds.{IsAhead};
 
-use crate::mates::{Mate, Mates, find_mates};
+use crate::mates::{Mate, Mates, Sought, find_mates};
 use crate::pairs::{Stretch, offer_pair};
-use crate::scans::count_columns;
+use crate::scans::{count_columns, count_rows};
 use crate::sums::Coarse;
 use mp_nums::Memory;
 use mp_scans::Offers;
@@ -18,8 +18,8 @@ use std::simd::prelude::*;
 /// How many pairs of a diagonal are compared around one that is likely near, at most.
 const AROUND: usize = 256;
 
-/// Pairs of windows of a series that are likely near, by coarse sums: for one of as many windows as a sum has samples
-/// one behind it and one before it, some 4 bytes for a window at most.
+/// Pairs of windows of two series that are likely near, by coarse sums: for one of as many rows as a sum has samples a
+/// column behind it, and for one of as many columns a row before it, some 4 bytes for a window at most.
 #[derive(Drop)]
 pub struct Seeds {
     mates: Vec<Mates>,
@@ -29,17 +29,23 @@ impl Seeds {
     /// Those that start at least `first` places after one another.
     pub fn of(alloc: Global, coarse: &Coarse, first: usize) -> Result<Seeds, Memory> {
         Ok(Seeds {
-            mates: find_mates(alloc, coarse, first)?,
+            mates: find_mates(alloc, coarse, Sought::Both, first)?,
         })
     }
-}
 
-/// How many windows the series of the rows has.
-#[inline]
-fn count_rows(coarse: &Coarse) -> usize
-    ensures { result ≡ row_windows coarse.now.plan.grid }
-{
-    (coarse.plan.grid.rows.len() + 1).saturating_sub(coarse.plan.grid.m)
+    /// Those of rows alone, whose columns start at least `first` places behind them.
+    pub fn of_rows(alloc: Global, coarse: &Coarse, first: usize) -> Result<Seeds, Memory> {
+        Ok(Seeds {
+            mates: find_mates(alloc, coarse, Sought::Rows, first)?,
+        })
+    }
+
+    /// Those of columns alone, whose rows start at least `first` places before them.
+    pub fn of_columns(alloc: Global, coarse: &Coarse, first: usize) -> Result<Seeds, Memory> {
+        Ok(Seeds {
+            mates: find_mates(alloc, coarse, Sought::Columns, first)?,
+        })
+    }
 }
 
 /// Offers successive rows and columns to each other. The sum of the first two is known.

@@ -8,3 +8,4 @@ pub mod RowLemmas
 pub mod PlanLemmas
 pub mod NearLemmas
 pub mod SeedLemmas
+pub mod JoinedLemmas

@@ -95,12 +95,67 @@ same_pair : (tile : Tile) (origin top i j : ℕ) → top ≡ tile.first_row → 
 same_pair tile origin top i j e le within = grind (arith, nat_tests)
 
 -- they are as many windows
-part_windows : (m : ℕ) (a : List Sample) (top k e w : ℕ) → 1 ≤ m → 1 ≤ k → e ≡ top + k + m - 1
+pub part_windows : (m : ℕ) (a : List Sample) (top k e w : ℕ) → 1 ≤ m → 1 ≤ k → e ≡ top + k + m - 1
     → windows_of m (series_of a) ≡ w → top + k ≤ w → windows_of m (series_of (between top e a)) ≡ k
 part_windows m a top k e w some rows end windows within =
     let long : length a + 1 - m ≡ w = sym (series_are_of_samples.windows_are m a) ∙ windows in
     series_are_of_samples.windows_are m (between top e a)
     ∙ omega (arith, long, within, some, rows, end, length-take {A = Sample}, length-drop {A = Sample})
+
+module _ (p q : ℕ → ℕ → Bool) (m w top k e : ℕ) (a : List Sample) (b : Series) (slots part : Column) where
+  module _ (some : 1 ≤ m) (some_rows : 1 ≤ k) (end : e ≡ top + k + m - 1) (windows : windows_of m (series_of a) ≡ w)
+      (within : top + k ≤ w) (places : length slots ≡ w) (part_places : length part ≡ k)
+      (same : (i j : ℕ) → i < k → p i j ≡ q (top + i) j)
+      (none : (i j : ℕ) → (i < top) ⊎ (top + k ≤ i) → i < w → q i j ≡ false)
+      (taken : HasTaken p m (series_of (between top e a)) b (take k (drop top slots)) part) where
+    own : windows_of m (series_of (between top e a)) ≡ k
+    own = part_windows m a top k e w some some_rows end windows within
+
+    outside : (i : ℕ) → i < w → (i < top) ⊎ (top + k ≤ i)
+        → get_or (put_mid top k slots part) i None ≡ get_or slots i None
+        → get_or (put_mid top k slots part) i None
+        ≡ nearer_of (get_or slots i None) (nearest m (q i) (series_of a) i b)
+    outside i lt out kept =
+        kept
+        ∙ sym (ap (nearer_of (get_or slots i None)) (nearest_by_choice.none m (q i) (series_of a) i b
+        (λ j below. none i j out lt))
+        ∙ (nearer_with_none (get_or slots i None)).1)
+
+    inside : (i : ℕ) → i < k
+        → get_or (put_mid top k slots part) (top + i) None
+        ≡ nearer_of (get_or slots (top + i) None) (nearest m (q (top + i)) (series_of a) (top + i) b)
+    inside i lt =
+        in_part slots part top k i (omega (arith, within, places)) (omega (arith, part_places, lt))
+        ∙ at_taken p m (series_of (between top e a)) b (take k (drop top slots)) part
+        i (omega (arith, length-take {A = Option Near}, length-drop {A = Option Near}, own, places, within))
+        (omega (arith, own, lt)) taken
+        ∙ ap (λ s. nearer_of s (nearest m (p i) (series_of (between top e a)) i b))
+        (get_or-take k (drop top slots) i None lt ∙ get_or-drop top slots i None)
+        ∙ ap (nearer_of (get_or slots (top + i) None))
+        (part_nearest m (p i) (q (top + i)) a top e i b (omega (arith, lt, some, end)) (λ j. same i j lt))
+
+    at_row : (i : ℕ) → i < w
+        → get_or (put_mid top k slots part) i None
+        ≡ nearer_of (get_or slots i None) (nearest m (q i) (series_of a) i b)
+    at_row i lt = elim (either_below i top) [
+      | inl before ↦ outside i lt (inl before) (before_part slots part top k i before (omega (arith, within, places)))
+      | inr from ↦ elim (either_below i (top + k)) [
+        | inl before ↦
+            let back : top + (i - top) ≡ i = omega (arith, from) in
+            rw back at (inside (i - top) (omega (arith, from, before)))
+        | inr behind ↦ outside i lt (inr behind)
+            (behind_part slots part top k i (omega (arith, within, places)) part_places behind)
+      ]
+    ]
+
+    -- what a part of the rows has taken is what their pairs give, where no other row has any
+    pub part_taken : HasTaken q m (series_of a) b slots (put_mid top k slots part)
+    part_taken =
+        are_taken q m (series_of a) b slots (put_mid top k slots part) (places ∙ sym windows)
+        (same_len_mid top k slots part
+        (omega (arith, part_places, length-take {A = Option Near}, length-drop {A = Option Near}, places, within))
+        ∙ places ∙ sym windows)
+        (λ i lt. at_row i (omega (arith, lt, windows)))
 
 module _ (tile : Tile) (m w top k e : ℕ) (a : List Sample) (b : Series) (slots part : Column) where
   module _ (some : 1 ≤ m) (here : top ≡ tile.first_row) (rows : top + k ≡ tile.last_row + 1) (some_rows : 1 ≤ k)
@@ -108,57 +163,14 @@ module _ (tile : Tile) (m w top k e : ℕ) (a : List Sample) (b : Series) (slots
       (places : length slots ≡ w) (part_places : length part ≡ k)
       (taken : HasTaken (on_its_diagonals (w - 1 - top) tile) m (series_of (between top e a)) b
       (take k (drop top slots)) part) where
-    own : windows_of m (series_of (between top e a)) ≡ k
-    own = part_windows m a top k e w some some_rows end windows within
-
-    outside : (i : ℕ) → i < w → (i < tile.first_row) ⊎ (tile.last_row < i)
-        → get_or (put_mid top k slots part) i None ≡ get_or slots i None
-        → get_or (put_mid top k slots part) i None
-        ≡ nearer_of (get_or slots i None) (nearest m (has_pair (w - 1) tile i) (series_of a) i b)
-    outside i lt out kept =
-        kept
-        ∙ sym (ap (nearer_of (get_or slots i None)) (nearest_by_choice.none m (has_pair (w - 1) tile i) (series_of a)
-        i b
-        (λ j below. no_pair tile (w - 1) i j out))
-        ∙ (nearer_with_none (get_or slots i None)).1)
-
-    inside : (i : ℕ) → i < k
-        → get_or (put_mid top k slots part) (top + i) None
-        ≡ nearer_of (get_or slots (top + i) None) (nearest m (has_pair (w - 1) tile (top + i)) (series_of a) (top + i)
-        b)
-    inside i lt =
-        in_part slots part top k i (omega (arith, within, places)) (omega (arith, part_places, lt))
-        ∙ at_taken (on_its_diagonals (w - 1 - top) tile) m (series_of (between top e a)) b (take k (drop top slots))
-        part
-        i (omega (arith, length-take {A = Option Near}, length-drop {A = Option Near}, own, places, within))
-        (omega (arith, own, lt)) taken
-        ∙ ap (λ s. nearer_of s (nearest m (on_its_diagonals (w - 1 - top) tile i) (series_of (between top e a)) i b))
-        (get_or-take k (drop top slots) i None lt ∙ get_or-drop top slots i None)
-        ∙ ap (nearer_of (get_or slots (top + i) None))
-        (part_nearest m (on_its_diagonals (w - 1 - top) tile i) (has_pair (w - 1) tile (top + i)) a top e i b
-        (omega (arith, lt, some, end))
-        (λ j. same_pair tile (w - 1) top i j here (omega (arith, lt, rows)) (omega (arith, within, lt))))
-
-    at_row : (i : ℕ) → i < w
-        → get_or (put_mid top k slots part) i None
-        ≡ nearer_of (get_or slots i None) (nearest m (has_pair (w - 1) tile i) (series_of a) i b)
-    at_row i lt = elim (either_below i top) [
-      | inl before ↦ outside i lt (inl (omega (arith, before, here)))
-          (before_part slots part top k i before (omega (arith, within, places)))
-      | inr from ↦ elim (either_below i (top + k)) [
-        | inl before ↦
-            let back : top + (i - top) ≡ i = omega (arith, from) in
-            rw back at (inside (i - top) (omega (arith, from, before)))
-        | inr behind ↦ outside i lt (inr (omega (arith, behind, rows)))
-            (behind_part slots part top k i (omega (arith, within, places)) part_places behind)
-      ]
-    ]
-
     -- what they have taken is what the tile's pairs give
     pub rows_taken : HasTaken (has_pair (w - 1) tile) m (series_of a) b slots (put_mid top k slots part)
     rows_taken =
-        are_taken (has_pair (w - 1) tile) m (series_of a) b slots (put_mid top k slots part) (places ∙ sym windows)
-        (same_len_mid top k slots part
-        (omega (arith, part_places, length-take {A = Option Near}, length-drop {A = Option Near}, places, within))
-        ∙ places ∙ sym windows)
-        (λ i lt. at_row i (omega (arith, lt, windows)))
+        part_taken (on_its_diagonals (w - 1 - top) tile) (has_pair (w - 1) tile) m w top k e a b slots part some
+        some_rows end windows within places part_places
+        (λ i j lt. same_pair tile (w - 1) top i j here (omega (arith, lt, rows)) (omega (arith, within, lt)))
+        (λ i j out _. no_pair tile (w - 1) i j (beyond i out)) taken
+      where
+        beyond : (i : ℕ) → (i < top) ⊎ (top + k ≤ i) → (i < tile.first_row) ⊎ (tile.last_row < i)
+        beyond i (inl before) = inl (omega (arith, before, here))
+        beyond i (inr behind) = inr (omega (arith, behind, rows))

@@ -7,7 +7,7 @@ use Rattle.std.proofs.lemmas.Bool.Decides.{nat_tests}
 use Rattle.mp_nums.specs.declared.samples.Sample.{Sample}
 use Rattle.mp_defs.specs.Series.{Series, series_of}
 use Rattle.mp_defs.specs.SeriesLaws.{series_are_of_samples}
-use Rattle.mp_defs.specs.Window.{excl, is_allowed, windows}
+use Rattle.mp_defs.specs.Window.{is_allowed, windows}
 use Rattle.mp_defs.specs.Profile.{Columns, matrix_profile, windows_of, left_entry, right_entry}
 use Rattle.mp_defs.specs.ColumnLaws.{columns_by_choice, columns_have_places}
 use Rattle.mp_partial.specs.Values.{Value, HasColumns, merged_column, merged_columns, merged_below, empty_columns}
@@ -111,11 +111,11 @@ below_has n k e = below (sym (pieces_of_lists.below n k) ∙ e)
 last_has : (n k : ℕ) → has_piece (n ∷ []) k ≡ true → k ≡ n
 last_has n k e = grind (arith, nat_tests)
 
-with_last : (size : ℕ) (value : ℕ → Value) (n : ℕ) → ((k : ℕ) → k < n + 1 → HasColumns 2 size (value k))
-    → merged_below merged_columns (empty_columns 2 size) value (n + 1)
-    ≡ merged_columns (merged_below merged_columns (empty_columns 2 size) value n) (value n)
-with_last size value n h =
-    let laws = merges_by_pieces (HasColumns 2) (empty_columns 2) merged_columns (columns_merge 2) in
+with_last : (columns size : ℕ) (value : ℕ → Value) (n : ℕ) → ((k : ℕ) → k < n + 1 → HasColumns columns size (value k))
+    → merged_below merged_columns (empty_columns columns size) value (n + 1)
+    ≡ merged_columns (merged_below merged_columns (empty_columns columns size) value n) (value n)
+with_last columns size value n h =
+    let laws = merges_by_pieces (HasColumns columns) (empty_columns columns) merged_columns (columns_merge columns) in
     let below = range_with_len 0 n in
     laws.same size value (range_with_len 0 (n + 1)) (below ++ n ∷ []) (λ k there. h k (below_has (n + 1) k there))
     (λ k. pieces_of_lists.below (n + 1) k ∙ one_last n k
@@ -124,20 +124,22 @@ with_last size value n h =
     ∙ laws.joined size value below (n ∷ [])
     (λ k there. (let lt = below_has n k there in h k (omega (arith, lt))))
     (λ k there. (let e = last_has n k there in h k (omega (arith, e))))
-    ∙ ap (merged_columns (merged_below merged_columns (empty_columns 2 size) value n))
-    ((columns_merge 2).unit_last size (value n) (h n (omega arith)))
+    ∙ ap (merged_columns (merged_below merged_columns (empty_columns columns size) value n))
+    ((columns_merge columns).unit_last size (value n) (h n (omega arith)))
 
 -- behind what there was before
-pub onto_more : (size : ℕ) (value : ℕ → Value) (n : ℕ) → ((k : ℕ) → k < n + 1 → HasColumns 2 size (value k))
-    → (start old new : Value) → HasColumns 2 size start
-    → old ≡ merged_columns start (merged_below merged_columns (empty_columns 2 size) value n)
+pub onto_more : (columns size : ℕ) (value : ℕ → Value) (n : ℕ)
+    → ((k : ℕ) → k < n + 1 → HasColumns columns size (value k))
+    → (start old new : Value) → HasColumns columns size start
+    → old ≡ merged_columns start (merged_below merged_columns (empty_columns columns size) value n)
     → new ≡ merged_columns old (value n)
-    → new ≡ merged_columns start (merged_below merged_columns (empty_columns 2 size) value (n + 1))
-onto_more size value n h start old new is e f =
-    let below = merged_below merged_columns (empty_columns 2 size) value n in
-    let laws = merges_by_pieces (HasColumns 2) (empty_columns 2) merged_columns (columns_merge 2) in
+    → new ≡ merged_columns start (merged_below merged_columns (empty_columns columns size) value (n + 1))
+onto_more columns size value n h start old new is e f =
+    let below = merged_below merged_columns (empty_columns columns size) value n in
+    let laws = merges_by_pieces (HasColumns columns) (empty_columns columns) merged_columns (columns_merge columns) in
     f ∙ ap (λ v. merged_columns v (value n)) e
-    ∙ (columns_merge 2).associative size start below (value n) is
-    (laws.is_value size value (range_with_len 0 n) (λ k there. (let lt = below_has n k there in h k (omega (arith, lt)))))
+    ∙ (columns_merge columns).associative size start below (value n) is
+    (laws.is_value size value (range_with_len 0 n)
+    (λ k there. (let lt = below_has n k there in h k (omega (arith, lt)))))
     (h n (omega arith))
-    ∙ ap (merged_columns start) (sym (with_last size value n h))
+    ∙ ap (merged_columns start) (sym (with_last columns size value n h))

@@ -14,3 +14,6 @@ pub mod Near
 pub mod NearLaws
 pub mod PatchScanning
 pub mod PatchLaws
+pub mod Parts
+pub mod Ahead
+pub mod JoinedLaws

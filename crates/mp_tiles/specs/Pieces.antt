@@ -4,7 +4,8 @@ use Rattle.std.specs.Prelude.{All, slice_index_or}
 use Rattle.mp_nums.specs.declared.samples.Sample.{Sample}
 use Rattle.mp_defs.specs.Series.{series_of}
 use Rattle.mp_defs.specs.Window.{windows, excl}
-use Rattle.mp_defs.specs.Profile.{Columns, matrix_profile, windows_of, nearest, nearest_column, left_entry, right_entry}
+use Rattle.mp_defs.specs.Profile.{Columns, matrix_profile, windows_of, nearest, nearest_column, ab_join}
+use Rattle.mp_defs.specs.Profile.{left_entry, right_entry}
 use Rattle.mp_defs.specs.SeriesLaws.{series_are_of_samples}
 use Rattle.mp_defs.specs.ColumnLaws.{columns_have_places}
 use Rattle.mp_partial.specs.Values.{Column, Value, HasColumns, merged_columns, empty_columns, merged_below}
@@ -80,6 +81,10 @@ abbrev pub join_together : JoinTiling → Value
 join_together join =
     merged_below merged_columns (empty_columns 1 (join_size join)) (join_value join) (length join.tiles)
 
+-- the values of all pairs of windows together
+abbrev pub join_whole : JoinTiling → Value
+join_whole join = ab_join join.m (series_of join.a) (series_of join.b) ∷ []
+
 -- ---- values have the places of the series
 
 all_three : (P : Column → Type 0) (a b c : Column) → P a → P b → P c → All P (a ∷ b ∷ c ∷ [])
@@ -120,6 +125,12 @@ sides_have_columns pairs m samples =
 all_one : (P : Column → Type 0) (a : Column) → P a → All P (a ∷ [])
 all_one P a p zero d lt = p
 all_one P a p (suc k) d lt = absurd (omega (arith, lt))
+
+pub one_column : (w : ℕ) (a : Column) → length a ≡ w → HasColumns 1 w (a ∷ [])
+one_column w a l = record {
+  columns = refl;
+  places = all_one (λ column. length column ≡ w) a l;
+}
 
 pub column_has_places : (pairs : ℕ → ℕ → Bool) (m : ℕ) (a b : List Sample)
     → HasColumns 1 (windows (length a) m) (nearest_column pairs m (series_of a) (series_of b) ∷ [])

@@ -214,8 +214,8 @@ pub(crate) fn take_by_sums(coarse: &Coarse, tile: &Tile, is_tried: bool, into: &
     scan_blocks::<OnBothSides>(coarse, tile, is_tried, into);
 }
 
-/// Offers a share of the pairs that are likely near to each other, of so many shares. What both sides have together with
-/// those of the whole profile is the same afterwards.
+/// Offers a share of the pairs that are likely near to each other, of so many shares. What both sides have together
+/// with those of the whole profile is the same afterwards.
 pub(crate) fn take_seeds(coarse: &Coarse, seeds: &Seeds, share: u32, shares: u32, into: &mut Found)
     requires share { share < shares }
     requires same { coarse.now.plan.grid.columns.now ≡ coarse.now.plan.grid.rows.now }

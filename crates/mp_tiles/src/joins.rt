@@ -6,9 +6,10 @@ ghost use Rattle.mp_defs.specs.Series.{series_of};
 ghost use Rattle.mp_defs.specs.Profile.{ab_join};
 
 use crate::scans::scan_join;
+use crate::summed::summed_tile;
 use mp_cuts::{Cut, MAX_TILE, MAX_TILES, cut_both};
 use mp_nums::{Memory, Sample, Slots};
-use mp_partial::{Kernel, run_in_order};
+use mp_partial::{Kernel, Part, run_in_order};
 use mp_scans::Plan;
 use mp_series::{MAX_SAMPLES, MAX_WINDOW, MIN_WINDOW, windows};
 use mp_sums::Grid;
@@ -19,8 +20,8 @@ use std::marker::Model;
 #[derive(Drop)]
 pub struct JoinTiles<'a> {
     /// The windows of the one series as rows, and those of the other as columns.
-    plan: Plan<'a>,
-    cut: Cut,
+    pub(crate) plan: Plan<'a>,
+    pub(crate) cut: Cut,
 }
 
 impl<'a> Model for JoinTiles<'a> {
@@ -71,6 +72,24 @@ impl<'a> JoinTiles<'a> {
             cut: cut_both(first, second, tile),
         }
     }
+
+    /// The tiles of the same windows of at most `tile` diagonals. It takes no memory.
+    pub fn wide(&self, tile: u32) -> JoinTiles<'a>
+        requires least { 1 ≤ tile }
+        requires greatest { tile ≤ MAX_TILE }
+        ensures a { result.a ≡ self.now.a }
+        ensures b { result.b ≡ self.now.b }
+        ensures m { result.m ≡ self.now.m }
+        ensures few { length result.tiles ≤ MAX_TILES }
+        ensures together { join_together result
+            ≡ ab_join self.now.m (series_of self.now.a) (series_of self.now.b) ∷ [] }
+    {
+        let second = windows(self.plan.grid.columns.len() as u64, self.plan.rounding.m);
+        JoinTiles {
+            plan: self.plan,
+            cut: cut_both(self.size(), second, tile),
+        }
+    }
 }
 
 impl<'a> Kernel for JoinTiles<'a> {
@@ -104,7 +123,8 @@ impl<'a> Kernel for JoinTiles<'a> {
 }
 
 /// The AB-join at window length `m`: for each window of `a` its nearest window in `b`, without an exclusion zone. It is
-/// computed in tiles of at most `tile` diagonals, one after another.
+/// computed in tiles of at most `tile` diagonals, one after another. Where blocks of pairs are passed over by coarse
+/// sums, a tile may have `summed_tile` diagonals.
 pub fn join(alloc: Global, a: &[Sample], b: &[Sample], m: u32, tile: u32) -> Result<Slots, Memory>
     requires shortest { MIN_WINDOW ≤ m }
     requires longest { m ≤ MAX_WINDOW }
@@ -114,5 +134,17 @@ pub fn join(alloc: Global, a: &[Sample], b: &[Sample], m: u32, tile: u32) -> Res
     requires greatest { tile ≤ MAX_TILE }
     ensures { IfOk result (λ slots. slots.items ≡ ab_join m (series_of a.now) (series_of b.now)) }
 {
-    run_in_order(alloc, &JoinTiles::new(a, b, m, tile))
+    let tiles = JoinTiles::new(a, b, m, tile);
+    match tiles.sums(alloc)? {
+        Some(sums) => {
+            let wide = tiles.wide(tile.max(summed_tile(tiles.size())));
+            let pieces = wide.by_sums(&sums);
+            let seeds = pieces.seeds(alloc)?;
+            let mut slots = Slots::unit(alloc, pieces.size())?;
+            pieces.begin(&seeds, 0, 1, &mut slots);
+            pieces.run_all(&mut slots);
+            Ok(slots)
+        }
+        None => run_in_order(alloc, &tiles),
+    }
 }

@@ -133,7 +133,7 @@ fn scan_diagonals(plan: &Plan, origin: usize, tile: &Tile, slots: &mut [Slot])
 
 /// Offers to the tile's rows its columns. These rows are compared as the windows of a series that has no others, since
 /// each diagonal then begins with its first row or with the first column.
-fn scan_rows(plan: &Plan, tile: &Tile, slots: &mut [Slot])
+pub(crate) fn scan_rows(plan: &Plan, tile: &Tile, slots: &mut [Slot])
     requires tile { IsTileBetween 0 (diagonals_between (row_windows plan.now.grid) (column_windows plan.now.grid))
         (row_windows plan.now.grid) tile.now }
     requires places { length slots.old ≡ row_windows plan.now.grid }

@@ -26,7 +26,7 @@ const LONG_SERIES: u64 = 32_768;
 const LEAST_WINDOWS: u64 = 4_096;
 
 /// How many samples a window has at least for which they are.
-const LEAST_SAMPLES: usize = 16;
+pub(crate) const LEAST_SAMPLES: usize = 16;
 
 /// How many diagonals a tile of so many windows is to have at least that is scanned in coarse sums.
 pub fn summed_tile(windows: u64) -> u32
@@ -41,7 +41,7 @@ pub fn summed_tile(windows: u64) -> u32
 }
 
 /// How many times eight samples a coarse sum has, for windows of so many.
-fn eights_for(m: usize) -> usize
+pub(crate) fn eights_for(m: usize) -> usize
     requires { 16 ≤ m }
     ensures some { 1 ≤ result }
     ensures few { result ≤ 8 }
@@ -131,9 +131,9 @@ impl<'a> SummedTiles<'a> {
         )
     }
 
-    /// Offers a share of the pairs that are likely near to each other, of so many shares. With the values of all tiles of
-    /// the series it makes what these make without, and where they begin with it more pairs can be passed over. It takes
-    /// no memory.
+    /// Offers a share of the pairs that are likely near to each other, of so many shares. With the values of all tiles
+    /// of the series it makes what these make without, and where they begin with it more pairs can be passed over. It
+    /// takes no memory.
     pub fn begin(&self, seeds: &Seeds, share: u32, shares: u32, into: &mut Sides)
         requires share { share < shares }
         requires size { length into.old.left ≡ own_size self.now }

@@ -80,7 +80,8 @@ fn begin_both<R: Threads + Sync, P: Part, B: Begin<Out = P>>(
     requires shares { share.now.number + length low.old ≤ share.now.of }
     requires next_shares { next.now.number + length high.old ≤ next.now.of }
     requires kept { AreAhead P.size_of P.is_value P.value P.merged (B.size_of ahead.now) (B.whole ahead.now) low.old }
-    requires others_kept { AreAhead P.size_of P.is_value P.value P.merged (B.size_of ahead.now) (B.whole ahead.now) high.old }
+    requires others_kept { AreAhead P.size_of P.is_value P.value P.merged (B.size_of ahead.now) (B.whole ahead.now)
+        high.old }
     ensures low { AreAhead P.size_of P.is_value P.value P.merged (B.size_of ahead.now) (B.whole ahead.now) low.new }
     ensures high { AreAhead P.size_of P.is_value P.value P.merged (B.size_of ahead.now) (B.whole ahead.now) high.new }
 {
@@ -88,13 +89,15 @@ fn begin_both<R: Threads + Sync, P: Part, B: Begin<Out = P>>(
         requires { IsSync R.row × IsSync B.row × IsSend P.row × (0 < length low.now)
             × (share.now.number + length low.now ≤ share.now.of)
             × AreAhead P.size_of P.is_value P.value P.merged (B.size_of ahead.now) (B.whole ahead.now) low.now }
-        ensures { AreAhead P.size_of P.is_value P.value P.merged (B.size_of ahead.entry.now) (B.whole ahead.entry.now) low.exit.now }
+        ensures { AreAhead P.size_of P.is_value P.value P.merged (B.size_of ahead.entry.now)
+            (B.whole ahead.entry.now) low.exit.now }
     { begin_some(rt, ahead, share, low) };
     let mut back = ||
         requires { IsSync R.row × IsSync B.row × IsSend P.row × (0 < length high.now)
             × (next.now.number + length high.now ≤ next.now.of)
             × AreAhead P.size_of P.is_value P.value P.merged (B.size_of ahead.now) (B.whole ahead.now) high.now }
-        ensures { AreAhead P.size_of P.is_value P.value P.merged (B.size_of ahead.entry.now) (B.whole ahead.entry.now) high.exit.now }
+        ensures { AreAhead P.size_of P.is_value P.value P.merged (B.size_of ahead.entry.now)
+            (B.whole ahead.entry.now) high.exit.now }
     { begin_some(rt, ahead, next, high) };
     join_mut(rt, &mut front, &mut back);
 }

@@ -3,7 +3,7 @@
 ghost use Rattle.std.specs.Prelude.{◌≡◌, ◌≤◌, [], ◌∷◌, length, IfOk};
 ghost use Rattle.mp_defs.specs.Series.{series_of};
 ghost use Rattle.mp_defs.specs.Profile.{matrix_profile, ab_join};
-ghost use Rattle.mp_tiles.specs.Pieces.{own_size, own_together, sides_value};
+ghost use Rattle.mp_tiles.specs.Pieces.{own_size, own_together, sides_value, join_together};
 
 use crate::begins::Begin;
 use crate::columns::profile_of;
@@ -13,7 +13,10 @@ use mp_outside::Gate;
 use mp_partial::{Kernel, MAX_WORKERS, Profile};
 use mp_series::{MAX_SAMPLES, MAX_WINDOW, MIN_WINDOW};
 use mp_skips::Seeds;
-use mp_tiles::{JoinTiles, MAX_TILE, MAX_TILES, OwnTiles, Sides, SummedTiles, summed_tile};
+use mp_tiles::{
+    JoinSeeds, JoinTiles, MAX_TILE, MAX_TILES, OwnTiles, Sides, SummedJoin, SummedTiles,
+    summed_tile,
+};
 use std::alloc::Global;
 use std::thread::Threads;
 
@@ -128,6 +131,61 @@ pub fn self_join<R: Threads + Sync, G: Gate>(
     Ok(profile_of(rt, &sides, workers, room))
 }
 
+/// The pairs of windows of two series that are likely near.
+#[derive(Drop)]
+struct AheadOfJoin<'a> {
+    tiles: &'a SummedJoin<'a>,
+    seeds: &'a JoinSeeds,
+}
+
+impl<'a> Begin for AheadOfJoin<'a> {
+    ghost use Rattle.mp_tiles.specs.Pieces.{join_size, join_whole};
+
+    type Out = Slots;
+
+    ghost size_of = { λ ahead. join_size ahead.tiles.now };
+
+    ghost whole = { λ ahead. join_whole ahead.tiles.now };
+
+    fn begin(&self, share: u32, shares: u32, into: &mut Slots) {
+        self.tiles.begin(self.seeds, share, shares, into);
+    }
+}
+
+/// The AB-join of the tiles' series. Where tiles are scanned in coarse sums, each worker begins with what pairs of
+/// windows give that these sums tell to be near, and tiles may have `summed_tile` diagonals.
+fn nearest_of_other<R: Threads + Sync, G: Gate>(
+    rt: &R,
+    alloc: Global,
+    tiles: &JoinTiles,
+    tile: u32,
+    workers: u32,
+    gate: &G,
+) -> Result<Slots, Memory>
+    requires few { length tiles.now.tiles ≤ MAX_TILES }
+    requires least { 1 ≤ tile }
+    requires greatest { tile ≤ MAX_TILE }
+    requires some { 1 ≤ workers }
+    requires workers { workers ≤ MAX_WORKERS }
+    requires together { join_together tiles.now
+        ≡ ab_join tiles.now.m (series_of tiles.now.a) (series_of tiles.now.b) ∷ [] }
+    ensures { IfOk result (λ slots. slots.items
+        ≡ ab_join tiles.now.m (series_of tiles.now.a) (series_of tiles.now.b)) }
+{
+    if let Some(sums) = tiles.sums(alloc)? {
+        let wide = tiles
+            .wide(tile.max(summed_tile(tiles.size())))
+            .by_sums(&sums);
+        let seeds = wide.seeds(alloc)?;
+        let ahead = AheadOfJoin {
+            tiles: &wide,
+            seeds: &seeds,
+        };
+        return run_begun(rt, alloc, &ahead, &wide, workers, gate);
+    }
+    run_all(rt, alloc, tiles, tiles.pieces(), workers, gate)
+}
+
 /// The AB-join at window length `m`: for each window of `a` its nearest window in `b`, without an exclusion zone,
 /// computed in tiles of at most `tile` diagonals by so many workers. It is the same for every tile, number of workers
 /// and gate. `a` and `b` may be the same series. Short series are left to fewer workers.
@@ -153,5 +211,5 @@ pub fn ab_join<R: Threads + Sync, G: Gate>(
 {
     let join = JoinTiles::new(a, b, m, tile);
     let workers = workers_for(pairs(a, b), workers);
-    run_all(rt, alloc, &join, join.pieces(), workers, gate)
+    nearest_of_other(rt, alloc, &join, tile, workers, gate)
 }

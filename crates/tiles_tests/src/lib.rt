@@ -4,6 +4,8 @@
 
 mod found;
 #[cfg(test)]
+mod join_sums;
+#[cfg(test)]
 mod roundings;
 #[cfg(test)]
 mod series;

@@ -14,11 +14,11 @@ use std::process::Abort;
 use std::test::Fail;
 
 /// Windows, and how many times eight samples their coarse sums have.
-const FORMS: [(u32, usize); 4] = [(8, 1), (20, 2), (70, 4), (130, 8)];
+pub(crate) const FORMS: [(u32, usize); 4] = [(8, 1), (20, 2), (70, 4), (130, 8)];
 
-/// Ranges of so many bits: a constant, those in which sums and samples are left as they are, the widest in which squares
-/// are added in 32 bits, and those in which only sums are rounded down, and in which both are.
-const RANGES: [(u32, i64, i64); 8] = [
+/// Ranges of so many bits: a constant, those in which sums and samples are left as they are, the widest in which
+/// squares are added in 32 bits, and those in which only sums are rounded down, and in which both are.
+pub(crate) const RANGES: [(u32, i64, i64); 8] = [
     (0, 0, 0),
     (3, -4, 3),
     (13, -4_096, 4_095),

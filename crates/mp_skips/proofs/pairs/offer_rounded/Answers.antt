@@ -1,8 +1,4 @@
 use Rattle.std.proofs.Common.{◌*◌, ◌≤◌, ap, arith}
-use Rattle.std.proofs.lemmas.Nat.{mul-le}
-use Rattle.mp_sums.specs.Sums.{greatest_square}
-use Rattle.mp_sums.specs.SumLaws.{is_small}
-use Rattle.mp_sums.specs.Grids.{row_numbers, column_numbers}
 use Rattle.mp_skips.proofs.LevelLemmas.{sum_is_least}
 use Rattle.mp_skips.proofs.PairLemmas.{quiet_rounded}
 use Rattle.mp_skips.proofs.pairs.offer_rounded.Goals as goal

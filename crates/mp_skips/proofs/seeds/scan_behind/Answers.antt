@@ -16,7 +16,8 @@ returns g c =
       ahead = ahead_of laws grid (in_block k (k + 1) row (row + n)) _ _ _ c.requires.fits c.scan_stretch.ensures.scanned
           (λ i j iw jw. among_all c.args.first (row_windows grid) (column_windows grid) k row n i j
           (omega (arith, c.requires.behind)) iw jw);
-      fits = laws.still_fits _ _ _ (in_block k (k + 1) row (row + n)) _ _ c.requires.fits c.scan_stretch.ensures.scanned;
+      fits = laws.still_fits _ _ _ (in_block k (k + 1) row (row + n)) _ _ c.requires.fits
+          c.scan_stretch.ensures.scanned;
     }
 
 pub returns-then-compared-stretch : goal.returns-then-compared-stretch

@@ -17,8 +17,8 @@ sides_taken : (old new : Sided) (p : Columns) → new.left ≡ merged_column old
 sides_taken old new p e f = cc
 
 scanned : (c : goal.After-scan_blocks)
-    → AreSided (has_pair 0 c.args.tile.now) c.args.coarse.now.plan.grid.m (row_series c.args.coarse.now.plan) c.args.into.now
-    c.scan_blocks.new.into
+    → AreSided (has_pair 0 c.args.tile.now) c.args.coarse.now.plan.grid.m (row_series c.args.coarse.now.plan)
+    c.args.into.now c.scan_blocks.new.into
 scanned c =
     let plan = c.args.coarse.now.plan in
     subst (λ (s : Sided). AreSided (has_pair 0 c.args.tile.now) plan.grid.m (row_series plan) s c.scan_blocks.new.into)

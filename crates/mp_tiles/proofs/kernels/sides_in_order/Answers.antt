@@ -16,7 +16,8 @@ returns-in_ok-sides-in-Some-clause-value c =
     let own = pieces.result in
     let m = c.args.m in
     let own_is : own_whole own ≡ sides_value (matrix_profile m (series_of tiles.result.samples)) =
-    ap (λ k. sides_value (matrix_profile k (series_of own.samples))) (pieces.ensures.m ∙ wide.ensures.m ∙ tiles.ensures.m)
+    ap (λ k. sides_value (matrix_profile k (series_of own.samples)))
+    (pieces.ensures.m ∙ wide.ensures.m ∙ tiles.ensures.m)
     ∙ ap (λ (samples : List Sample). sides_value (matrix_profile m (series_of samples)))
     (pieces.ensures.samples ∙ wide.ensures.samples) in
     let together : own_together own ≡ own_whole own =

@@ -34,7 +34,8 @@ returns-then-sum-most-clause-none c =
     let before = c.loop-place.invariant in
     part_tells c.args.self.now (c.args.row + c.args.behind) (c.args.column + c.args.behind)
     (c.loop-place.place + c.min-count.result - c.args.behind) (c.args.self.now.plan.grid.m - c.args.behind)
-    (c.loop-place.sum + c.part_squares-sum.result) c.args.most (omega (arith, c.min-count.ensures, c.loop-place-test.true))
+    (c.loop-place.sum + c.part_squares-sum.result) c.args.most
+    (omega (arith, c.min-count.ensures, c.loop-place-test.true))
     (part_more c.args.self.now c.args.row c.args.column c.args.behind c.loop-place.place c.min-count.result
     c.loop-place.sum c.part_squares-sum.result before.after before.sum c.part_squares-sum.ensures.sum)
     (omega arith)
