@@ -8,6 +8,7 @@ pub mod Distances
 pub mod Greatest
 pub mod Moves
 pub mod Free
+pub mod Lanes
 pub mod Quiet
 pub mod SlotLemmas
 pub mod Entries

@@ -1,10 +1,15 @@
 -- Rounded samples in parts of their list, and the cores of blocks.
-use Rattle.std.proofs.Common.{◌≡◌, ℕ, ◌+◌, ◌-◌, ◌<◌, ◌≤◌, inl, inr, List, length, take, drop}
-use Rattle.std.proofs.Common.{sym, ap, ◌∙◌, arith}
+use Rattle.std.proofs.Common.{◌≡◌, ◌≢◌, ℕ, ◌+◌, ◌-◌, ◌%◌, ◌^◌, ◌<◌, ◌≤◌, min, inl, inr, List, length, take, drop, set}
+use Rattle.std.proofs.Common.{refl, sym, ap, ◌∙◌, arith, ◌*ℤ◌, to_z, of_z, FitsSigned, ◌+ℤ◌, ◌-ℤ◌}
 use Rattle.std.proofs.Common.{subst, length-drop, ℤ, pos, w32}
+use Rattle.std.specs.Prelude.{negsuc}
 use Rattle.std.specs.Int.{int_wrap}
-use Rattle.std.proofs.lemmas.Bool.{cases_lt}
-use Rattle.std.proofs.lemmas.List.{get_or-take, get_or-drop, length-take}
+use Rattle.std.proofs.lemmas.Bool.{cases_eq, cases_lt}
+use Rattle.std.proofs.lemmas.Bool.Decides.{nat_tests}
+use Rattle.std.proofs.lemmas.Int.{ints, int_wrap-add_left, int_wrap-add_right, to_z-of_z, wrapping_add-bits}
+use Rattle.std.proofs.lemmas.Int.{wrapping_sub_is}
+use Rattle.std.proofs.lemmas.List.{get_or-take, get_or-drop, get_or-set_same, get_or-set_other, length-take}
+use Rattle.std.proofs.lemmas.Nat.{mod_below}
 use Rattle.mp_defs.specs.Series.{Series}
 use Rattle.mp_sums.specs.Sums.{square_sum}
 use Rattle.mp_sums.specs.Residues.{AreChanges, AreNumbers, IsChange, item, moved, residue}
@@ -98,3 +103,96 @@ core_within m shift a i j k lt = elim (cases_lt m 31) [
 
     behind : (first rest whole core : ℕ) → whole ≡ first + rest → core ≤ rest → core ≤ whole
     behind first rest whole core e le = omega (arith, e, le)
+
+-- ---- successive residues
+
+-- one place more of a list is so
+pub each_next : (P : ℕ → ℤ → Type 0) (v : List ℤ) (at : ℕ) (n : ℤ) → at < length v
+    → ((q : ℕ) → q < at → P q (item v q)) → P at n → (q : ℕ) → q < at + 1 → P q (item (set v at n) q)
+each_next P v at n lt done is q small = elim (cases_eq q at) [
+  | inl same ↦
+      subst (λ z. P z (item (set v at n) z)) (sym same) (subst (P at) (sym (get_or-set_same v at n (pos 0) lt)) is)
+  | inr other ↦ subst (P q) (sym (get_or-set_other v at q n (pos 0) other)) (done q (below at q small other))
+]
+  where
+    below : (at q : ℕ) → q < at + 1 → q ≢ at → q < at
+    below at q lt ne = grind (arith, nat_tests)
+
+-- the same where it is as a sequence says
+pub set_next : (v : List ℤ) (at : ℕ) (n : ℤ) (f : ℕ → ℤ) → at < length v → ((q : ℕ) → q < at → item v q ≡ f q)
+    → n ≡ f at → (q : ℕ) → q < at + 1 → item (set v at n) q ≡ f q
+set_next v at n f lt done is q small = each_next (λ p z. z ≡ f p) v at n lt done is q small
+
+bits_fit : (z : ℤ) → FitsSigned w32 z → of_z w32 z < 2 ^ 32
+bits_fit z f = omega (arith, ints, f)
+
+-- the residue of two sums together
+pub residues_together : (r s : ℤ) (a b c : ℕ) → FitsSigned w32 r → FitsSigned w32 s → r ≡ residue a → s ≡ residue b
+    → c ≡ a + b → to_z w32 ((of_z w32 r + (of_z w32 s + 2147483647) % 2 ^ 32) % 2 ^ 32) ≡ residue c
+residues_together r s a b c fr fs r_is s_is c_is =
+    let zero_is : ℤ = negsuc 2147483646 in
+    let q : ℕ = (of_z w32 s + 2147483647) % 2 ^ 32 in
+    wrapping_add-bits w32 (of_z w32 r) q (bits_fit r fr) (mod_below (of_z w32 s + 2147483647) (2 ^ 32) (omega arith))
+    ∙ ap (λ z. int_wrap w32 (z +ℤ to_z w32 q)) (to_z-of_z w32 r fr)
+    ∙ ap (λ z. int_wrap w32 (r +ℤ z)) (wrapping_sub_is w32 s zero_is fs (omega (arith, ints)))
+    ∙ int_wrap-add_right w32 r (s -ℤ zero_is)
+    ∙ ap (λ z. int_wrap w32 (z +ℤ (s -ℤ zero_is))) r_is
+    ∙ int_wrap-add_left w32 (pos a -ℤ pos 2147483647) (s -ℤ zero_is)
+    ∙ ap (λ z. int_wrap w32 ((pos a -ℤ pos 2147483647) +ℤ (z -ℤ zero_is))) s_is
+    ∙ ap (int_wrap w32) (apart a (residue b))
+    ∙ int_wrap-add_right w32 (pos a) (pos b -ℤ pos 2147483647)
+    ∙ ap (int_wrap w32) (whole a b c c_is)
+  where
+    apart : (x : ℕ) (y : ℤ) → (pos x -ℤ pos 2147483647) +ℤ (y -ℤ negsuc 2147483646) ≡ pos x +ℤ y
+    apart x y = omega (arith, ints)
+
+    whole : (a b c : ℕ) → c ≡ a + b → pos a +ℤ (pos b -ℤ pos 2147483647) ≡ pos c -ℤ pos 2147483647
+    whole a b c e = omega (arith, ints, e)
+
+-- a window's first samples, and its core behind them
+pub sum_with_core : (m shift : ℕ) (a : Series) (i j n : ℕ) → n ≡ min m 31
+    → rounded_sum m shift a i j
+    ≡ square_sum n (rounded_in shift a) i (rounded_in shift a) j + core_sum m shift a i j
+sum_with_core m shift a i j n e = elim (cases_lt m 31) [
+  | inl short ↦
+      let x = rounded_in shift a in
+      let all : n ≡ m = omega (arith, e, short) in
+      let none : m - 31 ≡ 0 = omega (arith, short) in
+      ap (λ q. square_sum q x i x j) (sym all)
+      ∙ omega (arith, ap (λ q. square_sum q x (i + 31) x (j + 31)) none, sum_of_none x (i + 31) x (j + 31))
+  | inr long ↦
+      let x = rounded_in shift a in
+      let first : n ≡ 31 = omega (arith, e, long) in
+      let whole : m ≡ 31 + (m - 31) = omega (arith, long) in
+      ap (λ q. square_sum q x i x j) whole ∙ sum_joined 31 (m - 31) x i x j
+      ∙ ap (λ q. square_sum q x i x j + core_sum m shift a i j) (sym first)
+]
+
+pub behind : (k q : ℕ) → k + 1 ≤ q → q ≢ k
+behind k q le = grind (arith, nat_tests)
+
+pub none_before : (z : ℤ) → pos 0 +ℤ z ≡ z
+none_before z = omega (arith, ints)
+
+-- a change by other names
+pub moved_same : (r e e_is s s_is e' e'_is s' s'_is : ℤ) → e ≡ e_is → s ≡ s_is → e' ≡ e'_is → s' ≡ s'_is
+    → moved r e s e' s' ≡ moved r e_is s_is e'_is s'_is
+moved_same r e e_is s s_is e' e'_is s' s'_is f g f' g' = cc
+
+-- the residue of a row and a column, by the step from the ones before
+pub step_on : (m row offset q : ℕ) (x : ℕ → ℤ) (differences sums : List ℤ) (e s e' s' step : ℤ)
+    → AreChanges m x 0 differences sums → row + q < length differences → row + offset + q < length differences
+    → e ≡ item differences (row + q) → s ≡ item sums (row + q) → e' ≡ item differences (row + offset + q)
+    → s' ≡ item sums (row + offset + q) → step ≡ moved (pos 0) e s e' s'
+    → int_wrap w32 (residue (square_sum m x (row + q) x (row + q + offset)) +ℤ step)
+    ≡ residue (square_sum m x (row + (q + 1)) x (row + (q + 1) + offset))
+step_on m row offset q x differences sums e s e' s' step h lt lt' e_is s_is e_is' s_is' step_is =
+    let r = residue (square_sum m x (row + q) x (row + q + offset)) in
+    let product = (e -ℤ e') *ℤ (s -ℤ s') in
+    ap (λ z. int_wrap w32 (r +ℤ z)) step_is ∙ int_wrap-add_right w32 r (pos 0 +ℤ product)
+    ∙ ap (λ z. int_wrap w32 (r +ℤ z)) (none_before product)
+    ∙ moves_on m (row + q) (row + offset + q) x differences sums r e s e' s' (moved r e s e' s') h lt lt'
+    (residue_at m m x (row + q) (row + q) (row + q + offset) (row + offset + q) refl refl (omega arith))
+    e_is s_is e_is' s_is' refl
+    ∙ residue_at m m x (row + q + 1) (row + (q + 1)) (row + offset + q + 1) (row + (q + 1) + offset) refl (omega arith)
+    (omega arith)

@@ -2,7 +2,8 @@
 use Rattle.std.proofs.Common.{◌≡◌, ℕ, ◌+◌, ◌-◌, ◌<◌, ◌≤◌, inl, inr, List, length, get_or, set}
 use Rattle.std.proofs.Common.{refl, sym, ap, ◌∙◌}
 use Rattle.std.proofs.Common.{arith, subst, Bool, true, false, ℤ, pos, replicate}
-use Rattle.std.specs.Prelude.{◌<ℤ◌, ◌≤ℤ◌, Option, Some, None, ◌||◌}
+use Rattle.std.specs.Prelude.{◌<ℤ◌, ◌≤ℤ◌, Option, Some, None, ◌||◌, ◌⊎◌}
+use Rattle.std.specs.Int.{bit_at}
 use Rattle.std.proofs.lemmas.Bool.{cases_eq, cases_lt}
 use Rattle.std.proofs.lemmas.Bool.Decides.{nat_tests}
 use Rattle.std.proofs.lemmas.Int.{ints}
@@ -30,7 +31,7 @@ use Rattle.mp_tiles.specs.LimitLaws.{each_limits}
 use Rattle.mp_tiles.specs.OfferingLaws.{each_to_other, scanned_pair}
 use Rattle.mp_tiles.specs.Scanning.{HasPlaces, IsScanned}
 use Rattle.mp_tiles.specs.TakenLaws.{covers_more}
-use Rattle.mp_anytime.specs.Scanning.{IsPairTaken, is_pair_from, starts_behind}
+use Rattle.mp_anytime.specs.Scanning.{IsPairTaken, is_pair_done, is_pair_from, starts_behind}
 use Rattle.mp_anytime.specs.Rounded.{core_in, rounded_sum, series_in, whole_in}
 use Rattle.mp_anytime.specs.Bounds.{AreBounds, AreTaken, Bounded, IsBound, IsFor, IsQuiet}
 use Rattle.mp_anytime.proofs.Moves.{core_within}
@@ -168,6 +169,9 @@ quiet_from m shift slots bounds place bound r h within most below k lt =
 -- the same by another name of the number
 pub below_by : (x x' r r' : ℤ) → x' ≡ x → r' ≡ r → x' <ℤ r' → x <ℤ r
 below_by x x' r r' e f lt = subst (λ z. z <ℤ r) e (subst (λ z. x' <ℤ z) f lt)
+
+pub at_most : (x y z z' : ℤ) → x ≡ y → y ≤ℤ z → z ≡ z' → x ≤ℤ z'
+at_most x y z z' e le f = omega (arith, ints, e, le, f)
 
 pub at_most_same : (x y : ℤ) → x ≡ y → y ≤ℤ x
 at_most_same x y e = omega (arith, ints, e)
@@ -398,3 +402,138 @@ all_taken plan offset end old new is count t =
   where
     whole : (offset end i j : ℕ) → j < end + offset → is_pair_from offset 0 end i j ≡ starts_behind offset i j
     whole offset end i j lt = grind (arith, nat_tests)
+
+pub behind : (row k offset : ℕ) → row + k + offset - (row + k) ≡ offset
+behind row k offset = omega arith
+
+-- ---- pairs of a block, of which some are known to give nothing
+
+-- some pairs, and then others
+pub then_taken : (plan : Plan) (first second both : ℕ → ℕ → Bool) (old mid new : Bounded) → IsFor plan old
+    → AreTaken plan first old mid → AreTaken plan second mid new
+    → ((i j : ℕ) → (first i j || second i j) ≡ both i j) → AreTaken plan both old new
+then_taken plan first second both old mid new is s t same = record {
+  scanned = each_to_other.same plan.grid.m (series_in plan) (series_in plan) (λ i j. first i j || second i j) both
+      old.profile new.profile (is.places, refl)
+      (each_to_other.both plan.grid.m (series_in plan) (series_in plan) first second old.profile mid.profile
+      new.profile s.scanned t.scanned)
+      (λ i j _ _. same i j);
+  same_m = t.same_m ∙ s.same_m;
+  same_shift = t.same_shift ∙ s.same_shift;
+}
+
+-- the same pairs
+pub same_taken : (plan : Plan) (pairs others : ℕ → ℕ → Bool) (old new : Bounded) → IsFor plan old
+    → AreTaken plan pairs old new → ((i j : ℕ) → pairs i j ≡ others i j) → AreTaken plan others old new
+same_taken plan pairs others old new is t same = record {
+  scanned = each_to_other.same plan.grid.m (series_in plan) (series_in plan) pairs others old.profile new.profile
+      (is.places, refl) t.scanned (λ i j _ _. same i j);
+  same_m = t.same_m;
+  same_shift = t.same_shift;
+}
+
+-- one more, and those behind it whose bits are set
+pub done_next : (offset first bits k k' i j : ℕ) → k < 32 → k + 1 ≤ k' → k' ≤ 32
+    → ((t : ℕ) → k + 1 ≤ t → t < k' → bit_at bits t ≡ 1)
+    → (is_pair_done offset first bits k i j || only (first + k) (first + k + offset) i j)
+    ≡ is_pair_done offset first bits k' i j
+done_next offset first bits k k' i j small le within set = elim (cases_lt i (first + k + 1)) [
+  | inl lt ↦ before offset first bits k k' i j small le lt
+  | inr behind ↦ elim (cases_lt i (first + k')) [
+    | inl lt ↦
+        is_set offset first bits k k' i j small behind lt
+        (set (i - first) (omega (arith, behind)) (omega (arith, lt, behind)))
+    | inr ge ↦ left offset first bits k k' i j le ge
+  ]
+]
+  where
+    before : (offset first bits k k' i j : ℕ) → k < 32 → k + 1 ≤ k' → i < first + k + 1
+        → (is_pair_done offset first bits k i j || only (first + k) (first + k + offset) i j)
+        ≡ is_pair_done offset first bits k' i j
+    before offset first bits k k' i j small le lt = grind (arith, nat_tests)
+
+    is_set : (offset first bits k k' i j : ℕ) → k < 32 → first + k + 1 ≤ i → i < first + k'
+        → bit_at bits (i - first) ≡ 1
+        → (is_pair_done offset first bits k i j || only (first + k) (first + k + offset) i j)
+        ≡ is_pair_done offset first bits k' i j
+    is_set offset first bits k k' i j small ge lt e = grind (arith, nat_tests)
+
+    left : (offset first bits k k' i j : ℕ) → k + 1 ≤ k' → first + k' ≤ i
+        → (is_pair_done offset first bits k i j || only (first + k) (first + k + offset) i j)
+        ≡ is_pair_done offset first bits k' i j
+    left offset first bits k k' i j le ge = grind (arith, nat_tests)
+
+-- all of them
+pub all_done : (offset first bits k i j : ℕ) → 32 ≤ k
+    → is_pair_done offset first bits k i j ≡ is_pair_from offset first (first + 32) i j
+all_done offset first bits k i j le = grind (arith, nat_tests)
+
+record IsDone (offset first bits k i j : ℕ) : Type 0 where
+  from : IsFrom offset first (first + 32) i j
+  is_set : (i < first + k) ⊎ (bit_at bits (i - first) ≡ 1)
+
+is_done : (offset first bits k i j : ℕ) → is_pair_done offset first bits k i j ≡ true
+    → IsDone offset first bits k i j
+is_done offset first bits k i j e = record {
+  from = is_from offset first (first + 32) i j (pair offset first bits k i j e);
+  is_set = elim (cases_lt i (first + k)) [
+    | inl lt ↦ inl lt
+    | inr ge ↦ inr (bit offset first bits k i j ge e)
+  ];
+}
+  where
+    pair : (offset first bits k i j : ℕ) → is_pair_done offset first bits k i j ≡ true
+        → is_pair_from offset first (first + 32) i j ≡ true
+    pair offset first bits k i j e = grind (arith, nat_tests)
+
+    bit : (offset first bits k i j : ℕ) → first + k ≤ i → is_pair_done offset first bits k i j ≡ true
+        → bit_at bits (i - first) ≡ 1
+    bit offset first bits k i j ge e = grind (arith, nat_tests)
+
+-- those whose bits are set, and the first ones, whose bits are set too
+pub quiet_done : (plan : Plan) (row offset bits k : ℕ) (residues : List ℤ) (found : Bounded) → IsFor plan found
+    → 1 ≤ offset
+    → ((t : ℕ) → t < 32 → item residues t ≡ residue (whole_in plan (row + t) (row + t + offset)))
+    → ((t : ℕ) → t < 32 → bit_at bits t ≡ 1
+    → IsQuiet found.m found.shift (get_or found.profile.right (row + t) None) (item residues t))
+    → ((t : ℕ) → t < 32 → bit_at bits t ≡ 1
+    → IsQuiet found.m found.shift (get_or found.profile.left (row + offset + t) None) (item residues t))
+    → found.profile.all ≡ merged_column found.profile.left found.profile.right
+    → ((t : ℕ) → 0 ≤ t → t < k → bit_at bits t ≡ 1)
+    → AreTaken plan (is_pair_done offset row bits k) found found
+quiet_done plan row offset bits k residues found is apart here right left lesser set = record {
+  scanned = quiet_pairs (is_pair_done offset row bits k) plan.grid.m a found.profile is.places lesser
+      (λ i j e. let at = (is_done offset row bits k i j e).from in omega (arith, at.column, apart))
+      (λ i j d e there.
+      let done = is_done offset row bits k i j e in
+      let at = done.from in
+      let t = i - row in
+      let lt : t < 32 = omega (arith, at.behind, at.before) in
+      let bit : bit_at bits t ≡ 1 = elim done.is_set [
+        | inl first ↦ set t (omega arith) (omega (arith, first, at.behind))
+        | inr one ↦ one
+      ] in
+      let i_is : row + t ≡ i = omega (arith, at.behind) in
+      let j_is : row + offset + t ≡ j = omega (arith, at.behind, at.column) in
+      let r_is : item residues t ≡ residue (whole_in plan i j) =
+      here t lt ∙ ap (λ q. residue (whole_in plan q (q + offset))) i_is
+      ∙ ap (λ q. residue (whole_in plan i q)) at.column in (
+        (quiet_by (get_or found.profile.right i None) (item residues t)
+            (subst (λ q. IsQuiet found.m found.shift (get_or found.profile.right q None) (item residues t)) i_is
+            (right t lt bit))).nothing a i j d (whole_in plan i j) j there (omega arith) r_is,
+        (quiet_by (get_or found.profile.left j None) (item residues t)
+            (subst (λ q. IsQuiet found.m found.shift (get_or found.profile.left q None) (item residues t)) j_is
+            (left t lt bit))).nothing a i j d (whole_in plan i j) i there (omega arith) r_is,
+      ));
+  same_m = refl;
+  same_shift = refl;
+}
+  where
+    a : Series
+    a = series_in plan
+
+    quiet_by : (slot : Option Near) (r : ℤ) → IsQuiet found.m found.shift slot r
+        → IsQuiet plan.grid.m plan.rounding.shift slot r
+    quiet_by slot r q =
+        subst (λ n. IsQuiet n plan.rounding.shift slot r) is.m_is
+        (subst (λ n. IsQuiet found.m n slot r) is.shift_is q)

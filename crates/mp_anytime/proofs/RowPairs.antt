@@ -4,7 +4,7 @@ use Rattle.std.proofs.Common.{◌∷◌, ◌++◌, length, get_or, set}
 use Rattle.std.proofs.Common.{refl, sym, ap, ◌∙◌}
 use Rattle.std.proofs.Common.{arith, subst, Bool, true, false}
 use Rattle.std.proofs.Math.Bool.{not}
-use Rattle.std.specs.Prelude.{Option, Some, None, All, ◌==◌, ◌&&◌, ◌||◌, nat_le, nat_lt, min}
+use Rattle.std.specs.Prelude.{Option, Some, None, All, ◌==◌, ◌&&◌, ◌||◌, nat_le, nat_lt}
 use Rattle.std.specs.Int.{abs_diff}
 use Rattle.std.proofs.Math.ListN.{get_or-append}
 use Rattle.std.proofs.Math.Seq.{get_or-append_seam}
@@ -14,7 +14,7 @@ use Rattle.std.proofs.lemmas.List.{get_or-set_same, get_or-set_other, length-app
 use Rattle.mp_nums.specs.declared.nearest.Near.{Near}
 use Rattle.mp_nums.specs.declared.samples.Sample.{Sample}
 use Rattle.mp_nums.specs.Near.{nearer_of}
-use Rattle.mp_defs.specs.Series.{Series, series_of}
+use Rattle.mp_defs.specs.Series.{series_of}
 use Rattle.mp_defs.specs.SeriesLaws.{series_are_of_samples}
 use Rattle.mp_defs.specs.Window.{excl}
 use Rattle.mp_defs.specs.Distance.{distance}

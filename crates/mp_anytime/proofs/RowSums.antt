@@ -1,6 +1,6 @@
 -- Sums of the last pairs, moved one place on in 64 bits.
 use Rattle.std.proofs.Common.{◌≡◌, ℕ, ◌+◌, ◌-◌, ◌*◌, ◌^◌, ◌<◌, ◌≤◌, List, length}
-use Rattle.std.proofs.Common.{get_or, take, drop, refl, sym, ap, ◌∙◌}
+use Rattle.std.proofs.Common.{get_or, take, drop, ap, ◌∙◌}
 use Rattle.std.proofs.Common.{arith, subst}
 use Rattle.std.specs.Prelude.{ℤ, pos}
 use Rattle.std.proofs.lemmas.List.{length-map, length-take, length-drop, get_or-take, get_or-drop}
@@ -11,7 +11,7 @@ use Rattle.mp_defs.specs.Distance.{squared_difference}
 use Rattle.mp_series.specs.Samples.{number_in, numbers_in}
 use Rattle.mp_sums.specs.Sums.{numbers_of, square_sum}
 use Rattle.mp_sums.specs.Residues.{item}
-use Rattle.mp_sums.specs.Ranges.{AreWithin, IsInRange, SumsFit}
+use Rattle.mp_sums.specs.Ranges.{AreWithin, IsInRange}
 use Rattle.mp_sums.specs.declared.ranges.Range.{Range}
 use Rattle.mp_sums.specs.RangeLaws.{squares_in_range, sums_in_range}
 use Rattle.mp_sums.specs.SumLaws.{is_sum_at, is_sum_moved_on, leaves_within}

@@ -1,5 +1,5 @@
 -- The pairs of the last window, by their diagonals.
-use Rattle.std.specs.Prelude.{◌≡◌, ℕ, ◌+◌, ◌-◌, ◌*◌, ◌^◌, ◌<◌, ◌≤◌, Bool, true, false}
+use Rattle.std.specs.Prelude.{◌≡◌, ℕ, ◌+◌, ◌-◌, ◌*◌, ◌^◌, ◌<◌, ◌≤◌, Bool, true}
 use Rattle.std.specs.Prelude.{◌==◌, ◌&&◌, nat_le, nat_lt, List, length}
 use Rattle.std.specs.Prelude.{slice_index, slice_index_or, None}
 use Rattle.mp_nums.specs.declared.samples.Sample.{Sample}
@@ -8,7 +8,7 @@ use Rattle.mp_partial.specs.Values.{Column}
 use Rattle.mp_partial.specs.Profiled.{Profiled}
 use Rattle.mp_results.specs.Covering.{is_covered}
 use Rattle.mp_results.specs.Reversal.{numbers}
-use Rattle.mp_tiles.specs.Scanning.{HasPlaces, IsScanned}
+use Rattle.mp_tiles.specs.Scanning.{HasPlaces}
 use Rattle.mp_anytime.specs.Kept.{IsSumAt}
 use Rattle.mp_anytime.specs.Limits.{AreLimits}
 use Rattle.mp_anytime.specs.Waiting.{AreWaiting}

@@ -1,8 +1,8 @@
 -- The pairs of windows along a diagonal.
-use Rattle.std.specs.Prelude.{◌≡◌, ℕ, ◌+◌, ◌<◌, Bool, ◌==◌, ◌&&◌, nat_le, nat_lt, List, length}
+use Rattle.std.specs.Prelude.{◌≡◌, ℕ, ◌+◌, ◌-◌, ◌<◌, Bool, ◌==◌, ◌&&◌, ◌||◌, nat_le, nat_lt, List, length}
 use Rattle.std.specs.Prelude.{slice_index_or, false}
 use Rattle.std.specs.Prelude.{if◌then◌else◌, Some, None, IfSome}
-use Rattle.std.specs.Int.{abs_diff}
+use Rattle.std.specs.Int.{abs_diff, bit_at}
 use Rattle.mp_nums.specs.declared.nearest.Near.{Near}
 use Rattle.mp_defs.specs.Series.{Series}
 use Rattle.mp_defs.specs.Window.{is_free}
@@ -17,6 +17,11 @@ use Rattle.mp_results.specs.Covering.{is_covered}
 -- window j starts so far behind window i, which is one from first on and before end
 abbrev pub is_pair_from : ℕ → ℕ → ℕ → ℕ → ℕ → Bool
 is_pair_from offset first end i j = (i + offset == j) && (nat_le first i && nat_lt i end)
+
+-- the same of 32 windows i from first on, of which those are left out that come from place k on and whose bit isn't set
+abbrev pub is_pair_done : ℕ → ℕ → ℕ → ℕ → ℕ → ℕ → Bool
+is_pair_done offset first bits k i j =
+    is_pair_from offset first (first + 32) i j && (nat_lt i (first + k) || (bit_at bits (i - first) == 1))
 
 -- window j starts so far behind window i
 abbrev pub starts_behind : ℕ → ℕ → ℕ → Bool

@@ -2,8 +2,9 @@
 
 ghost use Rattle.std.specs.Prelude.{◌≡◌, ℕ, ◌+◌, ◌-◌, ◌*◌, ◌^◌, ◌<◌, ◌≤◌, ◌<ℤ◌};
 ghost use Rattle.std.specs.Prelude.{[], ◌∷◌, length};
-ghost use Rattle.std.specs.Prelude.{slice_index_or, None, true, false};
-ghost use Rattle.mp_sums.specs.Residues.{residue as residue_of};
+ghost use Rattle.std.specs.Prelude.{slice_index_or, None, true, false, ℤ};
+ghost use Rattle.std.specs.Int.{bit_at};
+ghost use Rattle.mp_sums.specs.Residues.{item, residue as residue_of};
 ghost use Rattle.mp_partial.specs.Values.{HasColumns, empty_columns, merged_column, merged_columns};
 ghost use Rattle.mp_partial.specs.MergeLaws.{columns_merge};
 ghost use Rattle.mp_scans.specs.Offering.{only};
@@ -12,6 +13,7 @@ ghost use Rattle.mp_anytime.specs.Scanning.{AreEarlier, AreLater, IsPairTaken, i
 ghost use Rattle.mp_anytime.specs.Rounded.{core_in, series_in, whole_in};
 ghost use Rattle.mp_anytime.specs.Bounds.{AreTaken, IsFor, IsQuiet, columns_of, kept_sides};
 ghost use Rattle.mp_scans.specs.Exacts.{IsExact};
+ghost use Rattle.mp_scans.specs.Lanes.{AreLanes};
 ghost use Rattle.mp_series.specs.declared.limits.TheConstants.{MAX_SAMPLES};
 
 use crate::pairs::{offer_earlier, offer_later};
@@ -19,10 +21,11 @@ use crate::rounded::{BLOCK, Rounded};
 use crate::sides::{Side, bound_of};
 use mp_nums::{Memory, Near, Sq};
 use mp_partial::{Part, Profile};
-use mp_scans::Exact;
-use mp_sums::{Rounding, passes};
+use mp_scans::{Exact, lanes_above, load, next_clear};
+use mp_sums::{NEVER, Rounding, passes};
 use std::alloc::Global;
 use std::marker::Model;
+use std::simd::prelude::*;
 
 /// By what samples are rounded before any are. Where nothing was found all bounds are the same.
 const NO_ROUNDING: Rounding = Rounding { m: 1, shift: 0 };
@@ -72,6 +75,18 @@ fn are_below(one: i32, other: i32, residue: i32) -> bool
     ensures other { result ≡ true → other <ℤ residue }
 {
     (one < residue) & (other < residue)
+}
+
+/// A bit for each residue of a block, set where it is above its limit.
+fn bits_above(residues: &[i32], limits: &[i32]) -> u64
+    requires residues { AreLanes residues.now }
+    requires limits { AreLanes limits.now }
+    ensures above { (k : ℕ) → k < BLOCK → bit_at result k ≡ 1 → item limits.now k <ℤ item residues.now k }
+    ensures small { result < 2 ^ BLOCK }
+{
+    let mut lanes = i32x32::splat(0);
+    load(&mut lanes, residues, 0);
+    lanes_above(&lanes, &NEVER, limits)
 }
 
 impl Found {
@@ -212,6 +227,48 @@ impl Found {
         }
     }
 
+    /// For each pair of a block the greater one of both bounds.
+    fn fill_limits(&self, row: usize, column: usize, limits: &mut [i32])
+        requires places { length limits.old ≡ BLOCK }
+        requires row { row + BLOCK ≤ length self.now.profile.right }
+        requires column { column + BLOCK ≤ length self.now.profile.left }
+        ensures lanes { AreLanes limits.new }
+        ensures rows { (k : ℕ) (r : ℤ) → k < BLOCK → item limits.new k <ℤ r → IsQuiet self.now.m self.now.shift
+            (slice_index_or self.now.profile.right (row + k) None) r }
+        ensures columns { (k : ℕ) (r : ℤ) → k < BLOCK → item limits.new k <ℤ r → IsQuiet self.now.m self.now.shift
+            (slice_index_or self.now.profile.left (column + k) None) r }
+        ensures lesser { self.now.profile.all ≡ merged_column self.now.profile.left self.now.profile.right }
+    {
+        let _windows = self.left.len();
+        for k in 0..limits.len() {
+            limits[k] = self
+                .right
+                .bound_at(row + k)
+                .max(self.left.bound_at(column + k));
+        }
+    }
+
+    /// Takes the pairs of a block one by one, but for those whose residues tell that they give nothing.
+    fn take_each(&mut self, rounded: &Rounded, row: usize, offset: usize, residues: &[i32])
+        requires apart { 1 ≤ offset }
+        requires within { row + offset + BLOCK ≤ length rounded.now.free.now }
+        requires places { length residues.now ≡ BLOCK }
+        requires residues { (k : ℕ) → k < BLOCK
+            → item residues.now k ≡ residue_of (whole_in rounded.now.plan (row + k) (row + k + offset)) }
+        requires for_these { IsFor rounded.now.plan self.old }
+        ensures { AreTaken rounded.now.plan (is_pair_from offset row (row + BLOCK)) self.old self.new }
+    {
+        let mut limits = [0; BLOCK];
+        self.fill_limits(row, row + offset, &mut limits);
+        let quiet = bits_above(residues, &limits);
+        let mut exact = None;
+        let mut k = next_clear(quiet, 0, BLOCK);
+        while k < BLOCK {
+            self.offer_free(rounded, row + k, row + k + offset, residues[k], &mut exact);
+            k = next_clear(quiet, k + 1, BLOCK);
+        }
+    }
+
     /// Finds the greatest bounds of a block's rows and columns anew, since these may be lower now.
     fn refresh(&mut self, row: usize, column: usize)
         requires row { row + BLOCK ≤ length self.old.profile.right }
@@ -233,7 +290,9 @@ impl Found {
         if self.is_quiet(row, row + offset, residue) {
             return;
         }
-        self.take_pairs(rounded, row, offset, BLOCK);
+        let mut residues = [0; BLOCK];
+        rounded.fill_residues(row, offset, residue, &mut residues);
+        self.take_each(rounded, row, offset, &residues);
         self.refresh(row, row + offset);
     }
 

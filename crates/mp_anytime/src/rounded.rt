@@ -1,16 +1,17 @@
 //! A series in rounded samples, whose residues tell of most pairs of windows that they give nothing.
 
 ghost use Rattle.std.specs.Prelude.{◌≡◌, ℕ, ◌+◌, ◌-◌, ◌^◌, ◌<◌, ◌≤◌, length, IfOk};
-ghost use Rattle.std.specs.Prelude.{IsSome, Some, ℤ};
+ghost use Rattle.std.specs.Prelude.{IsSome, Some, ℤ, pos, ◌+ℤ◌};
+ghost use Rattle.std.specs.Int.{int_wrap, w32};
 ghost use Rattle.mp_sums.specs.Grids.{distance_in};
-ghost use Rattle.mp_sums.specs.Residues.{AreChanges, AreNumbers, item, residue as residue_of};
+ghost use Rattle.mp_sums.specs.Residues.{AreChanges, AreNumbers, item, moved, residue as residue_of};
 ghost use Rattle.mp_anytime.specs.Scanning.{AreFree};
 ghost use Rattle.mp_scans.specs.Exacts.{IsExact};
 ghost use Rattle.mp_anytime.specs.Rounded.{AreRounded, core_in, rounded_in, series_in, whole_in};
 
 use mp_nums::Memory;
 use mp_scans::{Exact, Plan, exact_distance};
-use mp_sums::{Change, fill_changes, first_residue, next_residue, sum_of};
+use mp_sums::{Change, ZERO, fill_changes, first_residue, next_residue, sum_of};
 use std::alloc::Global;
 
 /// How many successive pairs of a diagonal are told at once that they give nothing.
@@ -28,6 +29,21 @@ pub(crate) struct Changes<'a> {
 }
 
 impl<'a> Changes<'a> {
+    /// Those of a block's windows, from a place on.
+    #[inline]
+    fn of_block(&self, place: usize) -> Changes<'a>
+        requires { place + BLOCK ≤ length self.now.differences.now }
+        ensures places { length result.differences.now ≡ BLOCK }
+        ensures differences { (k : ℕ) → k < BLOCK
+            → item result.differences.now k ≡ item self.now.differences.now (place + k) }
+        ensures sums { (k : ℕ) → k < BLOCK → item result.sums.now k ≡ item self.now.sums.now (place + k) }
+    {
+        Changes {
+            differences: &self.differences[place..place + BLOCK],
+            sums: &self.sums[place..place + BLOCK],
+        }
+    }
+
     /// That of the window at a place.
     #[inline]
     fn at(&self, place: usize) -> Change
@@ -56,6 +72,35 @@ pub(crate) struct Rounded<'a> {
     ghost own: { plan.grid.columns.now ≡ plan.grid.rows.now },
     ghost lists: { AreRounded plan.grid.m plan.rounding.shift plan.grid.rows.now numbers.now free.now
         windows.differences.now windows.sums.now cores.differences.now cores.sums.now },
+}
+
+/// By how much residues go up where successive rows and columns move on to the next ones.
+fn fill_steps(rows: &Changes, columns: &Changes, steps: &mut [i32])
+    requires rows { length steps.old ≤ length rows.now.differences.now }
+    requires columns { length steps.old ≤ length columns.now.differences.now }
+    ensures steps { (k : ℕ) → k < length steps.new → item steps.new k ≡ moved (pos 0)
+        (item rows.now.differences.now k) (item rows.now.sums.now k)
+        (item columns.now.differences.now k) (item columns.now.sums.now k) }
+    ensures places { length steps.new ≡ length steps.old }
+{
+    for k in 0..steps.len() {
+        steps[k] = next_residue(0, rows.at(k), columns.at(k));
+    }
+}
+
+/// Puts in place of each step the residue from which it goes on, where the first one goes on from this.
+fn add_up(first: i32, steps: &mut [i32])
+    ensures residues { (r : ℕ → ℤ) → first ≡ r 0
+        → ((k : ℕ) → k < length steps.old → int_wrap w32 (r k +ℤ item steps.old k) ≡ r (k + 1))
+        → (k : ℕ) → k < length steps.new → item steps.new k ≡ r k }
+    ensures places { length steps.new ≡ length steps.old }
+{
+    let mut residue = first;
+    for k in 0..steps.len() {
+        let next = residue.wrapping_add(steps[k]);
+        steps[k] = residue;
+        residue = next;
+    }
 }
 
 impl<'a> Rounded<'a> {
@@ -110,6 +155,37 @@ impl<'a> Rounded<'a> {
         ensures { result ≡ residue_of (whole_in self.now.plan (row + 1) (row + 1 + offset)) }
     {
         next_residue(residue, self.windows.at(row), self.windows.at(row + offset))
+    }
+
+    /// The residue of a row and of the column so far behind it, from that of the core of their block.
+    fn whole_of(&self, row: usize, offset: usize, core: i32) -> i32
+        requires within { row + offset < length self.now.free.now }
+        requires core { core ≡ residue_of (core_in self.now.plan row (row + offset)) }
+        ensures { result ≡ residue_of (whole_in self.now.plan row (row + offset)) }
+    {
+        let (column, count) = (row + offset, self.plan.grid.m.min(BEHIND));
+        let behind = first_residue(
+            &self.numbers[row..row + count],
+            &self.numbers[column..column + count],
+        );
+        behind.wrapping_add(core.wrapping_sub(ZERO))
+    }
+
+    /// The residues of a block's rows, each with the column so far behind it, from that of its core.
+    pub(crate) fn fill_residues(&self, row: usize, offset: usize, core: i32, residues: &mut [i32])
+        requires places { length residues.old ≡ BLOCK }
+        requires within { row + offset + BLOCK ≤ length self.now.free.now }
+        requires core { core ≡ residue_of (core_in self.now.plan row (row + offset)) }
+        ensures residues { (k : ℕ) → k < BLOCK
+            → item residues.new k ≡ residue_of (whole_in self.now.plan (row + k) (row + k + offset)) }
+        ensures places { length residues.new ≡ BLOCK }
+    {
+        let (rows, columns) = (
+            self.windows.of_block(row),
+            self.windows.of_block(row + offset),
+        );
+        fill_steps(&rows, &columns, residues);
+        add_up(self.whole_of(row, offset, core), residues);
     }
 
     /// The distance of a row and a column that lack no sample, which have this residue, from what is known of their

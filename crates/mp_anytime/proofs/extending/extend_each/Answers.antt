@@ -1,4 +1,4 @@
-use Rattle.std.proofs.Common.{◌≡◌, ◌+◌, ◌-◌, ◌<◌, ◌∙◌, arith, get_or, length, refl, subst, sym}
+use Rattle.std.proofs.Common.{◌≡◌, ◌+◌, ◌-◌, ◌∙◌, arith, get_or, refl, subst, sym}
 use Rattle.std.proofs.Common.{take}
 use Rattle.std.specs.Prelude.{List}
 use Rattle.mp_nums.specs.declared.samples.Sample.{Sample}

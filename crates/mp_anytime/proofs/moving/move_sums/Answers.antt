@@ -1,4 +1,4 @@
-use Rattle.std.proofs.Common.{◌≡◌, ℕ, ◌+◌, ◌-◌, ◌<◌, ◌++◌, ◌∙◌, List, ap, arith, drop}
+use Rattle.std.proofs.Common.{◌≡◌, ℕ, ◌-◌, ◌∙◌, List, ap, arith, drop}
 use Rattle.std.proofs.Common.{get_or, length, sym, subst, take}
 use Rattle.mp_series.specs.Samples.{numbers_in}
 use Rattle.mp_anytime.specs.Offers.{IsMovedSum}

@@ -1,8 +1,8 @@
-use Rattle.std.proofs.Common.{◌≡◌, ◌∙◌, ◌-◌, ap, arith, get_or, length, sym}
+use Rattle.std.proofs.Common.{◌∙◌, ◌-◌, ap, arith, get_or}
 use Rattle.std.specs.Prelude.{None}
 use Rattle.mp_partial.specs.Values.{Column}
 use Rattle.mp_anytime.specs.Limits.{limit_of}
-use Rattle.mp_anytime.proofs.RowPairs.{limit_is_small, quiet_row, small_limits}
+use Rattle.mp_anytime.proofs.RowPairs.{quiet_row, small_limits}
 use Rattle.mp_anytime.proofs.offers.may_give.Goals as goal
 
 pub is_below-requires : goal.is_below-requires

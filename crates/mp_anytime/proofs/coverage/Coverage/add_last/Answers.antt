@@ -1,5 +1,5 @@
-use Rattle.std.proofs.Common.{◌<◌, ◌∙◌, ap, arith, length, subst, sym}
-use Rattle.std.specs.Prelude.{List, ℕ}
+use Rattle.std.proofs.Common.{◌<◌, ap, arith, length}
+use Rattle.std.specs.Prelude.{ℕ}
 use Rattle.mp_nums.specs.Listed.{Listed}
 use Rattle.mp_series.specs.Samples.{numbers_in}
 use Rattle.mp_sums.specs.Ranges.{AreWithin}

@@ -1,4 +1,4 @@
-use Rattle.std.proofs.Common.{◌≡◌, ◌+◌, ◌-◌, ◌∙◌, arith, get_or, length, subst, sym}
+use Rattle.std.proofs.Common.{◌-◌, ◌∙◌, arith, get_or, length, subst, sym}
 use Rattle.mp_nums.specs.declared.samples.Sample.TheVariants.{Missing}
 use Rattle.mp_anytime.specs.Kept.{IsWaiting, without_last}
 use Rattle.mp_anytime.specs.Sums.{HavePlaces}

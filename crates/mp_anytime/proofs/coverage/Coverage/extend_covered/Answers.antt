@@ -1,4 +1,4 @@
-use Rattle.std.proofs.Common.{◌∙◌, arith, refl, subst}
+use Rattle.std.proofs.Common.{arith, refl, subst}
 use Rattle.std.specs.Prelude.{false}
 use Rattle.mp_defs.specs.Series.{series_of}
 use Rattle.mp_tiles.specs.Scanning.{IsScanned}

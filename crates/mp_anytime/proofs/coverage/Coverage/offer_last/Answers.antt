@@ -1,11 +1,8 @@
-use Rattle.std.proofs.Common.{◌≡◌, ℕ, ◌+◌, ◌++◌, ◌∙◌, List, ap, arith, drop, length, subst, sym}
-use Rattle.std.proofs.Common.{take}
+use Rattle.std.proofs.Common.{ℕ, ◌+◌, List, ap, arith, subst, sym}
 use Rattle.mp_defs.specs.Series.{series_of}
 use Rattle.mp_tiles.specs.Scanning.{IsScanned}
-use Rattle.mp_anytime.specs.Limits.{AreLimits}
 use Rattle.mp_anytime.specs.Offers.{IsRow, is_last_from}
 use Rattle.mp_anytime.proofs.RowPairs.{all_from}
-use Rattle.mp_anytime.proofs.Windows.{written_back}
 use Rattle.mp_anytime.proofs.coverage.Coverage.offer_last.Goals as goal
 
 pub invariant_of-row : goal.invariant_of-row

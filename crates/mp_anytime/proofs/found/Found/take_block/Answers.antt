@@ -18,7 +18,7 @@ pub refresh-requires : goal.refresh-requires
 refresh-requires c =
     let plan = c.args.rounded.now.plan in
     let new = still_for plan (is_pair_from c.args.offset c.args.row (c.args.row + 32)) c.args.self.now
-    c.take_pairs.new.self c.requires.for_these c.take_pairs.ensures in
+    c.take_each.new.self c.requires.for_these c.take_each.ensures in
     record {
       row = omega (arith, new.places.sides.right, c.args.rounded.now.lists.marks.places, c.requires.within);
       column = omega (arith, new.places.sides.left, c.args.rounded.now.lists.marks.places, c.requires.within);
@@ -27,4 +27,4 @@ refresh-requires c =
 pub returns : goal.returns
 returns c =
     subst (λ (f : Bounded). AreTaken c.args.rounded.now.plan (is_pair_from c.args.offset c.args.row (c.args.row + 32))
-    c.args.self.now f) (sym c.refresh.ensures) c.take_pairs.ensures
+    c.args.self.now f) (sym c.refresh.ensures) c.take_each.ensures

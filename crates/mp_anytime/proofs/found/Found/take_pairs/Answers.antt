@@ -1,4 +1,4 @@
-use Rattle.std.proofs.Common.{◌≡◌, ℕ, ◌+◌, ◌-◌, ◌∙◌, arith, refl, rules, subst, sym, w32}
+use Rattle.std.proofs.Common.{◌≡◌, ◌+◌, ◌-◌, ◌∙◌, arith, refl, rules, subst, sym, w32}
 use Rattle.std.proofs.Common.{FitsSigned}
 use Rattle.std.proofs.lemmas.Int.{to_z-of_z}
 use Rattle.mp_anytime.specs.Scanning.{is_pair_from}
@@ -6,11 +6,8 @@ use Rattle.mp_anytime.specs.Rounded.{rounded_in, series_in}
 use Rattle.mp_anytime.specs.Bounds.{AreTaken}
 use Rattle.mp_scans.specs.Exacts.{IsExact}
 use Rattle.mp_anytime.proofs.Moves.{residue_at}
-use Rattle.mp_anytime.proofs.Quiet.{none_taken, one_taken, still_for, taken_on}
+use Rattle.mp_anytime.proofs.Quiet.{behind, none_taken, one_taken, still_for, taken_on}
 use Rattle.mp_anytime.proofs.found.Found.take_pairs.Goals as goal
-
-behind : (row k offset : ℕ) → row + k + offset - (row + k) ≡ offset
-behind row k offset = omega arith
 
 pub take_pair-requires-clause-exact : goal.take_pair-requires-clause-exact
 take_pair-requires-clause-exact c =
