@@ -18,7 +18,7 @@ mod vectors;
 
 pub use laws::{core_is_below, floors_are_safe, groups_are_below, square_of_sum_is_below};
 pub use scans::scan_apart;
-pub use seeds::{Seeds, scan_seeds};
+pub use seeds::{Seeds, Seeking, scan_seeds};
 pub use sides::{RowsFrom, scan_apart_from, scan_by_sums_from};
 pub use summed::{Summed, SummedBoth};
 pub use sums::{Coarse, MOST_GRAINS, NO_NEED, Side, Units};

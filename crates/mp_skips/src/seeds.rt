@@ -6,7 +6,7 @@ ghost use Rattle.mp_scans.specs.Windows.{row_windows, column_windows, FitIn, Are
 ghost use Rattle.mp_skips.specs.Levels.{squares_in};
 ghost use Rattle.mp_skips.specs.Seeds.{IsAhead};
 
-use crate::mates::{Mate, Mates, Sought, find_mates};
+use crate::mates::{Search, Sought};
 use crate::pairs::{Stretch, offer_pair};
 use crate::scans::{count_columns, count_rows};
 use crate::sums::Coarse;
@@ -18,33 +18,60 @@ use std::simd::prelude::*;
 /// How many pairs of a diagonal are compared around one that is likely near, at most.
 const AROUND: usize = 256;
 
+/// What workers look for side by side, a share each. Nothing is promised of what they find.
+pub trait Seeking: Drop + Send {
+    /// How many pairs of windows are compared, or some more.
+    fn pairs(&self) -> u64;
+
+    /// Looks for a share, of so many shares. It takes no memory.
+    fn find(&mut self, share: u32, shares: u32);
+
+    /// Takes what another one has found. It takes no memory.
+    fn merge(&mut self, other: &Self);
+}
+
 /// Pairs of windows of two series that are likely near, by coarse sums: for one of as many rows as a sum has samples a
-/// column behind it, and for one of as many columns a row before it, some 4 bytes for a window at most.
+/// column behind it, and for one of as many columns a row before it, some 4 bytes for a window at most. They have to be
+/// found.
 #[derive(Drop)]
 pub struct Seeds {
-    mates: Vec<Mates>,
+    search: Search,
 }
 
 impl Seeds {
     /// Those that start at least `first` places after one another.
     pub fn of(alloc: Global, coarse: &Coarse, first: usize) -> Result<Seeds, Memory> {
         Ok(Seeds {
-            mates: find_mates(alloc, coarse, Sought::Both, first)?,
+            search: Search::new(alloc, coarse, Sought::Both, first)?,
         })
     }
 
     /// Those of rows alone, whose columns start at least `first` places behind them.
     pub fn of_rows(alloc: Global, coarse: &Coarse, first: usize) -> Result<Seeds, Memory> {
         Ok(Seeds {
-            mates: find_mates(alloc, coarse, Sought::Rows, first)?,
+            search: Search::new(alloc, coarse, Sought::Rows, first)?,
         })
     }
 
     /// Those of columns alone, whose rows start at least `first` places before them.
     pub fn of_columns(alloc: Global, coarse: &Coarse, first: usize) -> Result<Seeds, Memory> {
         Ok(Seeds {
-            mates: find_mates(alloc, coarse, Sought::Columns, first)?,
+            search: Search::new(alloc, coarse, Sought::Columns, first)?,
         })
+    }
+}
+
+impl Seeking for Seeds {
+    fn pairs(&self) -> u64 {
+        self.search.pairs()
+    }
+
+    fn find(&mut self, share: u32, shares: u32) {
+        self.search.find(share, shares);
+    }
+
+    fn merge(&mut self, other: &Seeds) {
+        self.search.merge(&other.search);
     }
 }
 
@@ -155,15 +182,28 @@ fn scan_around<O: Offers>(
     scan_behind::<O>(coarse, &stretch, first, trail, into);
 }
 
+/// A column, and the sum that tells how near it is.
+#[derive(Clone, Copy)]
+struct Nearest {
+    sum: u64,
+    column: usize,
+}
+
 /// Takes the nearest of the columns of eight successive diagonals, by coarse sums, if it is nearer.
-fn take_of_eight(coarse: &Coarse, row: usize, column: usize, nearest: &mut Mate)
+fn take_of_eight(coarse: &Coarse, row: usize, column: usize, nearest: &mut Nearest)
     requires row { row < row_windows coarse.now.plan.grid }
     requires column { column < column_windows coarse.now.plan.grid }
 {
     let mut sums = u64x8::splat(0);
     coarse.diagonal_sums(row, column, &mut sums);
     for l in 0..8 {
-        nearest.take(sums.as_array()[l], column + l);
+        let sum = sums.as_array()[l];
+        if sum < nearest.sum {
+            *nearest = Nearest {
+                sum,
+                column: column + l,
+            };
+        }
     }
 }
 
@@ -172,14 +212,17 @@ fn nearest_column(coarse: &Coarse, row: usize, column: usize) -> usize
     requires row { row < row_windows coarse.now.plan.grid }
 {
     let columns = count_columns(coarse);
-    let mut nearest = Mate::none();
+    let mut nearest = Nearest {
+        sum: u64::MAX,
+        column: 0,
+    };
     for e in 0..coarse.rows.units.eights {
         let place = column.wrapping_add(8 * e);
         if place < columns {
             take_of_eight(coarse, row, place, &mut nearest);
         }
     }
-    nearest.place
+    nearest.column
 }
 
 /// Offers a row and a column that are likely near to each other, or one near it, and those around them. Where they
@@ -236,23 +279,23 @@ pub fn scan_seeds<O: Offers>(
     ensures fits { FitIn O.fits coarse.now.plan.grid into.new }
 {
     let step = 8 * coarse.rows.units.eights;
-    let count = seeds.mates.len();
+    let count = seeds.search.mates.len();
     let mut later = Trail { behind: 0, end: 0 };
     let mut earlier = Trail { behind: 0, end: 0 };
     for k in start_of(share, shares, count)..start_of(share + 1, shares, count) {
-        let mates = seeds.mates[k];
+        let mates = seeds.search.mates[k];
         let place = k.wrapping_mul(step);
         scan_seed::<O>(
             coarse,
             place,
-            mates.later.place.wrapping_mul(step),
+            (mates.later.place as usize).wrapping_mul(step),
             first,
             &mut later,
             into,
         );
         scan_seed::<O>(
             coarse,
-            mates.earlier.place.wrapping_mul(step),
+            (mates.earlier.place as usize).wrapping_mul(step),
             place,
             first,
             &mut earlier,

@@ -7,5 +7,6 @@ pub mod SideLemmas
 pub mod RowLemmas
 pub mod PlanLemmas
 pub mod NearLemmas
+pub mod RowPartLemmas
 pub mod SeedLemmas
 pub mod JoinedLemmas

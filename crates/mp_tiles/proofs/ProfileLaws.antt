@@ -1,10 +1,7 @@
 -- Tiles make the profile.
-use Rattle.std.proofs.Common.{◌≡◌, ℕ, ◌+◌, ◌<◌, List, [], ◌∷◌, length, get_or, Bool, false, refl, sym, ap, ◌∙◌}
-use Rattle.std.proofs.Common.{arith, subst}
-use Rattle.std.specs.Prelude.{Option, ◌&&◌, ◌||◌, nat_lt, if◌then◌else◌, map, count_by}
+use Rattle.std.proofs.Common.{◌≡◌, ℕ, ◌<◌, List, [], ◌∷◌, length, get_or, Bool, false, refl, sym, ap, ◌∙◌}
+use Rattle.std.specs.Prelude.{Option, ◌&&◌, ◌||◌, nat_lt, map}
 use Rattle.std.specs.List.{range_with_len}
-use Rattle.std.specs.Int.{abs_diff}
-use Rattle.std.proofs.lemmas.Bool.Decides.{nat_tests}
 use Rattle.mp_nums.specs.declared.nearest.Near.{Near}
 use Rattle.mp_defs.specs.Series.{Series}
 use Rattle.mp_defs.specs.Window.{excl, is_allowed}
@@ -16,7 +13,6 @@ use Rattle.mp_cuts.specs.declared.cuts.Tile.{Tile}
 use Rattle.mp_cuts.specs.Pairs.{has_pair, no_tile}
 use Rattle.mp_cuts.specs.Cutting.{own_tiles}
 use Rattle.mp_cuts.specs.Laws.{HoldEachOnce}
-use Rattle.mp_cuts.specs.CutLaws.{cuts_hold_each_pair_once}
 use Rattle.mp_tiles.specs.Among.{either_way, profile_among, columns_value}
 use Rattle.mp_tiles.specs.Laws.{tiles_value, TilesMakeTheProfile}
 use Rattle.mp_tiles.specs.OfferingLaws.{and_either}
@@ -29,7 +25,7 @@ same_value : (a b c a' b' c' : List (Option Near)) → a ≡ a' → b ≡ b' →
     → ◌≡◌ {A = Value} (a ∷ b ∷ c ∷ []) (a' ∷ b' ∷ c' ∷ [])
 same_value a b c a' b' c' e f g = cc
 
-value_same : (p q : ℕ → ℕ → Bool) (m : ℕ) (a : Series)
+pub value_same : (p q : ℕ → ℕ → Bool) (m : ℕ) (a : Series)
     → ((i j : ℕ) → i < windows_of m a → j < windows_of m a → p i j ≡ q i j)
     → columns_value (profile p m a) ≡ columns_value (profile q m a)
 value_same p q m a same = same_value _ _ _ _ _ _
@@ -53,7 +49,7 @@ value_either p q m a = same_value _ _ _ _ _ _
     (λ i j _ _. sym (and_either (p i j) (q i j) (nat_lt i j)))
     ∙ columns_by_choice.either m (λ i j. p i j && nat_lt i j) (λ i j. q i j && nat_lt i j) a a)
 
-value_none : (p : ℕ → ℕ → Bool) (m : ℕ) (a : Series) → ((i j : ℕ) → p i j ≡ false)
+pub value_none : (p : ℕ → ℕ → Bool) (m : ℕ) (a : Series) → ((i j : ℕ) → p i j ≡ false)
     → columns_value (profile p m a) ≡ empty_columns 3 (windows_of m a)
 value_none p m a none = same_value _ _ _ _ _ _
     (columns_by_choice.none m p a a (λ i j _ _. none i j))

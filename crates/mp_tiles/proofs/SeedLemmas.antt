@@ -8,7 +8,7 @@ use Rattle.mp_nums.specs.declared.samples.Sample.{Sample}
 use Rattle.mp_defs.specs.Series.{Series, series_of}
 use Rattle.mp_defs.specs.SeriesLaws.{series_are_of_samples}
 use Rattle.mp_defs.specs.Window.{is_allowed, windows}
-use Rattle.mp_defs.specs.Profile.{Columns, matrix_profile, windows_of, left_entry, right_entry}
+use Rattle.mp_defs.specs.Profile.{matrix_profile, windows_of, left_entry, right_entry}
 use Rattle.mp_defs.specs.ColumnLaws.{columns_by_choice, columns_have_places}
 use Rattle.mp_partial.specs.Values.{Value, HasColumns, merged_column, merged_columns, merged_below, empty_columns}
 use Rattle.mp_partial.specs.Together.{has_piece}

@@ -1,6 +1,6 @@
 -- Slots by one number each.
 use Rattle.std.specs.Prelude.{◌≡◌, ℕ, ◌+◌, ◌*◌, ◌/◌, ◌%◌, ◌<◌, ◌==◌, List, length, slice_index_or, Option, Some, None}
-use Rattle.std.specs.Prelude.{if◌then◌else◌, Bool, true, false, ℤ, pos}
+use Rattle.std.specs.Prelude.{if◌then◌else◌, ◌⊎◌, Bool, true, false, ℤ, pos}
 use Rattle.std.proofs.Common.{arith, inl, inr, sym, ap, ◌∙◌}
 use Rattle.std.proofs.lemmas.Bool.{cases_eq}
 use Rattle.std.proofs.lemmas.Bool.Decides.{nat_tests}
@@ -15,6 +15,14 @@ use Rattle.mp_tiles.specs.declared.compact.TheConstants.{NO_WINDOW}
 -- a window by its distance times the most samples, and its start, or none
 abbrev pub slot_by : ℕ → Option Near
 slot_by n = if n == NO_WINDOW then None else Some (near_at (n % MAX_SAMPLES) (n / MAX_SAMPLES))
+
+-- a slot by a word, of which the greatest one is none
+abbrev pub slot_of_word : ℕ → Option Near
+slot_of_word word = if word == 18446744073709551615 then None else slot_by word
+
+-- a word that tells a slot, or nothing
+abbrev pub IsWordOf : Option Near → ℕ → Type 0
+IsWordOf slot word = (slot_of_word word ≡ None) ⊎ (slot_of_word word ≡ slot)
 
 -- the number of a slot
 abbrev pub number_of : Option Near → ℕ

@@ -15,5 +15,6 @@ pub mod NearLaws
 pub mod PatchScanning
 pub mod PatchLaws
 pub mod Parts
+pub mod RowParts
 pub mod Ahead
 pub mod JoinedLaws

@@ -11,7 +11,7 @@ ghost use Rattle.mp_scans.specs.Firsts.{first_at};
 ghost use Rattle.mp_scans.specs.Offering.{TellsNothing};
 ghost use Rattle.mp_scans.specs.Slots.{Covers};
 ghost use Rattle.mp_partial.specs.Values.{empty_column, merged_column, offered};
-ghost use Rattle.mp_tiles.specs.Compact.{AreBounds, slot_bound};
+ghost use Rattle.mp_tiles.specs.Compact.{AreBounds, IsWordOf, slot_bound, slot_of_word};
 ghost use Rattle.mp_tiles.specs.Scanning.{taken};
 
 use crate::compact::{Compact, fill_with_copies, fill_with_none, slot_at};
@@ -222,8 +222,8 @@ fn take_at(slots: &mut [Compact], bounds: &mut [i32], place: usize, slot: &Compa
     requires place { place < length slots.old }
     requires places { length bounds.old ≡ length slots.old }
     ensures slots { slots.new ≡ taken slots.old place slot.now }
-    ensures bounds { (m shift : ℕ) → AreBounds m shift slots.old bounds.old → bound ≡ slot_bound m shift slot.now
-        → AreBounds m shift slots.new bounds.new }
+    ensures bounds { (m shift : ℕ) → AreBounds m shift slots.old bounds.old
+        → bound ≡ slot_bound m shift slot.now → AreBounds m shift slots.new bounds.new }
 {
     if slot.comes_before(&slots[place]) {
         slots[place] = slot.copy();
@@ -340,6 +340,25 @@ impl Column {
         if slot.comes_before(&self.slots.as_slice()[place]) {
             self.set(place, slot);
         }
+    }
+
+    /// Takes the slot that a word tells, if it is nearer than what stands at a place.
+    #[inline]
+    pub(crate) fn take_word(&mut self, place: usize, word: u64)
+        requires { place < length self.old.slots }
+        ensures slots { self.new.slots ≡ taken self.old.slots place (slot_of_word word) }
+        ensures room { self.new.room ≡ self.old.room }
+    {
+        self.take(place, Compact::of_word(word));
+    }
+
+    /// What stands at a place in a word.
+    #[inline]
+    pub(crate) fn word(&self, place: usize) -> u64
+        requires { place < length self.now.slots }
+        ensures { IsWordOf (slice_index_or self.now.slots place None) result }
+    {
+        self.slots.as_slice()[place].word()
     }
 
     /// A window is found for the one at a place.

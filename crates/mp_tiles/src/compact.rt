@@ -11,6 +11,9 @@ use std::marker::Model;
 /// The number that stands for no window, and comes after those of all windows.
 const NO_WINDOW: u128 = u128::MAX;
 
+/// The word that tells no window.
+pub const NO_WORD: u64 = u64::MAX;
+
 /// A slot in one number, since the scan loads slots for each row and each column of a block: the distance of the window
 /// times the most samples that a series has, and its start. So of two windows the one with the lesser number is nearer,
 /// or as near and starts first.
@@ -36,7 +39,7 @@ impl Model for Compact {
 impl Compact {
     ghost use Rattle.std.specs.Prelude.{Some, true, false};
     ghost use Rattle.mp_nums.specs.Near.{nearer_of};
-    ghost use Rattle.mp_tiles.specs.Compact.{slot_before};
+    ghost use Rattle.mp_tiles.specs.Compact.{slot_before, slot_of_word, IsWordOf};
 
     /// No window.
     #[inline]
@@ -71,6 +74,32 @@ impl Compact {
                 dist: Sq(self.number / most),
                 index: (self.number % most) as u64,
             })
+        }
+    }
+
+    /// The slot in a word that threads share, where it fits one. The greatest word tells nothing.
+    #[inline]
+    pub fn word(&self) -> u64
+        ensures { IsWordOf self.now result }
+    {
+        if self.number < u128::from(NO_WORD) {
+            self.number as u64
+        } else {
+            NO_WORD
+        }
+    }
+
+    /// The slot that a word tells.
+    #[inline]
+    pub fn of_word(word: u64) -> Compact
+        ensures { result ≡ slot_of_word word }
+    {
+        if word == NO_WORD {
+            Compact::none()
+        } else {
+            Compact {
+                number: u128::from(word),
+            }
         }
     }
 

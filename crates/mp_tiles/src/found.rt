@@ -9,6 +9,8 @@ ghost use Rattle.mp_partial.specs.Values.{HasColumns, empty_column, merged_colum
 ghost use Rattle.mp_cuts.specs.Pairs.{has_pair, IsTileBetween};
 ghost use Rattle.mp_scans.specs.Slots.{Covers};
 ghost use Rattle.mp_tiles.specs.Among.{profile_among};
+ghost use Rattle.mp_tiles.specs.Compact.{IsWordOf, slot_of_word};
+ghost use Rattle.mp_tiles.specs.Scanning.{taken};
 ghost use Rattle.mp_tiles.specs.OfferingLaws.{fits_sides, may_sides, is_scanned_sides, on_both_sides};
 ghost use Rattle.mp_tiles.specs.LimitLaws.{keeps_row_sides, keeps_column_sides, side_limits};
 ghost use Rattle.mp_tiles.specs.Pieces.{sides_value};
@@ -80,6 +82,46 @@ impl Found {
     {
         self.left.offer(j as usize, Near { dist, index: i });
         self.right.offer(i as usize, Near { dist, index: j });
+    }
+
+    /// Takes for a window the one before it that a word tells, where that is nearer.
+    #[inline]
+    pub(crate) fn take_left(&mut self, place: usize, word: u64)
+        requires { place < length self.old.left }
+        ensures left { self.new.left ≡ taken self.old.left place (slot_of_word word) }
+        ensures right { self.new.right ≡ self.old.right }
+        ensures room { self.new.room ≡ self.old.room }
+    {
+        self.left.take_word(place, word);
+    }
+
+    /// Takes for a window the one behind it that a word tells, where that is nearer.
+    #[inline]
+    pub(crate) fn take_right(&mut self, place: usize, word: u64)
+        requires { place < length self.old.left }
+        ensures left { self.new.left ≡ self.old.left }
+        ensures right { self.new.right ≡ taken self.old.right place (slot_of_word word) }
+        ensures room { self.new.room ≡ self.old.room }
+    {
+        self.right.take_word(place, word);
+    }
+
+    /// What was found for a window before it, in a word.
+    #[inline]
+    pub(crate) fn left_word(&self, place: usize) -> u64
+        requires { place < length self.now.left }
+        ensures { IsWordOf (slice_index_or self.now.left place None) result }
+    {
+        self.left.word(place)
+    }
+
+    /// What was found for a window behind it, in a word.
+    #[inline]
+    pub(crate) fn right_word(&self, place: usize) -> u64
+        requires { place < length self.now.left }
+        ensures { IsWordOf (slice_index_or self.now.right place None) result }
+    {
+        self.right.word(place)
     }
 
     /// Whether windows `i` and `j`, which starts later, may be nearer at this distance than what was found for either.
@@ -201,7 +243,8 @@ pub(crate) fn take_by_sums(coarse: &Coarse, tile: &Tile, is_tried: bool, into: &
     requires tile { IsTileBetween (zone coarse.now.plan.grid.m + 1)
         (windows_in (length coarse.now.plan.grid.rows.now) coarse.now.plan.grid.m)
         (windows_in (length coarse.now.plan.grid.rows.now) coarse.now.plan.grid.m) tile.now }
-    requires places { length into.old.left ≡ windows_in (length coarse.now.plan.grid.rows.now) coarse.now.plan.grid.m }
+    requires places { length into.old.left
+        ≡ windows_in (length coarse.now.plan.grid.rows.now) coarse.now.plan.grid.m }
     ensures value { into.new.left ∷ into.new.right ∷ [] ≡ merged_columns (into.old.left ∷ into.old.right ∷ [])
         (sides_value (profile_among (has_pair 0 tile.now) coarse.now.plan.grid.m
         (series_of coarse.now.plan.grid.rows.now))) }
@@ -219,7 +262,8 @@ pub(crate) fn take_by_sums(coarse: &Coarse, tile: &Tile, is_tried: bool, into: &
 pub(crate) fn take_seeds(coarse: &Coarse, seeds: &Seeds, share: u32, shares: u32, into: &mut Found)
     requires share { share < shares }
     requires same { coarse.now.plan.grid.columns.now ≡ coarse.now.plan.grid.rows.now }
-    requires places { length into.old.left ≡ windows_in (length coarse.now.plan.grid.rows.now) coarse.now.plan.grid.m }
+    requires places { length into.old.left
+        ≡ windows_in (length coarse.now.plan.grid.rows.now) coarse.now.plan.grid.m }
     ensures left { merged_column into.new.left
         (matrix_profile coarse.now.plan.grid.m (series_of coarse.now.plan.grid.rows.now)).left
         ≡ merged_column into.old.left

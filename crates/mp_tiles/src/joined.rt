@@ -21,7 +21,7 @@ use mp_cuts::Tile;
 use mp_nums::{Slot, Slots};
 use mp_scans::Plan;
 use mp_series::MAX_SAMPLES;
-use mp_skips::{Coarse, RowsFrom, Seeds, scan_seeds};
+use mp_skips::{Coarse, RowsFrom, Seeds, Seeking, scan_seeds};
 
 /// Offers to the rows from a group on the columns of a tile, which counts rows from there.
 fn scan_later(coarse: &Coarse, from: &RowsFrom, tile: &Tile, is_tried: bool, slots: &mut [Slot])
@@ -170,6 +170,22 @@ pub(crate) fn scan_join_by_sums(coarse: &Coarse, tile: &Tile, is_tried: bool, in
 pub struct JoinSeeds {
     pub(crate) later: Seeds,
     pub(crate) earlier: Seeds,
+}
+
+impl Seeking for JoinSeeds {
+    fn pairs(&self) -> u64 {
+        self.later.pairs().saturating_add(self.earlier.pairs())
+    }
+
+    fn find(&mut self, share: u32, shares: u32) {
+        self.later.find(share, shares);
+        self.earlier.find(share, shares);
+    }
+
+    fn merge(&mut self, other: &JoinSeeds) {
+        self.later.merge(&other.later);
+        self.earlier.merge(&other.earlier);
+    }
 }
 
 /// Offers to rows a share of the columns behind them that are likely near, of so many shares.

@@ -12,6 +12,7 @@ use mp_nums::{Memory, Sample, Slots};
 use mp_partial::{Kernel, Part, run_in_order};
 use mp_scans::Plan;
 use mp_series::{MAX_SAMPLES, MAX_WINDOW, MIN_WINDOW, windows};
+use mp_skips::Seeking;
 use mp_sums::Grid;
 use std::alloc::Global;
 use std::marker::Model;
@@ -139,7 +140,8 @@ pub fn join(alloc: Global, a: &[Sample], b: &[Sample], m: u32, tile: u32) -> Res
         Some(sums) => {
             let wide = tiles.wide(tile.max(summed_tile(tiles.size())));
             let pieces = wide.by_sums(&sums);
-            let seeds = pieces.seeds(alloc)?;
+            let mut seeds = pieces.seeds(alloc)?;
+            seeds.find(0, 1);
             let mut slots = Slots::unit(alloc, pieces.size())?;
             pieces.begin(&seeds, 0, 1, &mut slots);
             pieces.run_all(&mut slots);

@@ -15,6 +15,7 @@ use mp_nums::{Memory, Sample};
 use mp_partial::{Kernel, Part, Profile, run_in_order};
 use mp_scans::Plan;
 use mp_series::{MAX_SAMPLES, MAX_WINDOW, MIN_WINDOW, excl, windows};
+use mp_skips::Seeking;
 use mp_sums::Grid;
 use std::alloc::Global;
 use std::marker::Model;
@@ -65,6 +66,22 @@ impl<'a> OwnTiles<'a> {
             plan,
             cut: cut_own(count, excl(m), tile),
         }
+    }
+
+    /// The samples of the series.
+    pub fn samples(&self) -> &'a [Sample]
+        ensures is { result.now ≡ self.now.samples }
+        ensures few { length result.now ≤ MAX_SAMPLES }
+    {
+        self.plan.grid.rows
+    }
+
+    /// The length of a window.
+    pub fn window(&self) -> u32
+        ensures is { result ≡ self.now.m }
+        ensures least { 1 ≤ result }
+    {
+        self.plan.rounding.m
     }
 
     /// The tiles of the same windows of at most `tile` diagonals. It takes no memory.
@@ -144,7 +161,8 @@ fn sides_in_order(alloc: Global, samples: &[Sample], m: u32, tile: u32) -> Resul
         Some(sums) => {
             let wide = tiles.wide(tile.max(summed_tile(tiles.size())));
             let pieces = wide.by_sums(&sums);
-            let seeds = pieces.seeds(alloc)?;
+            let mut seeds = pieces.seeds(alloc)?;
+            seeds.find(0, 1);
             let mut sides = Sides::unit(alloc, pieces.size())?;
             pieces.begin(&seeds, 0, 1, &mut sides);
             pieces.run_all(&mut sides);

@@ -12,13 +12,14 @@ mod laws;
 mod limits;
 mod near;
 mod offers;
+mod parts;
 mod plans;
 mod scans;
 mod sides;
 mod summed;
 mod summed_joins;
 
-pub use compact::Compact;
+pub use compact::{Compact, NO_WORD};
 pub use joined::JoinSeeds;
 pub use joins::{JoinTiles, join};
 pub use kernels::{OwnTiles, profile};
@@ -27,7 +28,9 @@ pub use mp_cuts::{
     Cut, MAX_ROWS, MAX_TILE, MAX_TILES, Tile, cut_both, cut_own, cuts_hold_each_pair_once,
     worked_cuts,
 };
+pub use mp_skips::Seeking;
 pub use near::{Bands, NearTiles};
+pub use parts::TileParts;
 pub use scans::{scan_both, scan_own, scan_patch};
 pub use sides::Sides;
 pub use summed::{SUMMED_TILE, SummedTiles, summed_tile};

@@ -1,6 +1,6 @@
 //! The nearest windows on both sides.
 
-ghost use Rattle.std.specs.Prelude.{◌≡◌, ◌+◌, ◌<◌, ◌≤◌, [], ◌∷◌, length, None};
+ghost use Rattle.std.specs.Prelude.{◌≡◌, ◌+◌, ◌<◌, ◌≤◌, [], ◌∷◌, length, slice_index_or, None};
 ghost use Rattle.mp_defs.specs.Series.{series_of};
 ghost use Rattle.mp_defs.specs.Window.{windows as windows_in, excl as zone};
 ghost use Rattle.mp_defs.specs.Profile.{matrix_profile};
@@ -8,9 +8,12 @@ ghost use Rattle.mp_partial.specs.Values.{HasColumns, empty_column, empty_column
 ghost use Rattle.mp_partial.specs.MergeLaws.{columns_merge};
 ghost use Rattle.mp_cuts.specs.Pairs.{has_pair, IsTileBetween};
 ghost use Rattle.mp_tiles.specs.Among.{profile_among};
+ghost use Rattle.mp_tiles.specs.Compact.{IsWordOf, slot_of_word};
+ghost use Rattle.mp_tiles.specs.Scanning.{taken};
 ghost use Rattle.mp_tiles.specs.Sides.{sides_by};
 ghost use Rattle.mp_tiles.specs.Pieces.{sides_value};
 
+use crate::compact::NO_WORD;
 use crate::found::{Found, FoundRoom, take_by_sums, take_seeds, take_tile};
 use mp_cuts::Tile;
 use mp_nums::{Memory, Slots};
@@ -47,6 +50,10 @@ fn fill(room: &mut Option<FoundRoom>, found: &mut Found)
     ensures room { room.new ≡ None }
     ensures found { found.new ≡ sides_by room.old found.old }
 {
+    // mostly it is filled, and then nothing is moved
+    if room.is_none() {
+        return;
+    }
     if let Some(room) = room.take() {
         *found = room.fill();
     }
@@ -82,7 +89,8 @@ impl Sides {
             (windows_in (length plan.now.grid.rows.now) plan.now.grid.m)
             (windows_in (length plan.now.grid.rows.now) plan.now.grid.m) tile.now }
         requires places { length self.old.left ≡ windows_in (length plan.now.grid.rows.now) plan.now.grid.m }
-        ensures value { self.new.left ∷ self.new.right ∷ [] ≡ merged_columns (self.old.left ∷ self.old.right ∷ [])
+        ensures value { self.new.left ∷ self.new.right ∷ []
+            ≡ merged_columns (self.old.left ∷ self.old.right ∷ [])
             (sides_value (profile_among (has_pair 0 tile.now) plan.now.grid.m (series_of plan.now.grid.rows.now))) }
         ensures size { length self.new.left ≡ length self.old.left }
         ensures is_value { HasColumns 2 (length self.new.left) (self.new.left ∷ self.new.right ∷ []) }
@@ -100,7 +108,8 @@ impl Sides {
             (windows_in (length coarse.now.plan.grid.rows.now) coarse.now.plan.grid.m) tile.now }
         requires places { length self.old.left
             ≡ windows_in (length coarse.now.plan.grid.rows.now) coarse.now.plan.grid.m }
-        ensures value { self.new.left ∷ self.new.right ∷ [] ≡ merged_columns (self.old.left ∷ self.old.right ∷ [])
+        ensures value { self.new.left ∷ self.new.right ∷ []
+            ≡ merged_columns (self.old.left ∷ self.old.right ∷ [])
             (sides_value (profile_among (has_pair 0 tile.now) coarse.now.plan.grid.m
             (series_of coarse.now.plan.grid.rows.now))) }
         ensures size { length self.new.left ≡ length self.old.left }
@@ -132,6 +141,54 @@ impl Sides {
     {
         fill(&mut self.room, &mut self.found);
         take_seeds(coarse, seeds, share, shares, &mut self.found);
+    }
+
+    /// Takes for a window the one before it that a word tells, where that is nearer. It takes no memory.
+    #[inline]
+    pub fn take_left(&mut self, place: u64, word: u64)
+        requires { place < length self.old.left }
+        ensures left { self.new.left ≡ taken self.old.left place (slot_of_word word) }
+        ensures right { self.new.right ≡ self.old.right }
+        ensures room { self.new.room ≡ self.old.room }
+    {
+        fill(&mut self.room, &mut self.found);
+        self.found.take_left(place as usize, word);
+    }
+
+    /// Takes for a window the one behind it that a word tells, where that is nearer. It takes no memory.
+    #[inline]
+    pub fn take_right(&mut self, place: u64, word: u64)
+        requires { place < length self.old.left }
+        ensures left { self.new.left ≡ self.old.left }
+        ensures right { self.new.right ≡ taken self.old.right place (slot_of_word word) }
+        ensures room { self.new.room ≡ self.old.room }
+    {
+        fill(&mut self.room, &mut self.found);
+        self.found.take_right(place as usize, word);
+    }
+
+    /// What was found for a window before it, in a word that threads may share.
+    #[inline]
+    pub fn left_word(&self, place: u64) -> u64
+        requires { place < length self.now.left }
+        ensures { IsWordOf (slice_index_or self.now.left place None) result }
+    {
+        match &self.room {
+            Some(_) => NO_WORD,
+            None => self.found.left_word(place as usize),
+        }
+    }
+
+    /// What was found for a window behind it, in a word that threads may share.
+    #[inline]
+    pub fn right_word(&self, place: u64) -> u64
+        requires { place < length self.now.left }
+        ensures { IsWordOf (slice_index_or self.now.right place None) result }
+    {
+        match &self.room {
+            Some(_) => NO_WORD,
+            None => self.found.right_word(place as usize),
+        }
     }
 
     /// Puts what was found on the left into a column of no windows, which has room for it. It takes no memory.

@@ -1,13 +1,19 @@
 //! The tiles of a series as the pieces of a kernel that passes over blocks of pairs by coarse sums.
 
-ghost use Rattle.std.specs.Prelude.{◌≡◌, ◌+◌, ◌*◌, ◌<◌, ◌≤◌, [], ◌∷◌, length, IfOk, IfSome};
+ghost use Rattle.std.specs.Prelude.{◌≡◌, ◌+◌, ◌*◌, ◌<◌, ◌≤◌, [], ◌∷◌, All, length, slice_index_or, IfOk, IfSome};
+ghost use Rattle.mp_series.specs.declared.limits.TheConstants.{MAX_SAMPLES};
+ghost use Rattle.mp_defs.specs.Series.{series_of};
+ghost use Rattle.mp_defs.specs.Window.{excl as zone};
 ghost use Rattle.mp_partial.specs.Values.{HasColumns, merged_columns};
 ghost use Rattle.mp_cuts.specs.declared.cuts.TheConstants.{MAX_TILE};
-ghost use Rattle.mp_tiles.specs.Pieces.{own_size, own_together, own_whole};
+ghost use Rattle.mp_cuts.specs.Limits.{band_rows};
+ghost use Rattle.mp_cuts.specs.Pairs.{has_pair, no_tile, IsTileBetween};
+ghost use Rattle.mp_tiles.specs.Among.{profile_among};
+ghost use Rattle.mp_tiles.specs.Pieces.{own_size, own_together, own_whole, sides_value};
 
 use crate::kernels::OwnTiles;
 use crate::sides::Sides;
-use mp_cuts::Cut;
+use mp_cuts::{Cut, Tile};
 use mp_nums::Memory;
 use mp_partial::{Kernel, Part};
 use mp_series::{excl, windows};
@@ -122,7 +128,7 @@ impl<'a> OwnTiles<'a> {
 }
 
 impl<'a> SummedTiles<'a> {
-    /// The pairs of windows that are likely near, in some 4 bytes for a window at most.
+    /// Room for the pairs of windows that are likely near, some 4 bytes for a window at most. None of them is found yet.
     pub fn seeds(&self, alloc: Global) -> Result<Seeds, Memory> {
         Seeds::of(
             alloc,
@@ -144,6 +150,47 @@ impl<'a> SummedTiles<'a> {
         ensures room { into.new.room ≡ into.old.room }
     {
         into.take_seeds(&self.coarse, seeds, share, shares);
+    }
+
+    /// The coarse sums of the series.
+    pub(crate) fn coarse(&self) -> &Coarse<'a>
+        ensures samples { result.now.plan.grid.rows.now ≡ self.now.samples }
+        ensures m { result.now.plan.grid.m ≡ self.now.m }
+        ensures same { result.now.plan.grid.columns.now ≡ result.now.plan.grid.rows.now }
+    {
+        &self.coarse
+    }
+
+    /// The number of tiles. None of them has more rows than a band.
+    pub(crate) fn count(&self) -> u64
+        ensures is { result ≡ length self.now.tiles }
+        ensures low { All (λ tile. tile.last_row < tile.first_row + band_rows) self.now.tiles }
+    {
+        self.cut.count()
+    }
+
+    /// The tile of a piece.
+    pub(crate) fn tile(&self, piece: u64) -> Tile
+        requires { piece < length self.now.tiles }
+        ensures is { result ≡ slice_index_or self.now.tiles piece no_tile }
+        ensures between { IsTileBetween (zone self.now.m + 1) (own_size self.now) (own_size self.now) result }
+        ensures few { result.last_row < MAX_SAMPLES }
+    {
+        self.cut.tile(piece)
+    }
+
+    /// Merges what the pairs of a tile give into what there is already. It takes no memory.
+    pub(crate) fn run_tile(&self, tile: &Tile, into: &mut Sides)
+        requires tile { IsTileBetween (zone self.now.m + 1) (own_size self.now) (own_size self.now) tile.now }
+        requires size { length into.old.left ≡ own_size self.now }
+        ensures value { into.new.left ∷ into.new.right ∷ []
+            ≡ merged_columns (into.old.left ∷ into.old.right ∷ [])
+            (sides_value (profile_among (has_pair 0 tile.now) self.now.m (series_of self.now.samples))) }
+        ensures size { length into.new.left ≡ length into.old.left }
+        ensures is_value { HasColumns 2 (length into.new.left) (into.new.left ∷ into.new.right ∷ []) }
+        ensures room { into.new.room ≡ into.old.room }
+    {
+        into.take_by_sums(&self.coarse, tile, self.is_tried);
     }
 
     /// Merges the values of all tiles into what there is already, one after another. It takes no memory.
@@ -198,6 +245,6 @@ impl<'a> Kernel for SummedTiles<'a> {
     }
 
     fn run(&self, piece: u64, into: &mut Sides) {
-        into.take_by_sums(&self.coarse, &self.cut.tile(piece), self.is_tried);
+        self.run_tile(&self.tile(piece), into);
     }
 }

@@ -7,3 +7,4 @@ pub mod SeedLemmas
 pub mod Numbers
 pub mod Whole
 pub mod Merging
+pub mod Entering

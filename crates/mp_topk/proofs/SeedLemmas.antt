@@ -1,5 +1,5 @@
 -- Pairs that are offered ahead of all others leave the ranks of all windows as they are.
-use Rattle.std.proofs.Common.{◌≡◌, ℕ, ◌+◌, ◌<◌, ◌≤◌, List, length, map, Bool, refl, sym, ap, ◌∙◌, arith}
+use Rattle.std.proofs.Common.{◌≡◌, ℕ, ◌+◌, ◌≤◌, List, length, map, Bool, refl, sym, ap, ◌∙◌, arith}
 use Rattle.std.specs.Prelude.{◌||◌, nat_lt}
 use Rattle.std.specs.Int.{abs_diff}
 use Rattle.std.proofs.lemmas.Bool.Decides.{nat_tests}
@@ -7,11 +7,10 @@ use Rattle.mp_nums.specs.declared.samples.Sample.{Sample}
 use Rattle.mp_defs.specs.Series.{Series, series_of}
 use Rattle.mp_defs.specs.Window.{is_allowed, windows}
 use Rattle.mp_defs.specs.Profile.{windows_of}
-use Rattle.mp_partial.specs.Values.{Value}
 use Rattle.mp_scans.specs.Offering.{in_block}
 use Rattle.mp_tiles.specs.Among.{either_way}
 use Rattle.mp_results.specs.Ranks.{ranks_of}
-use Rattle.mp_topk.specs.Ranking.{HasRanks, Ranked, merged_lists, merged_ranks, no_ranks, slots_of}
+use Rattle.mp_topk.specs.Ranking.{HasRanks, Ranked, merged_lists, merged_ranks, slots_of}
 use Rattle.mp_topk.specs.RankLaws.{ranks_merge}
 use Rattle.mp_topk.specs.Taking.{lists_among}
 use Rattle.mp_topk.specs.Tiling.{among_value}

@@ -10,3 +10,4 @@ pub mod OfferLaws
 pub mod LastLaws
 pub mod Tiling
 pub mod TileLaws
+pub mod Sharing

@@ -46,7 +46,7 @@ pub at_window : (k : ℕ) (may : ℕ → ℕ → Bool) (m : ℕ) (a : Series) (i
 at_window k may m a i lt =
     get_or-map-range_with_len (ranks_among k may m a) 0 (windows_of m a) i i [] lt (omega arith)
 
-lists_same : (k : ℕ) (p q : ℕ → ℕ → Bool) (m : ℕ) (a : Series)
+pub lists_same : (k : ℕ) (p q : ℕ → ℕ → Bool) (m : ℕ) (a : Series)
     → ((i j : ℕ) → i < windows_of m a → j < windows_of m a → p i j ≡ q i j)
     → lists_among k p m a ≡ lists_among k q m a
 lists_same k p q m a same =
@@ -73,7 +73,7 @@ no_slots : (n : ℕ) → map slots_of (replicate n []) ≡ no_ranks n
 no_slots zero = refl
 no_slots (suc n) = ap (λ xs. [] ∷ xs) (no_slots n)
 
-value_none : (k : ℕ) (may : ℕ → ℕ → Bool) (m : ℕ) (a : Series) → ((i j : ℕ) → may i j ≡ false)
+pub value_none : (k : ℕ) (may : ℕ → ℕ → Bool) (m : ℕ) (a : Series) → ((i j : ℕ) → may i j ≡ false)
     → among_value k may m a ≡ no_ranks (windows_of m a)
 value_none k may m a none = ap (map slots_of) (none_listed (ranks_among k may m a) (windows_of m a)
     (λ i. ap (take k) (order_none (chosen may m a i) (windows_of m a)

@@ -30,7 +30,11 @@ fn is_vacant<const K: usize>(slots: &[Compact; K]) -> bool
 
 /// Puts a window among the others, unless it stands at this place.
 #[inline]
-fn put_unless_there<const K: usize>(slots: &mut [Compact; K], place: usize, found: Compact)
+pub(crate) fn put_unless_there<const K: usize>(
+    slots: &mut [Compact; K],
+    place: usize,
+    found: Compact,
+)
     requires place { place < K }
     requires ranked { AreRanked K slots.old }
     ensures those { those_in slots.new ≡ take K (put_if_there found (those_in slots.old)) }

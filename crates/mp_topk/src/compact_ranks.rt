@@ -9,17 +9,19 @@ ghost use Rattle.mp_sums.specs.Limits.{IsBeyond};
 ghost use Rattle.mp_topk.specs.Ranking.{AreRanked, HasRanks, lists_in, merged_lists, merged_ranks, no_ranks, put_at};
 ghost use Rattle.mp_topk.specs.Ranking.{slots_of, those_in, whole};
 ghost use Rattle.mp_topk.specs.RankLaws.{ranks_merge};
+ghost use Rattle.mp_tiles.specs.Compact.{slot_of_word};
+ghost use Rattle.mp_topk.specs.Sharing.{GivesNone, put_slot_at};
 ghost use Rattle.mp_topk.specs.TakingLaws.{GivesNothing};
 
 use crate::compact_lists::{compact_lists_of, lists_of_none};
-use crate::compact_merging::merge_slots;
+use crate::compact_merging::{merge_slots, put_unless_there};
 use crate::compact_placing::{may_gain, put_compact};
 use crate::offers::limit_at;
 use crate::ranks::MAX_RANKS;
 use mp_nums::{Memory, Near, NearList, Sq};
 use mp_partial::Part;
 use mp_sums::Limit;
-use mp_tiles::Compact;
+use mp_tiles::{Compact, NO_WORD};
 use std::alloc::Global;
 use std::marker::Model;
 use std::thread::Threads;
@@ -84,6 +86,28 @@ impl<const K: usize> CompactRanks<K> {
             i as usize,
             Compact::of(Near { dist, index: j }),
         )
+    }
+
+    /// Takes the window that a word tells for a rank of place `i`, which keeps the first `K` of it and of those found
+    /// before. It takes no memory.
+    #[inline]
+    pub(crate) fn take_word(&mut self, i: u64, rank: usize, word: u64)
+        requires place { i < length self.old.lists }
+        requires rank { rank < K }
+        ensures lists { self.new.lists ≡ put_slot_at K self.old.lists i (slot_of_word word) }
+        ensures spare { self.new.spare ≡ self.old.spare }
+    {
+        let found = Compact::of_word(word);
+        take_in_places(&mut self.places, self.size, i as usize, rank, found);
+    }
+
+    /// The window of a rank of place `i` in a word that threads may share.
+    #[inline]
+    pub(crate) fn word(&self, i: u64, rank: usize) -> u64
+        requires { rank < K }
+        ensures { GivesNone K (slice_index_or self.now.lists i []) (slot_of_word result) }
+    {
+        word_at(self.places.as_slice(), i as usize, rank)
     }
 
     /// For each place the list of its windows, made by so many workers.
@@ -186,6 +210,41 @@ fn put_place<const K: usize>(places: &mut [[Compact; K]], i: usize, found: Compa
     put_compact(&mut places[i], found);
 }
 
+/// The window of a rank in a word.
+#[inline]
+fn word_of<const K: usize>(slots: &[Compact; K], rank: usize) -> u64
+    requires rank { rank < K }
+    requires ranked { AreRanked K slots.now }
+    ensures { GivesNone K (those_in slots.now) (slot_of_word result) }
+{
+    slots[rank].word()
+}
+
+/// The window of a rank of a place in a word, which tells nothing past the last place.
+#[inline]
+fn word_at<const K: usize>(places: &[[Compact; K]], i: usize, rank: usize) -> u64
+    requires rank { rank < K }
+    requires ranked { All (AreRanked K) places.now }
+    ensures { GivesNone K (slice_index_or (map those_in places.now) i []) (slot_of_word result) }
+{
+    match places.get(i) {
+        Some(slots) => word_of(slots, rank),
+        None => NO_WORD,
+    }
+}
+
+/// Puts a slot at a place, unless it stands at a rank of it.
+#[inline]
+fn take_there<const K: usize>(places: &mut [[Compact; K]], i: usize, rank: usize, found: Compact)
+    requires place { i < length places.old }
+    requires rank { rank < K }
+    requires ranked { All (AreRanked K) places.old }
+    ensures lists { map those_in places.new ≡ put_slot_at K (map those_in places.old) i found }
+    ensures ranked { All (AreRanked K) places.new }
+{
+    put_unless_there(&mut places[i], rank, found);
+}
+
 /// Writes slots without a window behind the first places, for which there is room. It takes no memory.
 fn fill_places<const K: usize>(places: &mut Vec<[Compact; K]>, size: u64)
     requires few { K ≤ MAX_RANKS }
@@ -237,6 +296,32 @@ fn put_in_places<const K: usize>(
 {
     reach(places, size, i);
     put_place(places.as_mut_slice(), i, found);
+}
+
+/// The same of a slot that may stand at a rank of its place.
+#[inline]
+fn take_in_places<const K: usize>(
+    places: &mut Vec<[Compact; K]>,
+    size: u64,
+    i: usize,
+    rank: usize,
+    found: Compact,
+)
+    requires few { K ≤ MAX_RANKS }
+    requires room { size ≤ vec_capacity places.old }
+    requires within { length places.old.items ≤ size }
+    requires all { 0 < length places.old.items → length places.old.items ≡ size }
+    requires place { i < size }
+    requires rank { rank < K }
+    requires ranked { All (AreRanked K) places.old.items }
+    ensures lists { map those_in places.new.items
+        ≡ put_slot_at K (map those_in (whole K size places.old.items)) i found }
+    ensures ranked { All (AreRanked K) places.new.items }
+    ensures all { length places.new.items ≡ size }
+    ensures room { vec_capacity places.new ≡ vec_capacity places.old }
+{
+    reach(places, size, i);
+    take_there(places.as_mut_slice(), i, rank, found);
 }
 
 /// Puts at each place the windows of the others.

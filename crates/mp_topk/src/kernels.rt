@@ -64,6 +64,22 @@ impl<'a, const K: usize> RankTiles<'a, K> {
         }
     }
 
+    /// The samples of the series.
+    pub(crate) fn samples(&self) -> &'a [Sample]
+        ensures is { result.now ≡ self.now.samples }
+        ensures few { length result.now ≤ MAX_SAMPLES }
+    {
+        self.plan.grid.rows
+    }
+
+    /// The length of a window.
+    pub(crate) fn window(&self) -> u32
+        ensures is { result ≡ self.now.m }
+        ensures least { 1 ≤ result }
+    {
+        self.plan.rounding.m
+    }
+
     /// The tiles of the same windows of at most `tile` diagonals. It takes no memory.
     pub(crate) fn wide(&self, tile: u32) -> RankTiles<'a, K>
         requires least { 1 ≤ tile }

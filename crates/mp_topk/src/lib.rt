@@ -5,6 +5,7 @@ mod compact_lists;
 mod compact_merging;
 mod compact_placing;
 mod compact_ranks;
+mod entries;
 mod examples;
 mod kernels;
 mod laws;
@@ -15,6 +16,7 @@ mod placing;
 mod profiles;
 mod ranks;
 mod scans;
+mod shared_ranks;
 mod summed;
 
 pub use examples::{plain_ranks, tied_ranks};

@@ -10,14 +10,14 @@ ghost use Rattle.mp_topk.specs.Tiling.{ranks_together};
 use crate::compact_ranks::CompactRanks;
 use crate::kernels::RankTiles;
 use crate::ranks::MAX_RANKS;
-use crate::summed::AheadRanks;
+use crate::shared_ranks::SharedRanks;
 use mp_cuts::{MAX_TILE, MAX_TILES};
 use mp_nums::{Memory, NearList, Sample};
 use mp_outside::Gate;
 use mp_partial::{Kernel, MAX_WORKERS};
 use mp_series::{MAX_SAMPLES, MAX_WINDOW, MIN_WINDOW};
 use mp_tiles::summed_tile;
-use mp_workers::{run_all, run_begun, run_one_after_another, workers_for};
+use mp_workers::{find_seeds, run_all, run_one_after_another, run_sharing, workers_for};
 use std::alloc::Global;
 use std::thread::Threads;
 
@@ -48,13 +48,12 @@ fn run_tiles<R: Threads + Sync, G: Gate, const K: usize>(
     let windows = tiles.size();
     let workers = workers_for(windows.saturating_mul(windows) / 2, workers);
     if let Some(sums) = tiles.sums(alloc)? {
-        let wide = tiles.wide(tile.max(summed_tile(windows))).by_sums(&sums);
-        let seeds = wide.seeds(alloc)?;
-        let ahead = AheadRanks {
-            tiles: &wide,
-            seeds: &seeds,
-        };
-        return run_begun(rt, alloc, &ahead, &wide, workers, gate);
+        let wide = tiles.own(tile.max(summed_tile(windows))).by_sums(&sums);
+        let seeds = find_seeds(rt, alloc, &wide, workers)?;
+        let (parts, entries) = tiles.parts_and_entries(alloc, workers)?;
+        let wide = wide.in_parts(parts);
+        let shared = SharedRanks::of(&wide, &seeds, entries);
+        return run_sharing(rt, alloc, &shared, workers, gate);
     }
     if workers == 1 {
         return run_all(rt, alloc, tiles, tiles.pieces(), workers, gate);

@@ -102,7 +102,7 @@ one_has_run desk size together (x ∷ []) d worker one done found = (
 one_has_run desk size together (x ∷ y ∷ rest) d worker one done found = absurd (omega (arith, one))
 
 -- what the workers drew are pieces
-are_below : (pieces : ℕ) (workers : List WorkerState) → All (λ k. k < pieces) (pieces_of pieces workers)
+pub are_below : (pieces : ℕ) (workers : List WorkerState) → All (λ k. k < pieces) (pieces_of pieces workers)
 are_below pieces [] = All-nil (λ k. k < pieces)
 are_below pieces (x ∷ xs) =
     All-append (λ k. k < pieces) (pieces_among pieces x.pass.drawn) (pieces_of pieces xs)
@@ -121,19 +121,19 @@ first_is_done desk size (w ∷ ws) first is all =
     subst (IsDone desk size) same (All-head (IsDone desk size) w ws all)
 
 -- what the first worker has found changes none of what was drawn
-same_drawn : (pieces : ℕ) (workers : List WorkerState) (first new : WorkerState) → slice_get workers 0 ≡ Some first
+pub same_drawn : (pieces : ℕ) (workers : List WorkerState) (first new : WorkerState) → slice_get workers 0 ≡ Some first
     → new.pass ≡ first.pass → pieces_of pieces (slice_set workers 0 new) ≡ pieces_of pieces workers
 same_drawn pieces [] first new is same = refl
 same_drawn pieces (w ∷ ws) first new is same =
     let old : w ≡ first = cc in
     ap (λ pass. pieces_among pieces pass.drawn ++ pieces_of pieces ws) (same ∙ ap (λ v. v.pass) (sym old))
 
-first_set : (workers : List WorkerState) (first new : WorkerState) → slice_get workers 0 ≡ Some first
+pub first_set : (workers : List WorkerState) (first new : WorkerState) → slice_get workers 0 ≡ Some first
     → slice_get (slice_set workers 0 new) 0 ≡ Some new
 first_set [] first new is = absurd (cc)
 first_set (w ∷ ws) first new is = refl
 
-first_of_both : (low high : List WorkerState) (first : WorkerState) → slice_get low 0 ≡ Some first
+pub first_of_both : (low high : List WorkerState) (first : WorkerState) → slice_get low 0 ≡ Some first
     → slice_get (low ++ high) 0 ≡ Some first
 first_of_both [] high first is = absurd (cc)
 first_of_both (w ∷ ws) high first is = is
@@ -262,7 +262,7 @@ among_workers pieces (x ∷ xs) k =
     either false m n = refl
 
 -- once one of them has drawn a number past the pieces, the workers of a closed desk have drawn each piece
-all_drawn : (pieces next : ℕ) (workers : List WorkerState)
+pub all_drawn : (pieces next : ℕ) (workers : List WorkerState)
     → ((x : ℕ) → sum_by (λ worker. times x worker.pass.drawn) workers ≡ once_below next x) → pieces < next
     → HaveSamePieces (pieces_of pieces workers) (range_with_len 0 pieces)
 all_drawn pieces next workers once past k =
@@ -279,7 +279,7 @@ pub past_next : (next last : ℕ) → 1 ≤ once_below next last → last < next
 past_next next last le = grind (arith, nat_tests)
 
 -- the first of some workers has drawn no more of a number than all of them
-first_within : (workers : List WorkerState) (first : WorkerState) (x : ℕ) → slice_get workers 0 ≡ Some first
+pub first_within : (workers : List WorkerState) (first : WorkerState) (x : ℕ) → slice_get workers 0 ≡ Some first
     → times x first.pass.drawn ≤ sum_by (λ worker. times x worker.pass.drawn) workers
 first_within [] first x is = absurd (cc)
 first_within (w ∷ ws) first x is =

@@ -33,9 +33,9 @@ pub trait Begin: Sync {
 
 /// A share by its number, and how many there are.
 #[derive(Clone, Copy)]
-struct Share {
-    number: u32,
-    of: u32,
+pub(crate) struct Share {
+    pub(crate) number: u32,
+    pub(crate) of: u32,
 }
 
 /// Finds a share for each of some parts, from one on, side by side. The first part then has what all of them found.

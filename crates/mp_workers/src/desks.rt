@@ -33,7 +33,7 @@ use std::marker::Model;
 #[derive(Drop)]
 pub struct Desk {
     table: Table<(), PassView, u64, FairRule, Global>,
-    pieces: u64,
+    pub(crate) pieces: u64,
 }
 
 impl Model for Desk {

@@ -1,27 +1,35 @@
 //! Profiles and joins that workers compute side by side.
 
-ghost use Rattle.std.specs.Prelude.{◌≡◌, ◌≤◌, [], ◌∷◌, length, IfOk};
+ghost use Rattle.std.specs.Prelude.{◌≡◌, ◌≤◌, [], ◌∷◌, length, IfOk, IfSome};
 ghost use Rattle.mp_defs.specs.Series.{series_of};
 ghost use Rattle.mp_defs.specs.Profile.{matrix_profile, ab_join};
 ghost use Rattle.mp_tiles.specs.Pieces.{own_size, own_together, sides_value, join_together};
+ghost use Rattle.mp_workers.specs.SharedTiles.{series_in};
 
 use crate::begins::Begin;
 use crate::columns::profile_of;
+use crate::entries::Entries;
+use crate::seeks::{find_all, find_seeds};
+use crate::shared_tiles::SharedTiles;
+use crate::sharing::run_sharing;
 use crate::teams::{run_all, run_begun, run_one_after_another};
 use mp_nums::{Memory, Sample, Slots};
 use mp_outside::Gate;
 use mp_partial::{Kernel, MAX_WORKERS, Profile};
 use mp_series::{MAX_SAMPLES, MAX_WINDOW, MIN_WINDOW};
-use mp_skips::Seeds;
+use mp_skips::Seeking;
 use mp_tiles::{
-    JoinSeeds, JoinTiles, MAX_TILE, MAX_TILES, OwnTiles, Sides, SummedJoin, SummedTiles,
-    summed_tile,
+    JoinSeeds, JoinTiles, MAX_TILE, MAX_TILES, OwnTiles, Sides, SummedJoin, summed_tile,
 };
 use std::alloc::Global;
 use std::thread::Threads;
 
 /// For how many pairs of windows a worker is started. Fewer pairs take less time than the start of a thread.
 const PAIRS_FOR_A_WORKER: u64 = 262_144;
+
+/// In how many parts a tile with the most rows is cut for several workers, so that they stand at different rows: what
+/// one finds while another compares the same rows comes too late for it.
+const PARTS: u32 = 16;
 
 /// How many of the workers so many pairs of windows are worth, at least one. Where there are few pairs, another thread
 /// takes more time than it saves.
@@ -36,27 +44,6 @@ pub fn workers_for(pairs: u64, workers: u32) -> u32
 /// How many pairs of a sample of one series and a sample of another there are.
 fn pairs(first: &[Sample], second: &[Sample]) -> u64 {
     (first.len() as u64).saturating_mul(second.len() as u64)
-}
-
-/// The pairs of windows of a series that are likely near.
-#[derive(Drop)]
-struct Ahead<'a> {
-    tiles: &'a SummedTiles<'a>,
-    seeds: &'a Seeds,
-}
-
-impl<'a> Begin for Ahead<'a> {
-    ghost use Rattle.mp_tiles.specs.Pieces.{own_size, own_whole};
-
-    type Out = Sides;
-
-    ghost size_of = { λ ahead. own_size ahead.tiles.now };
-
-    ghost whole = { λ ahead. own_whole ahead.tiles.now };
-
-    fn begin(&self, share: u32, shares: u32, into: &mut Sides) {
-        self.tiles.begin(self.seeds, share, shares, into);
-    }
 }
 
 /// Both sides of the matrix profile of the tiles' samples. Where tiles are scanned in coarse sums, each worker begins
@@ -88,18 +75,36 @@ fn both_sides<R: Threads + Sync, G: Gate>(
         let wide = tiles
             .wide(tile.max(summed_tile(tiles.size())))
             .by_sums(&sums);
-        let seeds = wide.seeds(alloc)?;
-        let ahead = Ahead {
-            tiles: &wide,
-            seeds: &seeds,
-        };
-        return run_begun(rt, alloc, &ahead, &wide, workers, gate);
+        let seeds = find_seeds(rt, alloc, &wide, workers)?;
+        let (parts, entries) = parts_and_entries(alloc, tiles, workers)?;
+        let wide = wide.in_parts(parts);
+        let shared = SharedTiles::of(&wide, &seeds, entries);
+        return run_sharing(rt, alloc, &shared, workers, gate);
     }
     if workers == 1 {
         return run_all(rt, alloc, tiles, tiles.pieces(), workers, gate);
     }
     let near = tiles.near(workers);
     run_one_after_another(rt, alloc, &near, &near.others(tile), workers, gate)
+}
+
+/// In how many parts the rows of tiles are cut, and the entries of their series. One worker shares with nobody.
+fn parts_and_entries<'a>(
+    alloc: Global,
+    own: &OwnTiles<'a>,
+    workers: u32,
+) -> Result<(u32, Option<Entries<'a>>), Memory>
+    ensures least { IfOk result (λ made. 1 ≤ made.0) }
+    ensures greatest { IfOk result (λ made. made.0 ≤ PARTS) }
+    ensures of_series { IfOk result (λ made. IfSome made.1 (λ e. e ≡ series_in own.now)) }
+{
+    if workers == 1 {
+        return Ok((1, None));
+    }
+    Ok((
+        PARTS,
+        Some(Entries::new(alloc, own.samples(), own.window())?),
+    ))
 }
 
 /// The matrix profile of the samples at window length `m`, computed in tiles of at most `tile` diagonals by so many
@@ -129,6 +134,28 @@ pub fn self_join<R: Threads + Sync, G: Gate>(
     let workers = workers_for(pairs(samples, samples) / 2, workers);
     let sides = both_sides(rt, alloc, &tiles, tile, workers, gate)?;
     Ok(profile_of(rt, &sides, workers, room))
+}
+
+/// The pairs of windows of two series that are likely near, looked for by so many workers side by side. Where there are
+/// few pairs to compare, fewer do.
+fn find_join_seeds<R: Threads + Sync>(
+    rt: &R,
+    alloc: Global,
+    tiles: &SummedJoin,
+    workers: u32,
+) -> Result<JoinSeeds, Memory>
+    requires some { 1 ≤ workers }
+    requires few { workers ≤ MAX_WORKERS }
+{
+    let first = tiles.seeds(alloc)?;
+    let workers = workers_for(first.pairs(), workers);
+    let mut some = Vec::with_capacity(alloc, workers as usize)?;
+    some.push(first)?;
+    for _ in 1..workers {
+        some.push(tiles.seeds(alloc)?)?;
+    }
+    find_all(rt, some.as_mut_slice());
+    Ok(some.swap_remove(0))
 }
 
 /// The pairs of windows of two series that are likely near.
@@ -176,7 +203,7 @@ fn nearest_of_other<R: Threads + Sync, G: Gate>(
         let wide = tiles
             .wide(tile.max(summed_tile(tiles.size())))
             .by_sums(&sums);
-        let seeds = wide.seeds(alloc)?;
+        let seeds = find_join_seeds(rt, alloc, &wide, workers)?;
         let ahead = AheadOfJoin {
             tiles: &wide,
             seeds: &seeds,

@@ -4,10 +4,12 @@ ghost use Rattle.std.specs.Prelude.{◌≡◌, ℕ, ◌+◌, ◌-◌, ◌<◌, �
 ghost use Rattle.std.specs.Prelude.{slice_get, slice_set, Some};
 ghost use Rattle.mp_partial.specs.Values.{Value};
 ghost use Rattle.mp_workers.specs.Desks.{pieces_among, times};
+ghost use Rattle.mp_workers.specs.Sharing.{HasPieces, IsReadyToShare};
 ghost use Rattle.mp_workers.specs.Teams.{IsDone, IsReady, WorkerState, with_first_of, with_pieces};
 
 use crate::desks::Desk;
 use crate::passes::Pass;
+use crate::sharing::Sharing;
 use mp_nums::Memory;
 use mp_outside::Gate;
 use mp_partial::{Kernel, MAX_WORKERS, Part};
@@ -18,6 +20,8 @@ use std::marker::Model;
 #[derive(Drop)]
 pub(crate) struct Worker<P: Part> {
     number: u32,
+    /// How many workers there are.
+    of: u32,
     pass: Pass,
     found: P,
 }
@@ -40,10 +44,23 @@ impl<P: Part> Worker<P> {
         requires ready { IsReady desk.now (K.size_of kernel.now) self.old.found self.old }
         requires pieces { desk.now.pieces ≤ K.pieces_of kernel.now }
         ensures done { IsDone desk.now (K.size_of kernel.now) self.new }
-        ensures found { self.new.found ≡ with_pieces P.merged (P.unit_of (K.size_of kernel.now)) (K.value_of kernel.now)
-            self.old.found (pieces_among desk.now.pieces self.new.pass.drawn) }
+        ensures found { self.new.found ≡ with_pieces P.merged (P.unit_of (K.size_of kernel.now))
+            (K.value_of kernel.now) self.old.found (pieces_among desk.now.pieces self.new.pass.drawn) }
     {
         desk.work(&mut self.pass, self.number, kernel, &mut self.found, gate);
+    }
+
+    /// Finds its share ahead of the pieces, and then runs pieces until none is left.
+    pub(crate) fn share<S: Sharing<Out = P>, G: Gate>(&mut self, desk: &Desk, work: &S, gate: &G)
+        requires ready { IsReadyToShare P.is_value P.merged (S.whole work.now) desk.now (S.size_of work.now) self.old }
+        requires pieces { desk.now.pieces ≤ S.pieces_of work.now }
+        ensures done { IsDone desk.now (S.size_of work.now) self.new }
+        ensures is_value { P.is_value (S.size_of work.now) self.new.found }
+        ensures found { HasPieces P.merged (S.value_of work.now) (S.whole work.now) self.new.found
+            (pieces_among desk.now.pieces self.new.pass.drawn) }
+    {
+        work.begin(self.number, self.of.max(1), &mut self.found);
+        desk.share(&mut self.pass, self.number, work, &mut self.found, gate);
     }
 }
 
@@ -68,12 +85,14 @@ pub(crate) fn hire<P: Part>(
         → All (IsReady desk.now size start) team.items) }
     ensures emptied { IfOk result (λ team. parts.new.items ≡ []) }
 {
+    let of = parts.len() as u32;
     let mut team = Vec::with_capacity(alloc, parts.len())?;
     while let Some(found) = parts.pop() {
         let number = team.len() as u32;
         let pass = desk.split(pass);
         team.push(Worker {
             number,
+            of,
             pass,
             found,
         })?;
@@ -97,7 +116,8 @@ fn join_passes<P: Part>(
         ≡ times x pass.old.drawn + sum_by (λ worker. times x worker.pass.drawn) team.items) }
     ensures count { IfOk result (λ _. length parts.new.items ≡ length parts.old.items + length team.items) }
     ensures sizes { IfOk result (λ _. (size : ℕ) → All (λ worker. worker.size ≡ size) team.items
-        → All (λ part. P.size_of part ≡ size) parts.old.items → All (λ part. P.size_of part ≡ size) parts.new.items) }
+        → All (λ part. P.size_of part ≡ size) parts.old.items
+        → All (λ part. P.size_of part ≡ size) parts.new.items) }
 {
     while let Some(worker) = team.pop() {
         let Worker {

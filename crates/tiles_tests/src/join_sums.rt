@@ -8,7 +8,7 @@ use crate::sums::{FORMS, RANGES};
 use mp_nums::{Sample, Slot, Slots};
 use mp_partial::{Kernel, Part};
 use mp_series::{MAX_SAMPLES, MAX_WINDOW, MIN_WINDOW};
-use mp_tiles::JoinTiles;
+use mp_tiles::{JoinTiles, Seeking};
 use std::process::Abort;
 use std::test::Fail;
 
@@ -32,7 +32,11 @@ fn expect_by_sums<R: Abort + AllocGlobal>(
     let tiles = JoinTiles::new(a, b, m, 100);
     let sums = tiles.sums_of(rt.alloc(), eights)?;
     let pieces = tiles.by_sums(&sums).untried();
-    let seeds = pieces.seeds(rt.alloc())?;
+    let mut seeds = pieces.seeds(rt.alloc())?;
+    let mut others = pieces.seeds(rt.alloc())?;
+    seeds.find(0, 2);
+    others.find(1, 2);
+    seeds.merge(&others);
     let mut slots = Slots::unit(rt.alloc(), pieces.size())?;
     pieces.begin(&seeds, 1, 2, &mut slots);
     pieces.begin(&seeds, 0, 2, &mut slots);

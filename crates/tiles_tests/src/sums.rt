@@ -9,7 +9,7 @@ use mp_nums::Sample;
 use mp_partial::{Kernel, Part, Profile};
 use mp_plain::Columns;
 use mp_series::{MAX_SAMPLES, MAX_WINDOW, MIN_WINDOW};
-use mp_tiles::{OwnTiles, Sides};
+use mp_tiles::{OwnTiles, Seeking, Sides};
 use std::process::Abort;
 use std::test::Fail;
 
@@ -48,7 +48,11 @@ fn expect_by_sums<R: Abort + AllocGlobal>(
     let sums = tiles.sums_of(rt.alloc(), eights)?;
     let room = Profile::with_capacity(rt.alloc(), tiles.size())?;
     let pieces = tiles.by_sums(&sums).untried();
-    let seeds = pieces.seeds(rt.alloc())?;
+    let mut seeds = pieces.seeds(rt.alloc())?;
+    let mut others = pieces.seeds(rt.alloc())?;
+    seeds.find(0, 2);
+    others.find(1, 2);
+    seeds.merge(&others);
     let mut sides = Sides::unit(rt.alloc(), pieces.size())?;
     pieces.begin(&seeds, 1, 2, &mut sides);
     pieces.begin(&seeds, 0, 2, &mut sides);

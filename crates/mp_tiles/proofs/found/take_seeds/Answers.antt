@@ -1,6 +1,6 @@
 use Rattle.std.proofs.Common.{◌≡◌, ℕ, ◌+◌, ◌<◌, List, length, Bool, refl, sym, ap, subst, ◌∙◌}
 use Rattle.mp_nums.specs.declared.samples.Sample.{Sample}
-use Rattle.mp_defs.specs.Series.{Series, series_of}
+use Rattle.mp_defs.specs.Series.{series_of}
 use Rattle.mp_defs.specs.Window.{excl, is_allowed}
 use Rattle.mp_defs.specs.Profile.{windows_of}
 use Rattle.mp_defs.specs.SeriesLaws.{series_are_of_samples}

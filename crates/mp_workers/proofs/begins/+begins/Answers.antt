@@ -1,4 +1,4 @@
-use Rattle.std.proofs.Common.{sym, arith}
+use Rattle.std.proofs.Common.{arith}
 use Rattle.mp_workers.proofs.Beginning.{both_have_begun}
 use Rattle.mp_workers.proofs.begins.+begins.Goals as goal
 

@@ -1,0 +1,169 @@
+//! Entries that workers share: for each window the nearest ones that some worker has found so far.
+
+ghost use Rattle.std.specs.Prelude.{◌≡◌, ◌+◌, ◌*◌, ◌<◌, ◌≤◌, length, slice_index_or, IfOk, None};
+ghost use Rattle.mp_series.specs.declared.limits.TheConstants.{MAX_SAMPLES};
+ghost use Rattle.mp_workers.specs.Entries.{AreEntriesOf, Finds, HasMore, IsWithin, IsWithinColumn, Lowers};
+ghost use Rattle.mp_workers.specs.Entries.{count_of, entries_of, left_of, right_of, view_of, whole_of};
+
+use atomic_table::{Play, Table, TableRule};
+use mp_nums::{Memory, Sample, Slot};
+use mp_series::{MAX_SAMPLES, windows};
+use mp_tiles::{NO_WORD, Sides};
+use std::alloc::Global;
+use std::collections::LinkedList;
+use std::marker::Model;
+
+/// The series that entries are of, and the length of a window.
+#[derive(Drop)]
+pub struct SeriesOfEntries<'a> {
+    samples: &'a [Sample],
+    m: u32,
+}
+
+impl<'a> Model for SeriesOfEntries<'a> {
+    ghost use Rattle.mp_workers.specs.Entries.{EntriesState};
+
+    ghost Value = { EntriesState };
+
+    ghost view = { λ series. record { samples = series.samples.now; m = series.m } };
+}
+
+/// What is known of the words of entries: both sides of the profile, one behind the other. No value of it is made.
+pub struct EntriesView {
+    pub whole: LinkedList<Slot>,
+}
+
+/// What holds of the words of entries between any two steps: none tells a window that comes before the one that stands
+/// there in the profile.
+pub struct WithinRule;
+
+impl<'a> TableRule<(), EntriesView, SeriesOfEntries<'a>> for WithinRule {
+    ghost holds = { AreEntriesOf };
+
+    ghost first = { view_of };
+}
+
+/// The step that looks at a word.
+pub struct Find;
+
+impl Play<(), EntriesView> for Find {
+    ghost then = { Finds };
+}
+
+/// The step that lowers a word.
+pub struct Lower;
+
+impl Play<(), EntriesView> for Lower {
+    ghost then = { Lowers };
+}
+
+/// For each window of a series the nearest ones before it and behind it that some worker has found so far, each in a
+/// word. What a worker takes from them is within the profile, whatever the others do.
+#[derive(Drop)]
+pub(crate) struct Entries<'a> {
+    table: Table<(), EntriesView, SeriesOfEntries<'a>, WithinRule, Global>,
+}
+
+impl<'a> Model for Entries<'a> {
+    ghost use Rattle.mp_workers.specs.Entries.{AreEntries, EntriesState};
+
+    ghost Value = { EntriesState };
+
+    ghost view = { λ entries. entries.table.shared.key };
+
+    ghost invariant = { λ entries. AreEntries entries.table.shared.table_id.words entries.table.shared.key };
+}
+
+impl<'a> Entries<'a> {
+    /// Entries of the windows of length `m`, of which none is found yet. A window takes 16 bytes.
+    pub(crate) fn new(alloc: Global, samples: &'a [Sample], m: u32) -> Result<Entries<'a>, Memory>
+        requires least { 1 ≤ m }
+        requires few { length samples.now ≤ MAX_SAMPLES }
+        ensures { IfOk result (λ entries. entries ≡ entries_of samples.now m) }
+    {
+        let words = vec![in alloc; NO_WORD; 2 * windows(samples.len() as u64, m) as usize]?;
+        let series = SeriesOfEntries { samples, m };
+        let (table, _seat) = Table::of_words(alloc, words.as_slice(), &series)?;
+        Ok(Entries { table })
+    }
+
+    /// The number of windows.
+    fn len(&self) -> u64
+        ensures count { result ≡ count_of self.now }
+        ensures few { result ≤ MAX_SAMPLES }
+    {
+        self.table.word_count() as u64 / 2
+    }
+
+    /// The word at a place.
+    #[inline]
+    fn find(&self, place: u64) -> u64
+        requires { place < length (whole_of self.now) }
+        ensures { IsWithin result (slice_index_or (whole_of self.now) place None) }
+    {
+        let (word, _seat) = self.table.shared.load_new_seat::<Find>(place as usize);
+        word
+    }
+
+    /// Lowers the word at a place to another one, where it is higher.
+    #[inline]
+    fn lower(&self, place: u64, word: u64)
+        requires place { place < length (whole_of self.now) }
+        requires within { IsWithin word (slice_index_or (whole_of self.now) place None) }
+    {
+        let at = place as usize;
+        let (found, mut seat) = self.table.shared.load_new_seat::<Find>(at);
+        if word < found {
+            let _before = self.table.shared.fetch_min::<Lower>(&mut seat, at, word);
+        }
+    }
+
+    /// Takes for the windows from one on and before another the nearest ones before them, where these are nearer than
+    /// what stands there. It takes no memory.
+    pub(crate) fn take_left(&self, from: u64, to: u64, into: &mut Sides)
+        requires size { length into.old.left ≡ count_of self.now }
+        requires within { IsWithinColumn (left_of self.now) into.old.left }
+        ensures left { HasMore (left_of self.now) into.old.left into.new.left }
+        ensures right { into.new.right ≡ into.old.right }
+        ensures room { into.new.room ≡ into.old.room }
+    {
+        for place in from..to.min(self.len()) {
+            into.take_left(place, self.find(place));
+        }
+    }
+
+    /// The same behind them.
+    pub(crate) fn take_right(&self, from: u64, to: u64, into: &mut Sides)
+        requires size { length into.old.left ≡ count_of self.now }
+        requires within { IsWithinColumn (right_of self.now) into.old.right }
+        ensures left { into.new.left ≡ into.old.left }
+        ensures right { HasMore (right_of self.now) into.old.right into.new.right }
+        ensures room { into.new.room ≡ into.old.room }
+    {
+        let count = self.len();
+        for place in from..to.min(count) {
+            into.take_right(place, self.find(count + place));
+        }
+    }
+
+    /// Tells for the windows from one on and before another what was found before them. It takes no memory.
+    pub(crate) fn tell_left(&self, from: u64, to: u64, found: &Sides)
+        requires size { length found.now.left ≡ count_of self.now }
+        requires within { IsWithinColumn (left_of self.now) found.now.left }
+    {
+        for place in from..to.min(self.len()) {
+            self.lower(place, found.left_word(place));
+        }
+    }
+
+    /// The same behind them.
+    pub(crate) fn tell_right(&self, from: u64, to: u64, found: &Sides)
+        requires size { length found.now.left ≡ count_of self.now }
+        requires within { IsWithinColumn (right_of self.now) found.now.right }
+    {
+        let count = self.len();
+        for place in from..to.min(count) {
+            self.lower(count + place, found.right_word(place));
+        }
+    }
+}
