@@ -1,5 +1,6 @@
 pub mod Digits
 pub mod Choosing
+pub mod Marks
 pub mod Stepping
 pub mod Counting
 pub mod LazyLemmas

@@ -1,6 +1,7 @@
 pub mod Scanning
 pub mod Rounded
 pub mod Bounds
+pub mod Bits
 pub mod Waiting
 pub mod Sums
 pub mod Kept

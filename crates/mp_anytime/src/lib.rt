@@ -5,6 +5,7 @@
 //! of the windows that were compared so far, as in SCRIMP, but over a set of pairs that is known.
 #![tactic(auto)]
 
+mod bits;
 mod bounds;
 mod coverage;
 mod diagonals;

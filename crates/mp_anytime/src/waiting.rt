@@ -7,6 +7,7 @@ ghost use Rattle.mp_results.specs.Reversal.{reversal as reversal_of};
 ghost use Rattle.mp_results.specs.Covering.{by_reversal, is_covered, is_uncovered, uncovered};
 ghost use Rattle.mp_anytime.specs.Waiting.{AreMarks, AreWaiting};
 
+use crate::bits::{Bits, WORD};
 use crate::reversals::{NUMBERS, reversal};
 use mp_nums::Memory;
 use mp_series::excl;
@@ -16,6 +17,9 @@ use std::marker::Model;
 /// How many places a block has.
 const PLACES: usize = 512;
 
+/// How many words the bits of a block take.
+const WORDS: usize = PLACES / WORD;
+
 /// How many blocks of places there are.
 const BLOCKS: usize = 512;
 
@@ -23,7 +27,7 @@ const BLOCKS: usize = 512;
 /// among the marked blocks alone.
 #[derive(Debug, Drop)]
 pub(crate) struct Waiting {
-    places: Vec<bool>,
+    places: Bits,
     /// Whether a diagonal may be waiting at one of the places of a block.
     marks: Vec<bool>,
 }
@@ -31,9 +35,9 @@ pub(crate) struct Waiting {
 impl Model for Waiting {
     ghost Value = { List Bool };
 
-    ghost view = { λ waiting. waiting.places.items };
+    ghost view = { λ waiting. waiting.places };
 
-    ghost invariant = { λ waiting. AreMarks waiting.places.items waiting.marks.items };
+    ghost invariant = { λ waiting. AreMarks waiting.places waiting.marks.items };
 }
 
 /// So many marks, none of which is set.
@@ -45,7 +49,7 @@ fn none_marked(alloc: Global, count: usize) -> Result<Vec<bool>, Memory>
 }
 
 /// Notes whether a diagonal waits.
-fn put(places: &mut [bool], marks: &mut [bool], diagonal: u64, is_waiting: bool)
+fn put(places: &mut Bits, marks: &mut [bool], diagonal: u64, is_waiting: bool)
     requires marks { AreMarks places.old marks.old }
     requires diagonal { diagonal < NUMBERS }
     ensures marks { AreMarks places.new marks.new }
@@ -53,41 +57,30 @@ fn put(places: &mut [bool], marks: &mut [bool], diagonal: u64, is_waiting: bool)
         ≡ (if reversal_of place == diagonal then is_waiting else slice_index_or places.old place false) }
 {
     let place = reversal(diagonal) as usize;
-    places[place] = is_waiting;
+    places.set(place, is_waiting);
     marks[place / PLACES] = is_waiting | marks[place / PLACES];
 }
 
 /// Whether a diagonal waits.
 #[inline]
-fn waits_at(places: &[bool], diagonal: u64) -> bool
+fn waits_at(places: &Bits, diagonal: u64) -> bool
     requires { length places.now ≡ NUMBERS }
     ensures { result ≡ slice_index_or places.now (reversal_of diagonal) false }
 {
-    places[reversal(diagonal) as usize]
-}
-
-/// Whether a diagonal waits at one of some places.
-fn is_any_waiting(places: &[bool]) -> bool
-    ensures { result ≡ false → (k : ℕ) → k < length places.now → slice_index_or places.now k false ≡ false }
-{
-    let mut is_any = false;
-    for k in 0..places.len() {
-        is_any = is_any | places[k];
-    }
-    is_any
+    places.at(reversal(diagonal) as usize)
 }
 
 /// Marks a block where a diagonal waits in it, and no other way.
-fn mark(places: &[bool], marks: &mut [bool], block: usize)
+fn mark(places: &Bits, marks: &mut [bool], block: usize)
     requires marks { AreMarks places.now marks.old }
     requires block { block < BLOCKS }
     ensures { AreMarks places.now marks.new }
 {
-    marks[block] = is_any_waiting(&places[PLACES * block..PLACES * block + PLACES]);
+    marks[block] = !places.is_none_marked(WORDS * block, WORDS);
 }
 
 /// Chooses the diagonal at a place, where it is waiting and fewer than `count` are chosen.
-fn choose_at(places: &[bool], place: usize, count: u64, chosen: &mut Vec<u64>) -> Result<(), Memory>
+fn choose_at(places: &Bits, place: usize, count: u64, chosen: &mut Vec<u64>) -> Result<(), Memory>
     requires place { place < length places.now }
     ensures chosen { (is_waiting : ℕ → Bool)
         → slice_index_or places.now place false ≡ is_waiting (reversal_of place)
@@ -95,7 +88,7 @@ fn choose_at(places: &[bool], place: usize, count: u64, chosen: &mut Vec<u64>) -
         → OnOk result (chosen.new.items ≡ take count (filter is_waiting (by_reversal (place + 1)))) }
     ensures few { length chosen.new.items ≤ length chosen.old.items + 1 }
 {
-    let is_chosen = places[place] & ((chosen.len() as u64) < count);
+    let is_chosen = places.at(place) & ((chosen.len() as u64) < count);
     if is_chosen {
         chosen.push(reversal(place as u64))?;
     }
@@ -103,8 +96,9 @@ fn choose_at(places: &[bool], place: usize, count: u64, chosen: &mut Vec<u64>) -
 }
 
 /// The same of all places of a block.
-fn choose_in(places: &[bool], block: usize, count: u64, chosen: &mut Vec<u64>) -> Result<(), Memory>
-    requires block { PLACES * block + PLACES ≤ length places.now }
+fn choose_in(places: &Bits, block: usize, count: u64, chosen: &mut Vec<u64>) -> Result<(), Memory>
+    requires block { block < BLOCKS }
+    requires places { PLACES * block + PLACES ≤ length places.now }
     ensures chosen { (is_waiting : ℕ → Bool)
         → ((place : ℕ) → place < length places.now
         → slice_index_or places.now place false ≡ is_waiting (reversal_of place))
@@ -120,7 +114,7 @@ fn choose_in(places: &[bool], block: usize, count: u64, chosen: &mut Vec<u64>) -
 
 /// The same, where the block is marked and fewer than `count` are chosen. Else there is nothing to choose in it.
 fn choose_marked(
-    places: &[bool],
+    places: &Bits,
     marks: &[bool],
     block: usize,
     count: u64,
@@ -143,12 +137,7 @@ fn choose_marked(
 }
 
 /// The same of all blocks.
-fn choose_from(
-    alloc: Global,
-    places: &[bool],
-    marks: &[bool],
-    count: u64,
-) -> Result<Vec<u64>, Memory>
+fn choose_from(alloc: Global, places: &Bits, marks: &[bool], count: u64) -> Result<Vec<u64>, Memory>
     requires { AreMarks places.now marks.now }
     ensures chosen { IfOk result (λ chosen. (m windows : ℕ) (covered : List ℕ)
         → AreWaiting m windows covered places.now → chosen.items ≡ take count (uncovered m windows covered)) }
@@ -167,7 +156,7 @@ impl Waiting {
         ensures { IfOk result (λ waiting. (m : ℕ) → AreWaiting m 0 [] waiting) }
     {
         Ok(Waiting {
-            places: none_marked(alloc, NUMBERS as usize)?,
+            places: Bits::none(alloc, NUMBERS as usize / WORD)?,
             marks: none_marked(alloc, BLOCKS)?,
         })
     }
@@ -192,7 +181,7 @@ impl Waiting {
         ensures places { length self.new ≡ NUMBERS }
     {
         put(
-            self.places.as_mut_slice(),
+            &mut self.places,
             self.marks.as_mut_slice(),
             diagonal,
             is_waiting,
@@ -213,7 +202,7 @@ impl Waiting {
         ensures { self.new ≡ self.old }
     {
         mark(
-            self.places.as_slice(),
+            &self.places,
             self.marks.as_mut_slice(),
             reversal(diagonal) as usize / PLACES,
         );
@@ -235,7 +224,7 @@ impl Waiting {
         ensures { (m windows : ℕ) (covered : List ℕ) → AreWaiting m windows covered self.now
             → result ≡ is_uncovered m windows covered diagonal }
     {
-        waits_at(self.places.as_slice(), diagonal)
+        waits_at(&self.places, diagonal)
     }
 
     /// The next `count` diagonals, or all that aren't covered where these are fewer.
@@ -244,6 +233,6 @@ impl Waiting {
             → AreWaiting m windows covered self.now → chosen.items ≡ take count (uncovered m windows covered)) }
         ensures few { IfOk result (λ chosen. length chosen.items ≤ NUMBERS) }
     {
-        choose_from(alloc, self.places.as_slice(), self.marks.as_slice(), count)
+        choose_from(alloc, &self.places, self.marks.as_slice(), count)
     }
 }

@@ -9,6 +9,6 @@ no_window m x = grind (arith, nat_tests)
 
 pub returns : goal.returns
 returns c = λ m. record {
-  places = c.in_ok-none_marked.ensures.places;
-  each = λ place lt. c.in_ok-none_marked.ensures.none place ∙ sym (no_window m (reversal place));
+  places = c.in_ok-none.ensures.places;
+  each = λ place lt. c.in_ok-none.ensures.none place ∙ sym (no_window m (reversal place));
 }

@@ -1,0 +1,8 @@
+use Rattle.std.proofs.Common.{◌/◌, ◌%◌, ap, get_or}
+use Rattle.std.specs.Prelude.{◌==◌}
+use Rattle.std.proofs.lemmas.Nat.Bits.{shr_and_one}
+use Rattle.mp_anytime.proofs.bits.bit_of.Goals as goal
+
+pub returns : goal.returns
+returns c =
+    ap (λ n. n == 1) (shr_and_one (get_or c.args.words.now (c.args.place / 64) 0) (c.args.place % 64))
