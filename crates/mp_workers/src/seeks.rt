@@ -12,7 +12,8 @@ use mp_tiles::SummedTiles;
 use std::alloc::Global;
 use std::thread::{Threads, join_mut};
 
-/// Looks for a share with each of some, from one share on, side by side. The first of them then has what all have found.
+/// Looks for a share with each of some, from one share on, side by side. The first of them then has what all have
+/// found.
 #[cycle(seeks)]
 fn find_some<R: Threads + Sync, S: Seeking>(rt: &R, share: &Share, some: &mut [S])
     requires some { 0 < length some.old }
