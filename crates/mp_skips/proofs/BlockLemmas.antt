@@ -11,7 +11,7 @@ use Rattle.mp_defs.specs.Series.{series_of, reading_of}
 use Rattle.mp_scans.specs.Windows.{row_windows, column_windows}
 use Rattle.mp_sums.specs.Grids.{distance_in}
 use Rattle.mp_skips.specs.declared.sums.Coarse.{Coarse}
-use Rattle.mp_skips.specs.declared.sums.TheConstants.{MOST_GRAINS, NO_NEED}
+use Rattle.mp_skips.specs.declared.sums.TheConstants.{MOST_GRAINS, MOST_SUM}
 use Rattle.mp_skips.specs.Totals.{total, gap, sum_from, squares_from, group_squares, level}
 use Rattle.mp_skips.specs.Bounds.{IsFloor}
 use Rattle.mp_skips.specs.Sums.{number_in, outside}
@@ -206,7 +206,7 @@ pub more_small : (sum t gap : ℕ) → sum ≤ t * (MOST_GRAINS * MOST_GRAINS) �
 more_small sum t gap small here =
     omega (arith, add-mul t 1 (MOST_GRAINS * MOST_GRAINS), mul-le gap gap MOST_GRAINS MOST_GRAINS here here, small)
 
-pub all_small : (sum t m : ℕ) → sum ≤ t * (MOST_GRAINS * MOST_GRAINS) → 8 * t ≤ m → m ≤ 16384 → sum < NO_NEED
+pub all_small : (sum t m : ℕ) → sum ≤ t * (MOST_GRAINS * MOST_GRAINS) → 8 * t + 8 ≤ m → m ≤ 16384 → sum < MOST_SUM
 all_small sum t m small few short = omega (arith, small, few, short)
 
 pub order_there : (coarse : Coarse) (g t : ℕ) → t < coarse.terms
@@ -217,7 +217,7 @@ order_there coarse g t tn column =
     ((column_groups coarse).each (g + coarse.rows.units.eights * (t + 1)) (column_place coarse g t tn column)).order
 
 pub sum_small : (coarse : Coarse) (sum t : ℕ) → sum ≤ t * (MOST_GRAINS * MOST_GRAINS) → t ≤ coarse.terms
-    → sum < NO_NEED
+    → sum < MOST_SUM
 sum_small coarse sum t small le =
     all_small sum t coarse.plan.grid.m small
     (omega (

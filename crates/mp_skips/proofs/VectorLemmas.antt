@@ -1,6 +1,6 @@
 -- Operations on vectors of eight numbers, lane by lane.
 use Rattle.std.proofs.Common.{◌≡◌, ℕ, zero, suc, ◌+◌, ◌-◌, ◌*◌, ◌%◌, ◌^◌, ◌<◌, ◌≤◌, List, [], ◌∷◌, length, get_or, drop}
-use Rattle.std.proofs.Common.{refl, sym, ap, ◌∙◌, arith, map, bit_and, w32, true, false, cond}
+use Rattle.std.proofs.Common.{refl, sym, ap, ◌∙◌, arith, map, bit_and, w32, w64, true, false, cond, min, max}
 use Rattle.std.specs.Prelude.{replicate}
 use Rattle.std.specs.Simd.Lanes.{zip2, chunk, fold_l, sel_l, top}
 use lib.Dec.{ltb, leb}
@@ -242,3 +242,55 @@ own_limit_is_below limits sums limit p t l b le lt x y =
 
 pub is_high : (n : ℕ) → leb 9223372036854775808 n ≡ true → 2 ^ 63 ≤ n
 is_high n e = grind (arith, nat_tests)
+
+-- ---- the lesser and the greater of two numbers
+
+-- of each two lanes the first where the first of two others is the lesser, and else the second
+chosen : (x y a b : List ℕ) (f g h k : ℕ → ℕ) → HasLanes x f → HasLanes y g → HasLanes a h → HasLanes b k
+    → HasLanes (sel_l (map (top 63) (zip2 (λ m n. cond (ltb m n) (2 ^ 64 - 1) 0) x y)) a b)
+    (λ t. cond (ltb (f t) (g t)) (h t) (k t))
+chosen x y a b f g h k p q r s =
+    let is = ap (λ ms. sel_l ms a b) (tops_compared w64 ltb x y) in
+    let l : length (zip2 ltb x y) ≡ 8 = length-zip2 ltb x y (p.count ∙ sym q.count) ∙ p.count in
+    record {
+      count = ap length is ∙ length-sel_l (zip2 ltb x y) a b (l ∙ sym r.count) (l ∙ sym s.count) ∙ l;
+      each = λ t lt. ap (λ v. get_or v t 0) is
+          ∙ get_or-sel_l (zip2 ltb x y) a b t 0 (omega (arith, l)) (omega (arith, r.count)) (omega (arith, s.count))
+          ∙ ap (λ c. cond c (get_or a t 0) (get_or b t 0))
+          (get_or-zip2 ltb x y t 0 0 false (omega (arith, p.count)) (omega (arith, q.count)))
+          ∙ ap (λ n. cond (ltb (get_or x t 0) (get_or y t 0)) n (get_or b t 0)) (r.each t lt)
+          ∙ ap (λ n. cond (ltb (get_or x t 0) (get_or y t 0)) (h t) n) (s.each t lt)
+          ∙ ap (λ n. cond (ltb n (get_or y t 0)) (h t) (k t)) (p.each t lt)
+          ∙ ap (λ n. cond (ltb (f t) n) (h t) (k t)) (q.each t lt);
+    }
+
+lesser : (x y : ℕ) → cond (ltb x y) x y ≡ min x y
+lesser x y = grind (arith, nat_tests)
+
+greater : (x y : ℕ) → cond (ltb x y) y x ≡ max x y
+greater x y = grind (arith, nat_tests)
+
+abbrev pub chosen_of : List ℕ → List ℕ → List ℕ → List ℕ → List ℕ
+chosen_of x y a b = sel_l (map (top 63) (zip2 (λ m n. cond (ltb m n) (2 ^ 64 - 1) 0) x y)) a b
+
+pub lanes_lesser : (x y : List ℕ) → length x ≡ 8 → length y ≡ 8
+    → HasLanes (chosen_of x y x y) (λ t. min (number_in x t) (number_in y t))
+lanes_lesser x y a b =
+    lanes_same _ _ _ (chosen x y x y _ _ _ _ (lanes_own x a) (lanes_own y b) (lanes_own x a) (lanes_own y b))
+    (λ t lt. lesser (number_in x t) (number_in y t))
+
+pub lanes_greater : (x y : List ℕ) → length x ≡ 8 → length y ≡ 8
+    → HasLanes (chosen_of x y y x) (λ t. max (number_in x t) (number_in y t))
+lanes_greater x y a b =
+    lanes_same _ _ _ (chosen x y y x _ _ _ _ (lanes_own x a) (lanes_own y b) (lanes_own y b) (lanes_own x a))
+    (λ t lt. greater (number_in x t) (number_in y t))
+
+no_wrap : (x y : ℕ) → x + y < 2 ^ 64 → add_64 x y ≡ x + y
+no_wrap x y lt = omega (arith, lt)
+
+pub lanes_added : (x y : List ℕ) → length x ≡ 8 → length y ≡ 8
+    → ((t : ℕ) → t < 8 → number_in x t + number_in y t < 2 ^ 64)
+    → HasLanes (zip2 add_64 x y) (λ t. number_in x t + number_in y t)
+lanes_added x y a b fits =
+    lanes_same _ _ _ (lanes_zip add_64 x y _ _ (lanes_own x a) (lanes_own y b))
+    (λ t lt. no_wrap (number_in x t) (number_in y t) (fits t lt))

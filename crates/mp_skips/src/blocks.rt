@@ -4,7 +4,7 @@ ghost use Rattle.std.specs.Prelude.{◌≡◌, ℕ, ◌+◌, ◌*◌, ◌<◌, �
 ghost use Rattle.mp_skips.specs.Sums.{number_in, outside};
 ghost use Rattle.mp_skips.specs.Lanes.{HasLanes};
 ghost use Rattle.mp_skips.specs.Blocks.{squares_outside, squares_apart, AreApart};
-ghost use Rattle.mp_skips.specs.declared.sums.TheConstants.{NO_NEED};
+ghost use Rattle.mp_skips.specs.declared.sums.TheConstants.{MOST_SUM, NO_NEED};
 
 use crate::sums::Coarse;
 use crate::vectors::{add_gaps, add_squares};
@@ -26,7 +26,7 @@ impl<'a> Coarse<'a> {
         requires row { row + self.now.plan.grid.m ≤ length self.now.plan.grid.rows.now }
         requires group { 8 * group + self.now.plan.grid.m ≤ length self.now.plan.grid.columns.now }
         ensures sum { result ≡ squares_outside self.now row group self.now.terms }
-        ensures small { result < NO_NEED }
+        ensures small { result < MOST_SUM }
     {
         let mut sum = 0;
         for t in 0..self.terms {
@@ -41,13 +41,15 @@ impl<'a> Coarse<'a> {
         sum
     }
 
-    /// The coarse sums of squares of the blocks of eight successive groups.
+    /// The coarse sums of squares of the blocks of eight successive groups. All pairs of a block reach its sum.
     #[inline(always)]
-    pub(crate) fn eight_sums(&self, row: usize, group: usize, sums: &mut u64x8)
+    pub fn eight_sums(&self, row: usize, group: usize, sums: &mut u64x8)
         requires row { row + self.now.plan.grid.m ≤ length self.now.plan.grid.rows.now }
         requires groups { 8 * group + 56 + self.now.plan.grid.m ≤ length self.now.plan.grid.columns.now }
         ensures sums { HasLanes sums.new (λ l. squares_outside self.now row (group + l) self.now.terms) }
-        ensures small { (l : ℕ) → l < 8 → number_in sums.new l < NO_NEED }
+        ensures apart { (l need : ℕ) → l < 8 → need ≤ number_in sums.new l
+            → AreApart self.now row (8 * (group + l)) 8 need }
+        ensures small { (l : ℕ) → l < 8 → number_in sums.new l < MOST_SUM }
     {
         *sums = u64x8::splat(0);
         for t in 0..self.terms {
@@ -69,7 +71,7 @@ impl<'a> Coarse<'a> {
         requires row { row + self.now.plan.grid.m ≤ length self.now.plan.grid.rows.now }
         requires columns { column + 7 + self.now.plan.grid.m ≤ length self.now.plan.grid.columns.now }
         ensures sums { HasLanes sums.new (λ u. squares_apart self.now row (column + u) self.now.terms) }
-        ensures small { (u : ℕ) → u < 8 → number_in sums.new u < NO_NEED }
+        ensures small { (u : ℕ) → u < 8 → number_in sums.new u < MOST_SUM }
     {
         *sums = u64x8::splat(0);
         for t in 0..self.terms {
@@ -86,12 +88,12 @@ impl<'a> Coarse<'a> {
 
     /// Coarse sums of squares of the rows of a block on each of eight successive diagonals, which tell nothing at the
     /// end of the columns.
-    pub(crate) fn diagonal_sums(&self, row: usize, column: usize, sums: &mut u64x8)
+    pub fn diagonal_sums(&self, row: usize, column: usize, sums: &mut u64x8)
         requires row { row + self.now.plan.grid.m ≤ length self.now.plan.grid.rows.now }
         requires column { column + self.now.plan.grid.m ≤ length self.now.plan.grid.columns.now }
         ensures lanes { length sums.new ≡ 8 }
         ensures apart { (u need : ℕ) → u < 8 → need ≤ number_in sums.new u → AreApart self.now row (column + u) 1 need }
-        ensures small { (u : ℕ) → u < 8 → number_in sums.new u < NO_NEED }
+        ensures small { (u : ℕ) → u < 8 → number_in sums.new u < MOST_SUM }
     {
         *sums = u64x8::splat(0);
         if column + 7 + self.plan.grid.m <= self.plan.grid.columns.len() {

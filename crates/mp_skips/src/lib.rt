@@ -2,6 +2,7 @@
 #![tactic(auto)]
 
 mod blocks;
+mod distances;
 mod fills;
 mod laws;
 mod levels;
@@ -17,9 +18,11 @@ mod trials;
 mod vectors;
 
 pub use laws::{core_is_below, floors_are_safe, groups_are_below, square_of_sum_is_below};
+pub use needs::need_of;
 pub use scans::scan_apart;
 pub use seeds::{Seeds, Seeking, scan_seeds};
 pub use sides::{RowsFrom, scan_apart_from, scan_by_sums_from};
-pub use summed::{Summed, SummedBoth};
-pub use sums::{Coarse, MOST_GRAINS, NO_NEED, Side, Units};
+pub use summed::{Summed, SummedBoth, units_for};
+pub use sums::{Coarse, MOST_GRAINS, MOST_SUM, NO_NEED, Side, Units};
 pub use trials::scan_by_sums;
+pub use vectors::{add_eight, order_eight};

@@ -72,7 +72,7 @@ fn need_from(coarse: &Coarse, dist: u128) -> u64
 
 /// The coarse sum that tells that a distance is beyond a limit.
 #[inline]
-fn need_of(coarse: &Coarse, limit: Limit) -> u64
+pub fn need_of(coarse: &Coarse, limit: Limit) -> u64
     ensures { IsNeedOf coarse.now limit result }
 {
     match limit {

@@ -18,7 +18,7 @@ use mp_sums::Limit;
 
 /// Whether a row and a column have a distance: no sample of either is missing.
 #[inline]
-fn are_free(coarse: &Coarse, row: usize, column: usize) -> bool
+pub(crate) fn are_free(coarse: &Coarse, row: usize, column: usize) -> bool
     requires row { row < row_windows coarse.now.plan.grid }
     requires column { column < column_windows coarse.now.plan.grid }
     ensures { IsTrue result ↔ IsSome (distance_in coarse.now.plan.grid row column) }

@@ -33,7 +33,7 @@ fn width_of(range: &Range) -> u64
 }
 
 /// The units of series whose samples lie in a range, in sums of `8 * eights` samples.
-fn units_for(range: &Range, eights: usize) -> Units
+pub fn units_for(range: &Range, eights: usize) -> Units
     requires some { 1 ≤ eights }
     requires few { eights ≤ 8 }
     ensures levels { (samples : List Sample) → AreSamplesWithin range.now samples
@@ -144,7 +144,8 @@ fn coarse_of<'a>(plan: &Plan<'a>, rows: &Side<'a>, columns: &Side<'a>) -> Coarse
     requires column_length { columns.now.m ≡ plan.now.grid.m }
     requires units { columns.now.units ≡ rows.now.units }
     requires wide { 8 * rows.now.units.eights ≤ plan.now.grid.m }
-    ensures { result.plan ≡ plan.now }
+    ensures plan { result.plan ≡ plan.now }
+    ensures units { result.rows.units ≡ rows.now.units }
 {
     Coarse {
         plan: *plan,
@@ -158,7 +159,9 @@ fn coarse_of<'a>(plan: &Plan<'a>, rows: &Side<'a>, columns: &Side<'a>) -> Coarse
 #[derive(Drop)]
 pub struct Summed<'a> {
     pub plan: Plan<'a>,
+    pub units: Units,
     lists: Lists<'a>,
+    ghost same_units: { lists.units ≡ units },
     ghost own: { plan.grid.columns.now ≡ plan.grid.rows.now },
     ghost samples: { lists.samples.now ≡ plan.grid.rows.now },
     ghost length: { lists.m ≡ plan.grid.m },
@@ -174,15 +177,30 @@ impl<'a> Summed<'a> {
         requires wide { 8 * eights ≤ plan.now.grid.m }
         ensures plan { IfOk result (λ summed. summed.plan ≡ plan.now) }
     {
-        let samples = plan.grid.rows;
-        let units = units_for(&range_of(samples), eights);
-        let lists = sum_up(alloc, samples, plan.grid.m, &units)?;
-        Ok(Summed { plan: *plan, lists })
+        let units = units_for(&range_of(plan.grid.rows), eights);
+        Summed::in_units(alloc, plan, &units)
+    }
+
+    /// The coarse sums of a plan's series in these units.
+    pub fn in_units(alloc: Global, plan: &Plan<'a>, units: &Units) -> Result<Summed<'a>, Memory>
+        requires own { plan.now.grid.columns.now ≡ plan.now.grid.rows.now }
+        requires levels { AreLevels units.now.low units.now.width (series_of plan.now.grid.rows.now) }
+        requires wide { 8 * units.now.eights ≤ plan.now.grid.m }
+        ensures plan { IfOk result (λ summed. summed.plan ≡ plan.now) }
+        ensures units { IfOk result (λ summed. summed.units ≡ units.now) }
+    {
+        let lists = sum_up(alloc, plan.grid.rows, plan.grid.m, units)?;
+        Ok(Summed {
+            plan: *plan,
+            units: *units,
+            lists,
+        })
     }
 
     /// The series with itself in coarse sums.
     pub fn coarse(&self) -> Coarse<'_>
-        ensures { result.plan ≡ self.now.plan }
+        ensures plan { result.plan ≡ self.now.plan }
+        ensures units { result.rows.units ≡ self.now.units }
     {
         coarse_of(&self.plan, &self.lists.side(), &self.lists.side())
     }

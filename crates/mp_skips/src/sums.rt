@@ -12,7 +12,10 @@ use mp_scans::Plan;
 /// window's rows and columns have 62 bits together.
 pub const MOST_GRAINS: u32 = 16_777_216;
 
-/// A coarse sum of squares that no block reaches.
+/// More than the coarse sum of squares of any block or diagonal of two series.
+pub const MOST_SUM: u64 = 576_460_752_303_423_488;
+
+/// A coarse sum of squares that no block reaches, nor do those of eight times two series together.
 pub const NO_NEED: u64 = 4_611_686_018_427_387_904;
 
 /// A unit in which numbers are rounded down: a power of two, 1 where they are left as they are.

@@ -10,10 +10,14 @@ use crate::sums::Coarse;
 use mp_scans::{Offers, scan};
 use std::simd::prelude::*;
 
-/// How many blocks of a tile are tried.
+/// How many blocks of a tile are tried, of one with few rows every second, fourth or eighth of them.
 const TRIED: usize = 128;
 
-/// How many of their diagonals may stay. One that stays takes as long as some dozen that are scanned with all others.
+/// How many rows a tile has of which all are.
+const MANY_ROWS: usize = 16_384;
+
+/// How many diagonals of so many blocks may stay. One that stays takes as long as some dozen that are scanned with all
+/// others.
 const STAYING: usize = 80;
 
 /// The need of all columns that the blocks of a group reach, to which rows from `first` on are offered.
@@ -87,15 +91,16 @@ fn are_mostly_apart<O: Offers>(
     requires columns { top + stop ≤ column_windows coarse.now.plan.grid }
 {
     let columns = count_columns(coarse);
+    let every = (MANY_ROWS / (bottom - top).max(1)).clamp(1, 8);
     let mut staying = 0;
     for n in 0..TRIED {
         let row = top + (bottom - top) / TRIED * n;
-        let behind = first + (stop - first) / 8 * (n % 8);
-        if row + behind < columns {
+        let behind = first + (stop - first) / 8 * (n / every % 8);
+        if n % every == 0 && row + behind < columns {
             staying += count_staying::<O>(coarse, row, behind, bottom, into);
         }
     }
-    staying <= STAYING
+    staying * every <= STAYING
 }
 
 /// Offers the pairs of the rows from `top` on and before `bottom` and the columns that start from `first` on and before

@@ -16,5 +16,6 @@ pub mod PatchScanning
 pub mod PatchLaws
 pub mod Parts
 pub mod RowParts
+pub mod RowPartLaws
 pub mod Ahead
 pub mod JoinedLaws

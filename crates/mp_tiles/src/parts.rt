@@ -20,7 +20,7 @@ use std::marker::Model;
 
 /// How many rows a part has, of so many in which a tile with the most rows is cut. The last one that has some may have
 /// fewer.
-fn height_of(parts: u64) -> u64
+pub fn height_of(parts: u64) -> u64
     requires { 1 ≤ parts }
     ensures is { result ≡ part_height parts }
     ensures some { 1 ≤ result }
@@ -30,7 +30,7 @@ fn height_of(parts: u64) -> u64
 }
 
 /// A part of the rows of a tile. It has none where they end before it.
-fn part_of(tile: &Tile, part: u64, height: u64) -> Tile
+pub fn part_of(tile: &Tile, part: u64, height: u64) -> Tile
     requires rows { tile.now.first_row < 2 ^ 32 }
     requires part { part < band_rows }
     requires some { 1 ≤ height }
@@ -70,7 +70,7 @@ impl<'a> Model for TileParts<'a> {
 }
 
 /// In how many parts tiles are cut of which so many are asked for: in one where there would be too many pieces.
-fn parts_for(tiles: u64, parts: u64) -> u64
+pub fn parts_for(tiles: u64, parts: u64) -> u64
     requires few { tiles ≤ MAX_PIECES }
     requires least { 1 ≤ parts }
     ensures some { 1 ≤ result }

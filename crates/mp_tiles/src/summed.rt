@@ -128,7 +128,8 @@ impl<'a> OwnTiles<'a> {
 }
 
 impl<'a> SummedTiles<'a> {
-    /// Room for the pairs of windows that are likely near, some 4 bytes for a window at most. None of them is found yet.
+    /// Room for the pairs of windows that are likely near, some 4 bytes for a window at most. None of them is found
+    /// yet.
     pub fn seeds(&self, alloc: Global) -> Result<Seeds, Memory> {
         Seeds::of(
             alloc,

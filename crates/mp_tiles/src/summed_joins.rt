@@ -95,7 +95,8 @@ impl<'a> JoinTiles<'a> {
 }
 
 impl<'a> SummedJoin<'a> {
-    /// Room for the pairs of windows that are likely near, some 4 bytes for a window at most. None of them is found yet.
+    /// Room for the pairs of windows that are likely near, some 4 bytes for a window at most. None of them is found
+    /// yet.
     pub fn seeds(&self, alloc: Global) -> Result<JoinSeeds, Memory> {
         Ok(JoinSeeds {
             later: Seeds::of_rows(alloc, &self.coarse, 0)?,

@@ -8,7 +8,8 @@ use Rattle.mp_tiles.specs.Pieces.{two_columns}
 use Rattle.mp_tiles.specs.Sides.{Sided}
 use Rattle.mp_workers.specs.SharingLaws.{one_more_run, piece_within}
 use Rattle.mp_workers.specs.SharedTiles.{AreWithinProfile, HaveMore, profile_of, series_in}
-use Rattle.mp_workers.proofs.Entering.{left_count, none_taken, right_count}
+use Rattle.mp_workers.specs.EntryLaws.{none_taken}
+use Rattle.mp_workers.proofs.Entering.{left_count, right_count}
 
 abbrev sides : Sided → Value
 sides s = s.left ∷ s.right ∷ []

@@ -4,5 +4,6 @@ pub mod Teams
 pub mod Sharing
 pub mod SharingLaws
 pub mod Entries
+pub mod EntryLaws
 pub mod SharedTiles
 pub mod DeskLaws

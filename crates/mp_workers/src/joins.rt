@@ -5,6 +5,7 @@ ghost use Rattle.mp_defs.specs.Series.{series_of};
 ghost use Rattle.mp_defs.specs.Profile.{matrix_profile, ab_join};
 ghost use Rattle.mp_tiles.specs.Pieces.{own_size, own_together, sides_value, join_together};
 ghost use Rattle.mp_workers.specs.SharedTiles.{series_in};
+ghost use Rattle.std.specs.Thread.{IsSync};
 
 use crate::begins::Begin;
 use crate::columns::profile_of;
@@ -17,12 +18,13 @@ use mp_nums::{Memory, Sample, Slots};
 use mp_outside::Gate;
 use mp_partial::{Kernel, MAX_WORKERS, Profile};
 use mp_series::{MAX_SAMPLES, MAX_WINDOW, MIN_WINDOW};
-use mp_skips::Seeking;
+use mp_skips::{Seeds, Seeking};
 use mp_tiles::{
-    JoinSeeds, JoinTiles, MAX_TILE, MAX_TILES, OwnTiles, Sides, SummedJoin, summed_tile,
+    JoinSeeds, JoinTiles, MAX_TILE, MAX_TILES, OwnTiles, Sides, SummedJoin, SummedTiles,
+    summed_tile,
 };
 use std::alloc::Global;
-use std::thread::Threads;
+use std::thread::{Threads, join};
 
 /// For how many pairs of windows a worker is started. Fewer pairs take less time than the start of a thread.
 const PAIRS_FOR_A_WORKER: u64 = 262_144;
@@ -75,9 +77,8 @@ fn both_sides<R: Threads + Sync, G: Gate>(
         let wide = tiles
             .wide(tile.max(summed_tile(tiles.size())))
             .by_sums(&sums);
-        let seeds = find_seeds(rt, alloc, &wide, workers)?;
-        let (parts, entries) = parts_and_entries(alloc, tiles, workers)?;
-        let wide = wide.in_parts(parts);
+        let (seeds, entries) = seeds_and_entries(rt, alloc, &wide, tiles, workers)?;
+        let wide = wide.in_parts(parts_for(workers));
         let shared = SharedTiles::of(&wide, &seeds, entries);
         return run_sharing(rt, alloc, &shared, workers, gate);
     }
@@ -88,23 +89,45 @@ fn both_sides<R: Threads + Sync, G: Gate>(
     run_one_after_another(rt, alloc, &near, &near.others(tile), workers, gate)
 }
 
-/// In how many parts the rows of tiles are cut, and the entries of their series. One worker shares with nobody.
-fn parts_and_entries<'a>(
+/// In how many parts the rows of tiles are cut. One worker takes them whole.
+fn parts_for(workers: u32) -> u32
+    ensures least { 1 ≤ result }
+    ensures greatest { result ≤ PARTS }
+{
+    if workers == 1 { 1 } else { PARTS }
+}
+
+/// The entries that workers share, of which none is found yet.
+fn entries_for<'a>(alloc: Global, own: &OwnTiles<'a>) -> Result<Entries<'a>, Memory>
+    ensures { IfOk result (λ e. e ≡ series_in own.now) }
+{
+    Entries::new(alloc, own.samples(), own.window())
+}
+
+/// The pairs of windows of a series that are likely near, and the entries that workers share: the ones are found while
+/// the others are made. One worker shares with nobody.
+fn seeds_and_entries<'a, R: Threads + Sync>(
+    rt: &R,
     alloc: Global,
+    wide: &SummedTiles,
     own: &OwnTiles<'a>,
     workers: u32,
-) -> Result<(u32, Option<Entries<'a>>), Memory>
-    ensures least { IfOk result (λ made. 1 ≤ made.0) }
-    ensures greatest { IfOk result (λ made. made.0 ≤ PARTS) }
-    ensures of_series { IfOk result (λ made. IfSome made.1 (λ e. e ≡ series_in own.now)) }
+) -> Result<(Seeds, Option<Entries<'a>>), Memory>
+    requires some { 1 ≤ workers }
+    requires workers { workers ≤ MAX_WORKERS }
+    ensures { IfOk result (λ made. IfSome made.1 (λ e. e ≡ series_in own.now)) }
 {
     if workers == 1 {
-        return Ok((1, None));
+        return Ok((find_seeds(rt, alloc, wide, workers)?, None));
     }
-    Ok((
-        PARTS,
-        Some(Entries::new(alloc, own.samples(), own.window())?),
-    ))
+    let front = move || -> Result<Seeds, Memory>
+        requires { IsSync R.row × (1 ≤ workers) × (workers ≤ MAX_WORKERS) }
+    { find_seeds(rt, alloc, wide, workers) };
+    let back = move || -> Result<Entries, Memory>
+        ensures { IfOk result (λ e. e ≡ series_in own.entry.now) }
+    { entries_for(alloc, own) };
+    let (seeds, entries) = join(rt, front, back);
+    Ok((seeds?, Some(entries?)))
 }
 
 /// The matrix profile of the samples at window length `m`, computed in tiles of at most `tile` diagonals by so many

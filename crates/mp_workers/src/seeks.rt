@@ -63,7 +63,7 @@ fn find_both<R: Threads + Sync, S: Seeking>(
 }
 
 /// Looks for all with some side by side, a share with each. The first of them then has what all have found.
-pub(crate) fn find_all<R: Threads + Sync, S: Seeking>(rt: &R, some: &mut [S])
+pub fn find_all<R: Threads + Sync, S: Seeking>(rt: &R, some: &mut [S])
     requires some { 0 < length some.old }
     requires few { length some.old ≤ MAX_WORKERS }
     ensures { length some.new ≡ length some.old }

@@ -104,6 +104,58 @@ impl Desk {
     }
 }
 
+/// Has the workers of a team find their shares ahead of the pieces, side by side.
+#[cycle(begin)]
+fn begin_team<R: Threads + Sync, P: Part, S: Sharing<Out = P>>(
+    rt: &R,
+    desk: &Desk,
+    work: &S,
+    team: &mut [Worker<P>],
+)
+    requires some { 0 < length team.old }
+    requires ready { AreReadyToShare P.is_value P.merged (S.whole work.now) desk.now (S.size_of work.now) team.old }
+    ensures { AreReadyToShare P.is_value P.merged (S.whole work.now) desk.now (S.size_of work.now) team.new }
+{
+    if team.len() == 1 {
+        team[0].begin(desk, work);
+        return;
+    }
+    let (low, high) = team.split_at_mut(team.len() / 2);
+    begin_halves(rt, desk, work, low, high);
+}
+
+/// Has two halves of a team find theirs, side by side.
+#[cycle(begin)]
+fn begin_halves<R: Threads + Sync, P: Part, S: Sharing<Out = P>>(
+    rt: &R,
+    desk: &Desk,
+    work: &S,
+    low: &mut [Worker<P>],
+    high: &mut [Worker<P>],
+)
+    requires some { 0 < length low.old }
+    requires others { 0 < length high.old }
+    requires ready { AreReadyToShare P.is_value P.merged (S.whole work.now) desk.now (S.size_of work.now) low.old }
+    requires others_ready { AreReadyToShare P.is_value P.merged (S.whole work.now) desk.now (S.size_of work.now)
+        high.old }
+    ensures low { AreReadyToShare P.is_value P.merged (S.whole work.now) desk.now (S.size_of work.now) low.new }
+    ensures high { AreReadyToShare P.is_value P.merged (S.whole work.now) desk.now (S.size_of work.now) high.new }
+{
+    let mut front = ||
+        requires { IsSync R.row × IsSync S.row × IsSend P.row × (0 < length low.now)
+            × AreReadyToShare P.is_value P.merged (S.whole work.now) desk.now (S.size_of work.now) low.now }
+        ensures { AreReadyToShare P.is_value P.merged (S.whole work.entry.now) desk.entry.now
+            (S.size_of work.entry.now) low.exit.now }
+    { begin_team(rt, desk, work, low) };
+    let mut back = ||
+        requires { IsSync R.row × IsSync S.row × IsSend P.row × (0 < length high.now)
+            × AreReadyToShare P.is_value P.merged (S.whole work.now) desk.now (S.size_of work.now) high.now }
+        ensures { AreReadyToShare P.is_value P.merged (S.whole work.entry.now) desk.entry.now
+            (S.size_of work.entry.now) high.exit.now }
+    { begin_team(rt, desk, work, high) };
+    join_mut(rt, &mut front, &mut back);
+}
+
 /// Runs the workers of a team side by side, until no piece is left. The first one then has the values of all pieces
 /// that they drew.
 #[cycle(sharing)]
@@ -168,6 +220,25 @@ fn share_halves<R: Threads + Sync, P: Part, S: Sharing<Out = P>, G: Gate>(
     join_mut(rt, &mut front, &mut back);
 }
 
+/// Has the workers of a team find their shares ahead of the pieces, and then run pieces until none is left: what all of
+/// them find ahead is there for each of them at its first piece.
+fn run_team<R: Threads + Sync, P: Part, S: Sharing<Out = P>, G: Gate>(
+    rt: &R,
+    desk: &Desk,
+    work: &S,
+    gate: &G,
+    team: &mut [Worker<P>],
+)
+    requires some { 0 < length team.old }
+    requires pieces { desk.now.pieces ≤ S.pieces_of work.now }
+    requires ready { AreReadyToShare P.is_value P.merged (S.whole work.now) desk.now (S.size_of work.now) team.old }
+    ensures { HaveShared P.is_value P.merged (S.value_of work.now) (S.whole work.now) desk.now (S.size_of work.now)
+        team.new }
+{
+    begin_team(rt, desk, work, team);
+    share_team(rt, desk, work, gate, team);
+}
+
 /// What all pieces have together, found by so many workers side by side that share what they find.
 pub fn run_sharing<R: Threads + Sync, P: Part, S: Sharing<Out = P>, G: Gate>(
     rt: &R,
@@ -187,7 +258,7 @@ pub fn run_sharing<R: Threads + Sync, P: Part, S: Sharing<Out = P>, G: Gate>(
     let mut parts = units(alloc, workers, work.size())?;
     let (desk, mut pass) = Desk::new(alloc, work.pieces())?;
     let mut team = hire(alloc, &desk, &mut pass, &mut parts)?;
-    share_team(rt, &desk, work, gate, team.as_mut_slice());
+    run_team(rt, &desk, work, gate, team.as_mut_slice());
     let found = gather(&desk, &mut pass, team, &mut parts)?;
     // the passes are one again, and show that each piece was drawn
     let _next = desk.close(pass);

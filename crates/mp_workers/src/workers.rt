@@ -50,7 +50,15 @@ impl<P: Part> Worker<P> {
         desk.work(&mut self.pass, self.number, kernel, &mut self.found, gate);
     }
 
-    /// Finds its share ahead of the pieces, and then runs pieces until none is left.
+    /// Finds its share ahead of the pieces.
+    pub(crate) fn begin<S: Sharing<Out = P>>(&mut self, desk: &Desk, work: &S)
+        requires ready { IsReadyToShare P.is_value P.merged (S.whole work.now) desk.now (S.size_of work.now) self.old }
+        ensures { IsReadyToShare P.is_value P.merged (S.whole work.now) desk.now (S.size_of work.now) self.new }
+    {
+        work.begin(self.number, self.of.max(1), &mut self.found);
+    }
+
+    /// Runs pieces until none is left.
     pub(crate) fn share<S: Sharing<Out = P>, G: Gate>(&mut self, desk: &Desk, work: &S, gate: &G)
         requires ready { IsReadyToShare P.is_value P.merged (S.whole work.now) desk.now (S.size_of work.now) self.old }
         requires pieces { desk.now.pieces ≤ S.pieces_of work.now }
@@ -59,7 +67,6 @@ impl<P: Part> Worker<P> {
         ensures found { HasPieces P.merged (S.value_of work.now) (S.whole work.now) self.new.found
             (pieces_among desk.now.pieces self.new.pass.drawn) }
     {
-        work.begin(self.number, self.of.max(1), &mut self.found);
         desk.share(&mut self.pass, self.number, work, &mut self.found, gate);
     }
 }

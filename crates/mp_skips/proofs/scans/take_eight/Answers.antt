@@ -91,7 +91,7 @@ take_block-requires-clause-sum g c =
 pub take_block-requires-clause-small : goal.take_block-requires-clause-small
 take_block-requires-clause-small g c =
     subst (λ (v : List ℕ). number_in v c.loop-l.l < NO_NEED) (sym c.as_array.ensures)
-    (c.eight_sums.ensures.small c.loop-l.l c.loop-l-test.true)
+    (omega (arith, c.eight_sums.ensures.small c.loop-l.l c.loop-l-test.true))
 
 pub loop-l-preserved : goal.loop-l-preserved
 loop-l-preserved g c =

@@ -9,8 +9,8 @@ use Rattle.mp_workers.proofs.Shared.{all_shared, units_share}
 use Rattle.mp_workers.proofs.Teaming.{all_alike, all_is_value, as_many, first_is_done, weights_are_count, written_back}
 use Rattle.mp_workers.proofs.sharing.run_sharing.Goals as goal
 
-pub share_team-requires-clause-ready : goal.share_team-requires-clause-ready
-share_team-requires-clause-ready g c _ _ =
+pub run_team-requires-clause-ready : goal.run_team-requires-clause-ready
+run_team-requires-clause-ready g c _ _ =
     -- what is known of a part and of the work holds in every thread, this one among them
     let part_laws = g.met.P.Part g.world.𝓛 g.world.𝓜 g.world.𝓡 ((λ s x. x), (λ x. x), (λ x. x), λ x. x) in
     let work_laws = g.met.S.Sharing g.world.𝓛 g.world.𝓜 g.world.𝓡 ((λ s x. x), (λ x. x), (λ x. x), λ x. x) in
@@ -34,29 +34,29 @@ share_team-requires-clause-ready g c _ _ =
 pub gather-requires-clause-of_desk : goal.gather-requires-clause-of_desk
 gather-requires-clause-of_desk g c _ _ =
     let hired = c.in_ok-team in
-    let team = c.share_team.new.team in
+    let team = c.run_team.new.team in
     let count : length team ≡ length c.in_ok-parts.parts.items =
-    c.share_team.auto.team ∙ ap length c.as_mut_slice.ensures.value ∙ hired.ensures.count in
+    c.run_team.auto.team ∙ ap length c.as_mut_slice.ensures.value ∙ hired.ensures.count in
     let back = written_back team hired.team.items hired.team.len
     (omega (arith, count, hired.ensures.count, hired.team.ok)) in
     let desk = c.in_ok-desk.desk in
     subst (All (λ (worker : WorkerState). worker.pass.desk ≡ desk)) (sym back)
     (All-weaker (IsDone desk (g.S.Sharing.size_of c.args.work.now)) (λ worker. worker.pass.desk ≡ desk)
-    (λ worker done. done.of_team.of_desk) team c.share_team.ensures.done)
+    (λ worker done. done.of_team.of_desk) team c.run_team.ensures.done)
 
 pub close-next-requires-clause-weight : goal.close-next-requires-clause-weight
 close-next-requires-clause-weight g c =
     let hired = c.in_ok-team in
-    let team = c.share_team.new.team in
+    let team = c.run_team.new.team in
     let count : length team ≡ length c.in_ok-parts.parts.items =
-    c.share_team.auto.team ∙ ap length c.as_mut_slice.ensures.value ∙ hired.ensures.count in
+    c.run_team.auto.team ∙ ap length c.as_mut_slice.ensures.value ∙ hired.ensures.count in
     let back = written_back team hired.team.items hired.team.len
     (omega (arith, count, hired.ensures.count, hired.team.ok)) in
     omega (
       arith,
       c.in_ok-found.ensures.weight,
       ap (sum_by (λ (worker : WorkerState). worker.pass.weight)) back,
-      weights_are_count c.in_ok-desk.desk (g.S.Sharing.size_of c.args.work.now) team c.share_team.ensures.done,
+      weights_are_count c.in_ok-desk.desk (g.S.Sharing.size_of c.args.work.now) team c.run_team.ensures.done,
       count,
       hired.ensures.weight,
       c.in_ok-desk.ensures.weight,
@@ -74,10 +74,10 @@ returns-clause-value g c =
     let value = work.value_of c.args.work.now in
     let desk = c.in_ok-desk.desk in
     let hired = c.in_ok-team in
-    let team = c.share_team.new.team in
-    let run = c.share_team.ensures in
+    let team = c.run_team.new.team in
+    let run = c.run_team.ensures in
     let count : length team ≡ length c.in_ok-parts.parts.items =
-    c.share_team.auto.team ∙ ap length c.as_mut_slice.ensures.value ∙ hired.ensures.count in
+    c.run_team.auto.team ∙ ap length c.as_mut_slice.ensures.value ∙ hired.ensures.count in
     let back = written_back team hired.team.items hired.team.len
     (omega (arith, count, hired.ensures.count, hired.team.ok)) in
     let pieces : desk.pieces ≡ work.pieces_of c.args.work.now = c.in_ok-desk.ensures.pieces ∙ c.pieces.ensures in
@@ -99,10 +99,10 @@ returns-clause-value g c =
 pub returns-clause-size : goal.returns-clause-size
 returns-clause-size g c =
     let hired = c.in_ok-team in
-    let team = c.share_team.new.team in
-    let run = c.share_team.ensures in
+    let team = c.run_team.new.team in
+    let run = c.run_team.ensures in
     let count : length team ≡ length c.in_ok-parts.parts.items =
-    c.share_team.auto.team ∙ ap length c.as_mut_slice.ensures.value ∙ hired.ensures.count in
+    c.run_team.auto.team ∙ ap length c.as_mut_slice.ensures.value ∙ hired.ensures.count in
     let back = written_back team hired.team.items hired.team.len
     (omega (arith, count, hired.ensures.count, hired.team.ok)) in
     (c.in_ok-found.ensures.found run.first (ap (λ workers. slice_get workers 0) back ∙ run.is_first)).1

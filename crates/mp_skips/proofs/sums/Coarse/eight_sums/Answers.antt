@@ -2,7 +2,7 @@ use Rattle.std.proofs.Common.{◌+◌, ◌*◌, sym, ap, arith}
 use Rattle.mp_skips.specs.Blocks.{outside_at, squares_outside}
 use Rattle.mp_skips.proofs.TotalLemmas.{total_zero}
 use Rattle.mp_skips.proofs.BlockLemmas.{lane_column, lane_place, lane_order, lane_more, lane_small, lane_more_small}
-use Rattle.mp_skips.proofs.BlockLemmas.{sum_small}
+use Rattle.mp_skips.proofs.BlockLemmas.{sum_small, reached}
 use Rattle.mp_skips.proofs.VectorLemmas.{lanes_all, lanes_same}
 use Rattle.mp_skips.proofs.sums.Coarse.eight_sums.Goals as goal
 
@@ -55,6 +55,12 @@ returns-clause-sums c =
     lanes_same _ _ _ c.loop-t.invariant.sums
     (λ k lt. ap (squares_outside c.args.self.now c.args.row (c.args.group + k))
     (omega (arith, c.loop-t-test.false, c.loop-t.auto.t-end)))
+
+pub returns-clause-apart : goal.returns-clause-apart
+returns-clause-apart c = λ k need lt le.
+    reached c.args.self.now c.args.row (c.args.group + k) need c.requires.row
+    (lane_column c.args.self.now c.args.group k lt c.requires.groups)
+    (omega (arith, le, (returns-clause-sums c).each k lt))
 
 pub returns-clause-small : goal.returns-clause-small
 returns-clause-small c = λ k lt.

@@ -11,7 +11,7 @@ pub invariant_of-result : goal.invariant_of-result
 invariant_of-result c =
     let sums = c.args.sums.now.plan in
     let plan = c.coarse.result.plan in
-    let same : plan ≡ sums = c.coarse.ensures in
+    let same : plan ≡ sums = c.coarse.ensures.plan in
     let own = c.self.inside in
     let rows : own.plan.grid.rows.now ≡ plan.grid.rows.now =
     ap (λ (o : OwnTiling). o.samples) c.self.view_is ∙ sym c.requires.samples

@@ -4,7 +4,7 @@ use Rattle.mp_cuts.specs.declared.cuts.Tile.{Tile}
 use Rattle.mp_cuts.specs.Pairs.{no_tile}
 use Rattle.mp_tiles.specs.Pieces.{OwnTiling}
 use Rattle.mp_tiles.specs.RowParts.{part_height, part_of, parts_of}
-use Rattle.mp_tiles.proofs.RowPartLemmas.{part_is, parts_count}
+use Rattle.mp_tiles.specs.RowPartLaws.{part_is, parts_count}
 use Rattle.mp_tiles.proofs.parts.TileParts.tile.Goals as goal
 
 -- the piece is one of the parts

@@ -1,7 +1,7 @@
 use Rattle.std.proofs.Common.{length, sym, ap, ◌∙◌}
 use Rattle.std.specs.Prelude.{◌*◌}
 use Rattle.mp_tiles.specs.Pieces.{OwnTiling}
-use Rattle.mp_tiles.proofs.RowPartLemmas.{parts_count}
+use Rattle.mp_tiles.specs.RowPartLaws.{parts_count}
 use Rattle.mp_tiles.proofs.parts.TilePartsKernel.pieces.Goals as goal
 
 pub returns : goal.returns

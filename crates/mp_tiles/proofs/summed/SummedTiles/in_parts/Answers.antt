@@ -1,5 +1,6 @@
 use Rattle.std.proofs.Common.{◌*◌, ap, arith}
-use Rattle.mp_tiles.proofs.RowPartLemmas.{few_rows, parts_count, parts_have_pairs, parts_together}
+use Rattle.mp_tiles.specs.RowPartLaws.{few_rows, parts_count, parts_have_pairs}
+use Rattle.mp_tiles.proofs.RowPartLemmas.{parts_together}
 use Rattle.mp_tiles.proofs.summed.SummedTiles.in_parts.Goals as goal
 
 pub returns-clause-few : goal.returns-clause-few

@@ -1,6 +1,7 @@
 use Rattle.std.proofs.Common.{refl, ◌∙◌, arith}
 use Rattle.mp_workers.specs.Entries.{left_of}
-use Rattle.mp_workers.proofs.Entering.{left_below, left_taken, none_taken}
+use Rattle.mp_workers.specs.EntryLaws.{none_taken}
+use Rattle.mp_workers.proofs.Entering.{left_below, left_taken}
 use Rattle.mp_workers.proofs.entries.Entries.take_left.Goals as goal
 
 pub loop-place-init : goal.loop-place-init

@@ -1,6 +1,7 @@
 use Rattle.std.proofs.Common.{refl, ◌∙◌, arith}
 use Rattle.mp_workers.specs.Entries.{right_of}
-use Rattle.mp_workers.proofs.Entering.{none_taken, right_below, right_taken}
+use Rattle.mp_workers.specs.EntryLaws.{none_taken}
+use Rattle.mp_workers.proofs.Entering.{right_below, right_taken}
 use Rattle.mp_workers.proofs.entries.Entries.take_right.Goals as goal
 
 pub loop-place-init : goal.loop-place-init
