@@ -22,3 +22,12 @@ pub mod Selections
 pub mod LowestLanes
 pub mod GreatestLanes
 pub mod LaneLaws
+pub mod BoundLemmas
+pub mod BoundLaws
+pub mod FreeLemmas
+pub mod NeedLemmas
+pub mod SkipLemmas
+pub mod SeedLemmas
+pub mod SummedLemmas
+pub mod SharedLemmas
+pub mod SummedTiles

@@ -14,4 +14,7 @@ pub mod Lanes
 pub mod Moving
 pub mod Exacts
 pub mod Blocks
+pub mod Skips
+pub mod SummedTiling
+pub mod Sharing
 pub mod Examples

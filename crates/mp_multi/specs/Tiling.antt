@@ -1,8 +1,9 @@
 -- The tiles of several channels as the pieces of a kernel.
-use Rattle.std.specs.Prelude.{◌≡◌, ℕ, ◌+◌, List, [], length, slice_index_or, map, All}
+use Rattle.std.specs.Prelude.{◌≡◌, ℕ, ◌+◌, List, [], ◌∷◌, length, slice_index_or, map, All}
 use Rattle.mp_nums.specs.declared.samples.Sample.{Sample}
 use Rattle.mp_defs.specs.Series.{series_of}
 use Rattle.mp_defs.specs.Window.{windows, excl}
+use Rattle.mp_results.specs.Multi.{multi_of}
 use Rattle.mp_partial.specs.Values.{Value, merged_columns, empty_columns, merged_below}
 use Rattle.mp_cuts.specs.declared.cuts.Tile.{Tile}
 use Rattle.mp_cuts.specs.Pairs.{IsTileBetween}
@@ -47,3 +48,7 @@ multi_value multi n = tile_value multi.m multi.k (map series_of multi.channels) 
 abbrev pub multi_together : MultiTiling → Value
 multi_together multi =
     merged_below merged_columns (empty_columns 1 (multi_size multi)) (multi_value multi) (length multi.tiles)
+
+-- what all tiles of the channels have together: their multidimensional profile
+abbrev pub multi_whole : MultiTiling → Value
+multi_whole multi = multi_of multi.m multi.k (map series_of multi.channels) ∷ []

@@ -2,7 +2,9 @@
 #![tactic(auto)]
 
 mod blocks;
+mod bounds;
 mod channels;
+mod entries;
 mod exacts;
 mod examples;
 mod fast;
@@ -12,19 +14,26 @@ mod kernels;
 mod lanes;
 mod laws;
 mod limits;
+mod mates;
 mod moves;
 mod near;
+mod needs;
 mod pairs;
 mod plans;
 mod profiles;
 mod running;
 mod runs;
 mod scans;
+mod seeds;
 mod selection;
+mod shared;
 mod shifts;
 mod sides;
 mod sizes;
+mod skips;
 mod strips;
+mod summed;
+mod tiles;
 mod values;
 
 pub use examples::worked_profiles;

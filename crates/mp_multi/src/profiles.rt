@@ -1,25 +1,95 @@
 //! The multidimensional profile of several channels.
 
-ghost use Rattle.std.specs.Prelude.{◌≡◌, ◌≤◌, [], ◌∷◌, length, map, slice_index_or, IfOk};
+ghost use Rattle.std.specs.Prelude.{◌≡◌, ◌≤◌, [], ◌∷◌, length, map, slice_index_or, IfOk, IfSome};
+ghost use Rattle.std.specs.Thread.{IsSync};
 ghost use Rattle.mp_defs.specs.Series.{series_of};
 ghost use Rattle.mp_results.specs.Multi.{multi_of};
 ghost use Rattle.mp_multi.specs.Conditions.{HaveOneLength};
+ghost use Rattle.mp_multi.specs.Sharing.{profile_of};
 ghost use Rattle.mp_multi.specs.Tiling.{multi_together};
 
+use crate::entries::Entries;
 use crate::kernels::MultiTiles;
 use crate::limits::MAX_CHANNELS;
+use crate::mates::Search;
+use crate::shared::SharedMulti;
+use crate::summed::MultiSums;
+use crate::tiles::SummedMulti;
 use mp_cuts::{MAX_TILE, MAX_TILES};
 use mp_nums::{Memory, Slots};
 use mp_outside::Gate;
 use mp_partial::{Kernel, MAX_WORKERS};
 use mp_series::{Bundle, MAX_SAMPLES, MAX_WINDOW, MIN_WINDOW};
-use mp_workers::{run_all, run_one_after_another, workers_for};
+use mp_skips::Seeking;
+use mp_tiles::summed_tile;
+use mp_workers::{find_all, run_all, run_one_after_another, run_sharing, workers_for};
 use std::alloc::Global;
-use std::thread::Threads;
+use std::thread::{Threads, join};
 
-/// What the tiles have together, run by so many workers. Short channels are left to fewer. Several workers compare near
-/// windows first, since what these give lets most of the others be passed over, and each begins the tiles of the
-/// others, of at most `tile` diagonals, with what all of them found. There is a band of near windows for each worker.
+/// The pairs of windows that are likely near, looked for by so many workers side by side. Where there are few pairs to
+/// compare, fewer do.
+fn find_pairs<R: Threads + Sync, const D: usize>(
+    rt: &R,
+    alloc: Global,
+    summed: &SummedMulti<D>,
+    workers: u32,
+) -> Result<Search<D>, Memory>
+    requires some { 1 ≤ workers }
+    requires few { workers ≤ MAX_WORKERS }
+{
+    let first = summed.search(alloc)?;
+    let workers = workers_for(first.pairs(), workers);
+    let mut some = Vec::with_capacity(alloc, workers as usize)?;
+    some.push(first)?;
+    for _ in 1..workers {
+        some.push(summed.search(alloc)?)?;
+    }
+    find_all(rt, some.as_mut_slice());
+    Ok(some.swap_remove(0))
+}
+
+/// In how many parts the rows of a tile are cut that so many workers draw.
+const PARTS: u32 = 16;
+
+/// In how many parts tiles are cut that so many workers draw. One worker takes them whole.
+fn parts_for(workers: u32) -> u32
+    ensures least { 1 ≤ result }
+    ensures greatest { result ≤ PARTS }
+{
+    if workers == 1 { 1 } else { PARTS }
+}
+
+/// The pairs of windows that are likely near, and the entries that workers share: the ones are found while the others
+/// are made. One worker shares with nobody.
+fn pairs_and_entries<'a, R: Threads + Sync, const D: usize>(
+    rt: &R,
+    alloc: Global,
+    summed: &SummedMulti<D>,
+    tiles: &MultiTiles<'a, D>,
+    workers: u32,
+) -> Result<(Search<D>, Option<Entries<'a>>), Memory>
+    requires some { 1 ≤ workers }
+    requires few { workers ≤ MAX_WORKERS }
+    ensures { IfOk result (λ made. IfSome made.1 (λ whole. whole ≡ profile_of tiles.now)) }
+{
+    if workers == 1 {
+        return Ok((find_pairs(rt, alloc, summed, workers)?, None));
+    }
+    let front = move || -> Result<Search<D>, Memory>
+        requires { IsSync R.row × (1 ≤ workers) × (workers ≤ MAX_WORKERS) }
+    { find_pairs(rt, alloc, summed, workers) };
+    let back = move || -> Result<Entries, Memory>
+        ensures { IfOk result (λ whole. whole ≡ profile_of tiles.entry.now) }
+    { tiles.entries(alloc) };
+    let (search, entries) = join(rt, front, back);
+    Ok((search?, Some(entries?)))
+}
+
+/// What the tiles have together, run by so many workers. Short channels are left to fewer. Where coarse sums are made,
+/// workers begin with pairs that these tell to be near, and share what they find, and tiles may have `summed_tile`
+/// diagonals. Else several workers compare near windows first, since what these give lets most of the others be passed
+/// over, and each begins the tiles of the others, of at most `tile` diagonals, with what all of them found. There is a
+/// band of near windows for each worker.
 fn run_tiles<R: Threads + Sync, G: Gate, const D: usize>(
     rt: &R,
     alloc: Global,
@@ -39,6 +109,19 @@ fn run_tiles<R: Threads + Sync, G: Gate, const D: usize>(
 {
     let windows = tiles.size();
     let workers = workers_for(windows.saturating_mul(windows) / 2, workers);
+    let plan = tiles.plan();
+    if let Some(sums) = MultiSums::of(rt, alloc, &plan, windows, workers)? {
+        let wide = tiles.wide(tile.max(summed_tile(windows)));
+        let coarse = sums.coarse(alloc, windows as usize)?;
+        let summed = SummedMulti {
+            tiles: wide,
+            coarse: &coarse,
+        };
+        let (search, entries) = pairs_and_entries(rt, alloc, &summed, tiles, workers)?;
+        let parts = summed.parts(parts_for(workers));
+        let shared = SharedMulti::of(&summed, &search, entries, parts);
+        return run_sharing(rt, alloc, &shared, workers, gate);
+    }
     if workers == 1 {
         return run_all(rt, alloc, tiles, tiles.pieces(), workers, gate);
     }
@@ -55,7 +138,7 @@ fn run_tiles<R: Threads + Sync, G: Gate, const D: usize>(
 /// squares are summed, and that a channel with a missing sample doesn't count, is this project's own rule.
 ///
 /// It is computed in tiles of at most `tile` diagonals by so many workers, by a body for each number of channels. Short
-/// channels are left to fewer workers.
+/// channels are left to fewer workers. Of long ones blocks of pairs are passed over, in tiles that may be wider.
 pub fn multi<R: Threads + Sync, G: Gate>(
     rt: &R,
     alloc: Global,

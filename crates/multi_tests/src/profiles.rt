@@ -1,14 +1,14 @@
 ghost use Rattle.std.specs.Prelude.{◌≡◌, ◌≤◌, [], length, slice_index_or};
 ghost use Rattle.mp_multi.specs.Conditions.{HaveOneLength};
 
-use crate::channels::{multiples, tied};
+use crate::channels::{multiples, tied, walks};
 use crate::plain::entry;
 use mp_cuts::{MAX_TILE, cut_own};
 use mp_multi::{MAX_CHANNELS, multi, scan_multi};
 use mp_nums::{Memory, Slots};
 use mp_outside::{MeetGate, OpenGate};
 use mp_partial::Part;
-use mp_series::{Bundle, MAX_SAMPLES, excl, windows};
+use mp_series::{Bundle, MAX_SAMPLES, MAX_WINDOW, MIN_WINDOW, excl, windows};
 use std::alloc::Global;
 use std::process::Abort;
 use std::test::Fail;
@@ -18,9 +18,12 @@ use std::thread::Threads;
 fn scanned<const D: usize>(
     alloc: Global,
     channels: &Bundle,
+    m: u32,
     k: u64,
     tile: u32,
 ) -> Result<Slots, Memory>
+    requires shortest { MIN_WINDOW ≤ m }
+    requires longest { m ≤ MAX_WINDOW }
     requires some { 1 ≤ D }
     requires few { D ≤ MAX_CHANNELS }
     requires count { length channels.now ≡ D }
@@ -31,11 +34,11 @@ fn scanned<const D: usize>(
     requires least { 1 ≤ tile }
     requires greatest { tile ≤ MAX_TILE }
 {
-    let count = windows(channels.series(0).len() as u64, 3);
-    let cut = cut_own(count, excl(3), tile);
+    let count = windows(channels.series(0).len() as u64, m);
+    let cut = cut_own(count, excl(m), tile);
     let mut into: Slots = Part::unit(alloc, count)?;
     for place in 0..cut.count() {
-        scan_multi::<D>(channels, 3, k, &cut.tile(place), &mut into);
+        scan_multi::<D>(channels, m, k, &cut.tile(place), &mut into);
     }
     Ok(into)
 }
@@ -57,7 +60,7 @@ fn expect_plain<R: Abort + AllocGlobal + Threads + Sync, const D: usize>(
     let count = windows(channels.series(0).len() as u64, 3);
     for k in 1..D as u64 + 1 {
         let found = multi(rt, rt.alloc(), channels, 3, k, tile, 2, &OpenGate)?;
-        let scanned = scanned::<D>(rt.alloc(), channels, k, tile)?;
+        let scanned = scanned::<D>(rt.alloc(), channels, 3, k, tile)?;
         assert_eq!(rt; found.as_slice(), scanned.as_slice());
         for (i, slot) in found.as_slice().iter().enumerate() {
             let expected = entry(rt, rt.alloc(), channels, k as usize, i as u64, count)?;
@@ -80,7 +83,7 @@ fn expect_multiples<R: Abort + AllocGlobal + Threads + Sync, const D: usize>(
     let channels = multiples(rt.alloc(), D as u32)?;
     for k in 1..D as u64 + 1 {
         let found = multi(rt, rt.alloc(), &channels, 3, k, 256, 4, &OpenGate)?;
-        let scanned = scanned::<D>(rt.alloc(), &channels, k, 256)?;
+        let scanned = scanned::<D>(rt.alloc(), &channels, 3, k, 256)?;
         let value = VALUES[k as usize - 1];
         for slots in [found.as_slice(), scanned.as_slice()] {
             let pairs = [
@@ -151,7 +154,7 @@ fn expect_workers<R: Abort + AllocGlobal + Threads + Sync, const D: usize>(
     requires present { k ≤ D }
 {
     let channels = tied(rt.alloc(), D as u64, 1_500, 1_000, 4)?;
-    let scanned = scanned::<D>(rt.alloc(), &channels, k, 64)?;
+    let scanned = scanned::<D>(rt.alloc(), &channels, 3, k, 64)?;
     for workers in [1, 2, 3, 32] {
         let found = multi(rt, rt.alloc(), &channels, 3, k, 64, workers, &OpenGate)?;
         assert_eq!(rt; found.as_slice(), scanned.as_slice());
@@ -186,5 +189,32 @@ fn wide_channels_have_the_profile_of_the_plain_loop(rt: HostRuntime) -> Result<(
 fn short_channels_have_no_windows(rt: HostRuntime) -> Result<(), Fail> {
     for_each_count!(expect_tied, &rt, 2, 1);
     for_each_count!(expect_tied, &rt, 0, 1);
+    Ok(())
+}
+
+/// A window length for each number of channels: coarse sums have one, two or four times eight samples.
+const LENGTHS: [u32; 8] = [16, 24, 64, 100, 256, 32, 128, 300];
+
+/// Expects of `D` channels that are long enough for coarse sums what the tiles give one after another, for each number
+/// of channels that are taken together.
+fn expect_sums<R: Abort + AllocGlobal + Threads + Sync, const D: usize>(rt: &R) -> Result<(), Fail>
+    requires some { 1 ≤ D }
+    requires few { D ≤ MAX_CHANNELS }
+{
+    let channels = walks(rt.alloc(), D as u64, 4_400, 6)?;
+    let m = LENGTHS[D - 1].clamp(MIN_WINDOW, MAX_WINDOW);
+    for k in 1..D as u64 + 1 {
+        let scanned = scanned::<D>(rt.alloc(), &channels, m, k, 256)?;
+        for workers in [1, 4] {
+            let found = multi(rt, rt.alloc(), &channels, m, k, 256, workers, &OpenGate)?;
+            assert_eq!(rt; found.as_slice(), scanned.as_slice());
+        }
+    }
+    Ok(())
+}
+
+#[test]
+fn long_channels_have_the_profile_of_all_pairs(rt: HostRuntime) -> Result<(), Fail> {
+    for_each_count!(expect_sums, &rt);
     Ok(())
 }
