@@ -8,6 +8,7 @@ pub mod ColumnLemmas
 pub mod ScanLemmas
 pub mod TileLaws
 pub mod NearLemmas
+pub mod PartLemmas
 pub mod PairScans
 pub mod BlockPairs
 pub mod LimitLemmas

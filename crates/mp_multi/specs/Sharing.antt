@@ -1,8 +1,10 @@
 -- What workers share of the multidimensional profile.
-use Rattle.std.specs.Prelude.{◌≡◌, ℕ, slice_index_or, map, Option, IfSome, None, ⊤}
+use Rattle.std.specs.Prelude.{◌≡◌, ℕ, List, [], ◌∷◌, All, length, map, slice_index_or, Option, IfSome, None, ⊤}
+use Rattle.mp_nums.specs.declared.nearest.Near.{Near}
+use Rattle.mp_nums.specs.Listed.{Listed}
 use Rattle.mp_defs.specs.Series.{series_of}
 use Rattle.mp_results.specs.Multi.{multi_of}
-use Rattle.mp_partial.specs.Values.{Column}
+use Rattle.mp_partial.specs.Values.{Column, empty_columns}
 use Rattle.mp_tiles.specs.RowParts.{IsCutInParts, parts_of}
 use Rattle.mp_workers.specs.Entries.{AreWithin, IsWithin}
 use Rattle.mp_multi.specs.Tiling.{MultiTiling, multi_together, multi_whole}
@@ -38,3 +40,8 @@ pub record AreShared (parts : ℕ) (multi : MultiTiling) (entries : Option Colum
   pub together : multi_together (in_parts parts multi) ≡ multi_whole multi
   pub cut : IsCutInParts parts multi.tiles
   pub of_channels : IfSome entries (λ whole. whole ≡ profile_of multi)
+
+-- slots for each of so many workers, of so many windows, in which nothing was found
+pub record AreUnfound (workers windows : ℕ) (parts : List (Listed (Option Near))) : Type 0 where
+  pub count : length parts ≡ workers
+  pub each : All (λ slots. (length slots.items ≡ windows) × (slots.items ∷ [] ≡ empty_columns 1 windows)) parts

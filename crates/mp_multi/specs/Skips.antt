@@ -57,7 +57,8 @@ pub record AreFarIn (plan : MultiPlan) (units : Units) (c i j n need : ℕ) : Ty
 -- the same of the values of pairs
 pub record AreFar (plan : MultiPlan) (units : Units) (i j n need : ℕ) : Type 0 where
   pub each : (r u v : ℕ) → r < 8 * units.eights → u < n
-      → pair_value plan.channels.m plan.channels.k (map series_of plan.channels.list.now) (i + r) (j + u + r) ≡ Some v
+      → pair_value plan.channels.m plan.channels.k (map series_of plan.channels.list.now) (i + r) (j + u + r)
+      ≡ Some v
       → ReachesIn units need v
 
 -- in each channel the distances of so many successive rows and columns that have one

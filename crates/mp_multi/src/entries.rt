@@ -130,6 +130,9 @@ impl<'a> Entries<'a> {
         requires place { place < length self.now }
         requires within { IsWithin word (slice_index_or self.now place None) }
     {
+        if word == NO_WORD {
+            return;
+        }
         let at = place as usize;
         let (found, mut seat) = self.table.shared.load_new_seat::<Find>(at);
         if word < found {

@@ -347,6 +347,21 @@ fn merge_all(mates: &mut [Mates], others: &[Mates])
 }
 
 impl<const D: usize> Seeking for Search<D> {
+    fn again(&self, alloc: Global) -> Result<Search<D>, Memory> {
+        let mut channels = Vec::with_capacity(alloc, self.channels.len())?;
+        for channel in self.channels.iter() {
+            channels.push(channel.as_slice().to_vec(alloc)?)?;
+        }
+        Ok(Search {
+            channels,
+            more: self.more,
+            first: self.first,
+            k: self.k,
+            mates: self.mates.as_slice().to_vec(alloc)?,
+            least: self.least.as_slice().to_vec(alloc)?,
+        })
+    }
+
     // a pair takes as long as one for each channel
     fn pairs(&self) -> u64 {
         let count = self.mates.len() as u64;

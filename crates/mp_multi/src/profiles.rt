@@ -5,48 +5,26 @@ ghost use Rattle.std.specs.Thread.{IsSync};
 ghost use Rattle.mp_defs.specs.Series.{series_of};
 ghost use Rattle.mp_results.specs.Multi.{multi_of};
 ghost use Rattle.mp_multi.specs.Conditions.{HaveOneLength};
-ghost use Rattle.mp_multi.specs.Sharing.{profile_of};
-ghost use Rattle.mp_multi.specs.Tiling.{multi_together};
+ghost use Rattle.mp_multi.specs.Sharing.{AreUnfound, profile_of};
+ghost use Rattle.mp_multi.specs.Tiling.{multi_size, multi_together};
 
 use crate::entries::Entries;
 use crate::kernels::MultiTiles;
 use crate::limits::MAX_CHANNELS;
 use crate::mates::Search;
+use crate::plans::MultiPlan;
 use crate::shared::SharedMulti;
 use crate::summed::MultiSums;
 use crate::tiles::SummedMulti;
 use mp_cuts::{MAX_TILE, MAX_TILES};
 use mp_nums::{Memory, Slots};
 use mp_outside::Gate;
-use mp_partial::{Kernel, MAX_WORKERS};
+use mp_partial::{Kernel, MAX_WORKERS, units};
 use mp_series::{Bundle, MAX_SAMPLES, MAX_WINDOW, MIN_WINDOW};
-use mp_skips::Seeking;
 use mp_tiles::summed_tile;
-use mp_workers::{find_all, run_all, run_one_after_another, run_sharing, workers_for};
+use mp_workers::{find_by_workers, run_all, run_one_after_another, run_sharing_in, workers_for};
 use std::alloc::Global;
 use std::thread::{Threads, join};
-
-/// The pairs of windows that are likely near, looked for by so many workers side by side. Where there are few pairs to
-/// compare, fewer do.
-fn find_pairs<R: Threads + Sync, const D: usize>(
-    rt: &R,
-    alloc: Global,
-    summed: &SummedMulti<D>,
-    workers: u32,
-) -> Result<Search<D>, Memory>
-    requires some { 1 ≤ workers }
-    requires few { workers ≤ MAX_WORKERS }
-{
-    let first = summed.search(alloc)?;
-    let workers = workers_for(first.pairs(), workers);
-    let mut some = Vec::with_capacity(alloc, workers as usize)?;
-    some.push(first)?;
-    for _ in 1..workers {
-        some.push(summed.search(alloc)?)?;
-    }
-    find_all(rt, some.as_mut_slice());
-    Ok(some.swap_remove(0))
-}
 
 /// In how many parts the rows of a tile are cut that so many workers draw.
 const PARTS: u32 = 16;
@@ -57,6 +35,49 @@ fn parts_for(workers: u32) -> u32
     ensures greatest { result ≤ PARTS }
 {
     if workers == 1 { 1 } else { PARTS }
+}
+
+/// Slots of so many windows for each of so many workers, in which nothing was found yet.
+fn unfound_slots(alloc: Global, workers: u32, windows: u64) -> Result<Vec<Slots>, Memory>
+    ensures { IfOk result (λ slots. AreUnfound workers windows slots.items) }
+{
+    let slots = units(alloc, workers, windows)?;
+    Ok(slots)
+}
+
+/// The coarse sums of channels, where they pay, and slots for each of so many workers, in which nothing was found yet.
+/// Several workers make the ones while they make the others: memory costs most where it is used for the first time.
+fn sums_and_slots<'a, R: Threads + Sync, const D: usize>(
+    rt: &R,
+    alloc: Global,
+    tiles: &MultiTiles<'a, D>,
+    plan: &MultiPlan<'a>,
+    workers: u32,
+) -> Result<Option<(MultiSums<'a>, Vec<Slots>)>, Memory>
+    ensures plan { IfOk result (λ found. IfSome found (λ made. made.0.plan ≡ plan.now)) }
+    ensures slots { IfOk result (λ found. IfSome found (λ made.
+        AreUnfound workers (multi_size tiles.now) made.1.items)) }
+{
+    let windows = tiles.size();
+    if workers == 1 {
+        return match MultiSums::of(rt, alloc, plan, windows, workers)? {
+            Some(sums) => Ok(Some((sums, unfound_slots(alloc, workers, windows)?))),
+            None => Ok(None),
+        };
+    }
+    let front = move || -> Result<Option<MultiSums>, Memory>
+        requires { IsSync R.row }
+        ensures { IfOk result (λ found. IfSome found (λ sums. sums.plan ≡ plan.entry.now)) }
+    { MultiSums::of(rt, alloc, plan, windows, workers) };
+    let back = move || -> Result<Vec<Slots>, Memory>
+        ensures { IfOk result (λ slots. AreUnfound workers windows slots.items) }
+    { unfound_slots(alloc, workers, windows) };
+    let (sums, slots) = join(rt, front, back);
+    let slots = slots?;
+    match sums? {
+        Some(sums) => Ok(Some((sums, slots))),
+        None => Ok(None),
+    }
 }
 
 /// The pairs of windows that are likely near, and the entries that workers share: the ones are found while the others
@@ -72,12 +93,13 @@ fn pairs_and_entries<'a, R: Threads + Sync, const D: usize>(
     requires few { workers ≤ MAX_WORKERS }
     ensures { IfOk result (λ made. IfSome made.1 (λ whole. whole ≡ profile_of tiles.now)) }
 {
+    let first = summed.search(alloc)?;
     if workers == 1 {
-        return Ok((find_pairs(rt, alloc, summed, workers)?, None));
+        return Ok((find_by_workers(rt, alloc, first, workers)?, None));
     }
     let front = move || -> Result<Search<D>, Memory>
         requires { IsSync R.row × (1 ≤ workers) × (workers ≤ MAX_WORKERS) }
-    { find_pairs(rt, alloc, summed, workers) };
+    { find_by_workers(rt, alloc, first, workers) };
     let back = move || -> Result<Entries, Memory>
         ensures { IfOk result (λ whole. whole ≡ profile_of tiles.entry.now) }
     { tiles.entries(alloc) };
@@ -85,11 +107,48 @@ fn pairs_and_entries<'a, R: Threads + Sync, const D: usize>(
     Ok((search?, Some(entries?)))
 }
 
+/// What the tiles have together, run in coarse sums by a worker for each of some slots, in which nothing was found yet.
+/// They begin with pairs that these sums tell to be near, and share what they find, and tiles may have `summed_tile`
+/// diagonals.
+fn run_by_sums<R: Threads + Sync, G: Gate, const D: usize>(
+    rt: &R,
+    alloc: Global,
+    tiles: &MultiTiles<D>,
+    sums: &MultiSums,
+    slots: &mut Vec<Slots>,
+    tile: u32,
+    workers: u32,
+    gate: &G,
+) -> Result<Slots, Memory>
+    requires channels { sums.now.plan.channels.list.now ≡ tiles.now.channels }
+    requires m { sums.now.plan.channels.m ≡ tiles.now.m }
+    requires k { sums.now.plan.channels.k ≡ tiles.now.k }
+    requires slots { AreUnfound workers (multi_size tiles.now) slots.old.items }
+    requires few { length tiles.now.tiles ≤ MAX_TILES }
+    requires least { 1 ≤ tile }
+    requires greatest { tile ≤ MAX_TILE }
+    requires some { 1 ≤ workers }
+    requires workers { workers ≤ MAX_WORKERS }
+    requires together { multi_together tiles.now
+        ≡ multi_of tiles.now.m tiles.now.k (map series_of tiles.now.channels) ∷ [] }
+    ensures { IfOk result (λ slots. slots.items ∷ [] ≡ multi_together tiles.now) }
+{
+    let windows = tiles.size();
+    let coarse = sums.coarse(alloc, windows as usize)?;
+    let summed = SummedMulti {
+        tiles: tiles.wide(tile.max(summed_tile(windows))),
+        coarse: &coarse,
+    };
+    let (search, entries) = pairs_and_entries(rt, alloc, &summed, tiles, workers)?;
+    let parts = summed.parts(parts_for(workers));
+    let shared = SharedMulti::of(&summed, &search, entries, parts);
+    run_sharing_in(rt, alloc, &shared, slots, gate)
+}
+
 /// What the tiles have together, run by so many workers. Short channels are left to fewer. Where coarse sums are made,
-/// workers begin with pairs that these tell to be near, and share what they find, and tiles may have `summed_tile`
-/// diagonals. Else several workers compare near windows first, since what these give lets most of the others be passed
-/// over, and each begins the tiles of the others, of at most `tile` diagonals, with what all of them found. There is a
-/// band of near windows for each worker.
+/// tiles are run in them. Else several workers compare near windows first, since what these give lets most of the others
+/// be passed over, and each begins the tiles of the others, of at most `tile` diagonals, with what all of them found.
+/// There is a band of near windows for each worker.
 fn run_tiles<R: Threads + Sync, G: Gate, const D: usize>(
     rt: &R,
     alloc: Global,
@@ -110,17 +169,8 @@ fn run_tiles<R: Threads + Sync, G: Gate, const D: usize>(
     let windows = tiles.size();
     let workers = workers_for(windows.saturating_mul(windows) / 2, workers);
     let plan = tiles.plan();
-    if let Some(sums) = MultiSums::of(rt, alloc, &plan, windows, workers)? {
-        let wide = tiles.wide(tile.max(summed_tile(windows)));
-        let coarse = sums.coarse(alloc, windows as usize)?;
-        let summed = SummedMulti {
-            tiles: wide,
-            coarse: &coarse,
-        };
-        let (search, entries) = pairs_and_entries(rt, alloc, &summed, tiles, workers)?;
-        let parts = summed.parts(parts_for(workers));
-        let shared = SharedMulti::of(&summed, &search, entries, parts);
-        return run_sharing(rt, alloc, &shared, workers, gate);
+    if let Some((sums, mut slots)) = sums_and_slots(rt, alloc, tiles, &plan, workers)? {
+        return run_by_sums(rt, alloc, tiles, &sums, &mut slots, tile, workers, gate);
     }
     if workers == 1 {
         return run_all(rt, alloc, tiles, tiles.pieces(), workers, gate);

@@ -18,7 +18,7 @@ use crate::tiles::SummedMulti;
 use mp_cuts::Tile;
 use mp_nums::Slots;
 use mp_partial::MAX_PIECES;
-use mp_tiles::{height_of, part_of};
+use mp_tiles::{part_of_tile, rows_in_part};
 use mp_workers::Sharing;
 use std::marker::Model;
 
@@ -75,7 +75,7 @@ impl<'a, 's, 'c, 'p, const D: usize> SharedMulti<'a, 's, 'c, 'p, D> {
         ensures together { multi_together self.now ≡ multi_whole self.now }
     {
         let tile = self.summed.tile(piece / self.parts);
-        part_of(&tile, piece % self.parts, height_of(self.parts))
+        part_of_tile(&tile, piece % self.parts, rows_in_part(self.parts))
     }
 
     /// Takes what others have found for the rows and the columns of a tile.

@@ -1,4 +1,4 @@
-//! The tiles of several channels as the pieces of a kernel that passes over blocks of pairs by coarse sums.
+//! The tiles of several channels in coarse sums, by which blocks of pairs are passed over.
 
 ghost use Rattle.std.specs.Prelude.{◌≡◌, ◌+◌, ◌^◌, ◌<◌, ◌≤◌, [], ◌∷◌, length, map, slice_index_or};
 ghost use Rattle.mp_defs.specs.Series.{series_of};
@@ -19,7 +19,7 @@ use crate::summed::MultiCoarse;
 use mp_cuts::{MAX_ROWS, MAX_TILES, Tile};
 use mp_nums::{Memory, Slots};
 use mp_partial::Kernel;
-use mp_tiles::parts_for;
+use mp_tiles::parts_within;
 use std::alloc::Global;
 use std::marker::Model;
 
@@ -104,7 +104,7 @@ impl<'a, 's, 'c, const D: usize> SummedMulti<'a, 's, 'c, D> {
         ensures cut { IsCutInParts result self.now.tiles }
         ensures together { multi_together (in_parts result self.now) ≡ multi_together self.now }
     {
-        parts_for(self.tiles.pieces(), u64::from(parts))
+        parts_within(self.tiles.pieces(), u64::from(parts))
     }
 
     /// Offers the pairs of a tile to each other. It takes no memory.

@@ -358,6 +358,18 @@ impl Search {
         })
     }
 
+    /// Another one of the same windows, which has found what this one has.
+    pub(crate) fn again(&self, alloc: Global) -> Result<Search, Memory> {
+        Ok(Search {
+            rows: self.rows.as_slice().to_vec(alloc)?,
+            columns: self.columns.as_slice().to_vec(alloc)?,
+            more: self.more,
+            first: self.first,
+            mates: self.mates.as_slice().to_vec(alloc)?,
+            least: self.least.as_slice().to_vec(alloc)?,
+        })
+    }
+
     /// How many pairs of windows are compared, or some more.
     pub(crate) fn pairs(&self) -> u64 {
         let count = self.mates.len() as u64;

@@ -19,7 +19,10 @@ use std::simd::prelude::*;
 const AROUND: usize = 256;
 
 /// What workers look for side by side, a share each. Nothing is promised of what they find.
-pub trait Seeking: Drop + Send {
+pub trait Seeking: Drop + Send + Sized {
+    /// Another one that looks for the same, and has found what this one has.
+    fn again(&self, alloc: Global) -> Result<Self, Memory>;
+
     /// How many pairs of windows are compared, or some more.
     fn pairs(&self) -> u64;
 
@@ -62,6 +65,12 @@ impl Seeds {
 }
 
 impl Seeking for Seeds {
+    fn again(&self, alloc: Global) -> Result<Seeds, Memory> {
+        Ok(Seeds {
+            search: self.search.again(alloc)?,
+        })
+    }
+
     fn pairs(&self) -> u64 {
         self.search.pairs()
     }

@@ -349,7 +349,9 @@ impl Column {
         ensures slots { self.new.slots ≡ taken self.old.slots place (slot_of_word word) }
         ensures room { self.new.room ≡ self.old.room }
     {
-        self.take(place, Compact::of_word(word));
+        if self.slots.as_slice()[place].may_take(word) {
+            self.take(place, Compact::of_word(word));
+        }
     }
 
     /// What stands at a place in a word.

@@ -103,6 +103,14 @@ impl Compact {
         }
     }
 
+    /// Whether a word may tell a window that comes before what stands there.
+    #[inline]
+    pub fn may_take(&self, word: u64) -> bool
+        ensures { result ≡ false → nearer_of self.now (slot_of_word word) ≡ self.now }
+    {
+        u128::from(word) < self.number
+    }
+
     /// The same slot once more.
     #[inline]
     pub(crate) fn copy(&self) -> Compact

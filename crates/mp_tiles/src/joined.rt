@@ -18,10 +18,11 @@ use crate::offers::{ColumnToRow, RowToColumn};
 use crate::plans::rows_between;
 use crate::scans::scan_rows;
 use mp_cuts::Tile;
-use mp_nums::{Slot, Slots};
+use mp_nums::{Memory, Slot, Slots};
 use mp_scans::Plan;
 use mp_series::MAX_SAMPLES;
 use mp_skips::{Coarse, RowsFrom, Seeds, Seeking, scan_seeds};
+use std::alloc::Global;
 
 /// Offers to the rows from a group on the columns of a tile, which counts rows from there.
 fn scan_later(coarse: &Coarse, from: &RowsFrom, tile: &Tile, is_tried: bool, slots: &mut [Slot])
@@ -173,6 +174,13 @@ pub struct JoinSeeds {
 }
 
 impl Seeking for JoinSeeds {
+    fn again(&self, alloc: Global) -> Result<JoinSeeds, Memory> {
+        Ok(JoinSeeds {
+            later: self.later.again(alloc)?,
+            earlier: self.earlier.again(alloc)?,
+        })
+    }
+
     fn pairs(&self) -> u64 {
         self.later.pairs().saturating_add(self.earlier.pairs())
     }

@@ -30,7 +30,7 @@ pub use mp_cuts::{
 };
 pub use mp_skips::Seeking;
 pub use near::{Bands, NearTiles};
-pub use parts::{TileParts, height_of, part_of, parts_for};
+pub use parts::{TileParts, part_of_tile, parts_within, rows_in_part};
 pub use scans::{scan_both, scan_own, scan_patch};
 pub use sides::Sides;
 pub use summed::{SUMMED_TILE, SummedTiles, summed_tile};

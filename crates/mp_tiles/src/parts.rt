@@ -9,7 +9,7 @@ ghost use Rattle.mp_cuts.specs.Limits.{band_rows};
 ghost use Rattle.mp_cuts.specs.Pairs.{no_tile, IsTileBetween};
 ghost use Rattle.mp_tiles.specs.PairLaws.{some_has};
 ghost use Rattle.mp_tiles.specs.Pieces.{own_size, own_together, own_whole};
-ghost use Rattle.mp_tiles.specs.RowParts.{part_height, part_of as part_in};
+ghost use Rattle.mp_tiles.specs.RowParts.{part_height, part_of};
 
 use crate::sides::Sides;
 use crate::summed::SummedTiles;
@@ -20,7 +20,7 @@ use std::marker::Model;
 
 /// How many rows a part has, of so many in which a tile with the most rows is cut. The last one that has some may have
 /// fewer.
-pub fn height_of(parts: u64) -> u64
+pub fn rows_in_part(parts: u64) -> u64
     requires { 1 ≤ parts }
     ensures is { result ≡ part_height parts }
     ensures some { 1 ≤ result }
@@ -30,12 +30,12 @@ pub fn height_of(parts: u64) -> u64
 }
 
 /// A part of the rows of a tile. It has none where they end before it.
-pub fn part_of(tile: &Tile, part: u64, height: u64) -> Tile
+pub fn part_of_tile(tile: &Tile, part: u64, height: u64) -> Tile
     requires rows { tile.now.first_row < 2 ^ 32 }
     requires part { part < band_rows }
     requires some { 1 ≤ height }
     requires few { height ≤ band_rows }
-    ensures { result ≡ part_in height tile.now part }
+    ensures { result ≡ part_of height tile.now part }
 {
     let top = tile.first_row + part * height;
     Tile {
@@ -70,7 +70,7 @@ impl<'a> Model for TileParts<'a> {
 }
 
 /// In how many parts tiles are cut of which so many are asked for: in one where there would be too many pieces.
-pub fn parts_for(tiles: u64, parts: u64) -> u64
+pub fn parts_within(tiles: u64, parts: u64) -> u64
     requires few { tiles ≤ MAX_PIECES }
     requires least { 1 ≤ parts }
     ensures some { 1 ≤ result }
@@ -97,7 +97,7 @@ impl<'a> SummedTiles<'a> {
         ensures together { own_together result ≡ own_together self.entry }
         ensures pairs { (i j : ℕ) → some_has 0 result.tiles i j ≡ some_has 0 self.entry.tiles i j }
     {
-        let parts = parts_for(self.count(), u64::from(parts));
+        let parts = parts_within(self.count(), u64::from(parts));
         TileParts { tiles: self, parts }
     }
 }
@@ -111,7 +111,7 @@ impl<'a> TileParts<'a> {
             → IsTileBetween (zone self.now.m + 1) (own_size self.now) (own_size self.now) result }
     {
         let tile = self.tiles.tile(piece / self.parts);
-        part_of(&tile, piece % self.parts, height_of(self.parts))
+        part_of_tile(&tile, piece % self.parts, rows_in_part(self.parts))
     }
 
     /// The coarse sums of the series.

@@ -17,7 +17,7 @@ use mp_outside::Gate;
 use mp_partial::{Kernel, MAX_WORKERS};
 use mp_series::{MAX_SAMPLES, MAX_WINDOW, MIN_WINDOW};
 use mp_tiles::summed_tile;
-use mp_workers::{find_seeds, run_all, run_one_after_another, run_sharing, workers_for};
+use mp_workers::{find_by_workers, run_all, run_one_after_another, run_sharing, workers_for};
 use std::alloc::Global;
 use std::thread::Threads;
 
@@ -49,7 +49,7 @@ fn run_tiles<R: Threads + Sync, G: Gate, const K: usize>(
     let workers = workers_for(windows.saturating_mul(windows) / 2, workers);
     if let Some(sums) = tiles.sums(alloc)? {
         let wide = tiles.own(tile.max(summed_tile(windows))).by_sums(&sums);
-        let seeds = find_seeds(rt, alloc, &wide, workers)?;
+        let seeds = find_by_workers(rt, alloc, wide.seeds(alloc)?, workers)?;
         let (parts, entries) = tiles.parts_and_entries(alloc, workers)?;
         let wide = wide.in_parts(parts);
         let shared = SharedRanks::of(&wide, &seeds, entries);

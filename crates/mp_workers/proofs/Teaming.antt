@@ -44,26 +44,6 @@ all_but_one P xs i d some all =
     All-take P (length xs - 1) (slice_set xs i last)
     (All-set P xs i last (all (length xs - 1) d (omega (arith, some))) all)
 
--- parts whose sizes and values are told one by one are alike
-pub all_alike : {X : Type 0} (size_of : X → ℕ) (value_of : X → Value) (size : ℕ) (value : Value) (xs : List X) (n m : ℕ)
-    → map size_of xs ≡ replicate n size → map value_of xs ≡ replicate m value
-    → All (λ x. (size_of x ≡ size) × (value_of x ≡ value)) xs
-all_alike size_of value_of size value [] n m e f = All-nil (λ x. (size_of x ≡ size) × (value_of x ≡ value))
-all_alike size_of value_of size value (x ∷ xs) zero m e f = absurd (cc)
-all_alike size_of value_of size value (x ∷ xs) (suc n) zero e f = absurd (cc)
-all_alike size_of value_of size value (x ∷ xs) (suc n) (suc m) e f =
-    let size_is : size_of x ≡ size = cc in
-    let value_is : value_of x ≡ value = cc in
-    All-cons (λ x. (size_of x ≡ size) × (value_of x ≡ value)) x xs (size_is, value_is)
-    (all_alike size_of value_of size value xs n m (cc) (cc))
-
--- as many as are told one by one
-pub as_many : {X : Type 0} (f : X → ℕ) (v : ℕ) (xs : List X) (n : ℕ) → map f xs ≡ replicate n v → length xs ≡ n
-as_many f v [] zero e = refl
-as_many f v [] (suc n) e = absurd (cc)
-as_many f v (x ∷ xs) zero e = absurd (cc)
-as_many f v (x ∷ xs) (suc n) e = ap suc (as_many f v xs n (cc))
-
 -- ---- one worker
 
 pub all_are_pieces : (pieces : ℕ) (numbers : List ℕ) → All (λ number. number < pieces) numbers

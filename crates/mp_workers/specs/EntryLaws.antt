@@ -91,7 +91,8 @@ told whole column p word h lt is = elim is [
 
 -- ---- lists of words
 
-lesser_within : (n word : ℕ) (slot : Option Near) → IsWithin n slot → IsWithin word slot → IsWithin (min n word) slot
+lesser_within : (n word : ℕ) (slot : Option Near) → IsWithin n slot → IsWithin word slot
+    → IsWithin (min n word) slot
 lesser_within n word slot h k = elim (cases_lt n word) [
   | inl less ↦ subst (λ x. IsWithin x slot) (first n word less) h
   | inr more ↦ subst (λ x. IsWithin x slot) (other n word more) k
@@ -121,7 +122,8 @@ lowered whole words place word h lt is = record {
 }
 
 -- words that tell nothing
-pub none_within : (whole : Column) (count : ℕ) → count ≡ length whole → AreWithin whole (replicate count no_word)
+pub none_within : (whole : Column) (count : ℕ) → count ≡ length whole
+    → AreWithin whole (replicate count no_word)
 none_within whole count e = record {
   places = length-replicate count no_word ∙ e;
   each = λ k lt. subst (λ x. IsWithin x (get_or whole k None))

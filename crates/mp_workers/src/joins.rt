@@ -10,7 +10,7 @@ ghost use Rattle.std.specs.Thread.{IsSync};
 use crate::begins::Begin;
 use crate::columns::profile_of;
 use crate::entries::Entries;
-use crate::seeks::{find_all, find_seeds};
+use crate::seeks::find_by_workers;
 use crate::shared_tiles::SharedTiles;
 use crate::sharing::run_sharing;
 use crate::teams::{run_all, run_begun, run_one_after_another};
@@ -18,7 +18,7 @@ use mp_nums::{Memory, Sample, Slots};
 use mp_outside::Gate;
 use mp_partial::{Kernel, MAX_WORKERS, Profile};
 use mp_series::{MAX_SAMPLES, MAX_WINDOW, MIN_WINDOW};
-use mp_skips::{Seeds, Seeking};
+use mp_skips::Seeds;
 use mp_tiles::{
     JoinSeeds, JoinTiles, MAX_TILE, MAX_TILES, OwnTiles, Sides, SummedJoin, SummedTiles,
     summed_tile,
@@ -118,11 +118,14 @@ fn seeds_and_entries<'a, R: Threads + Sync>(
     ensures { IfOk result (λ made. IfSome made.1 (λ e. e ≡ series_in own.now)) }
 {
     if workers == 1 {
-        return Ok((find_seeds(rt, alloc, wide, workers)?, None));
+        return Ok((
+            find_by_workers(rt, alloc, wide.seeds(alloc)?, workers)?,
+            None,
+        ));
     }
     let front = move || -> Result<Seeds, Memory>
         requires { IsSync R.row × (1 ≤ workers) × (workers ≤ MAX_WORKERS) }
-    { find_seeds(rt, alloc, wide, workers) };
+    { find_by_workers(rt, alloc, wide.seeds(alloc)?, workers) };
     let back = move || -> Result<Entries, Memory>
         ensures { IfOk result (λ e. e ≡ series_in own.entry.now) }
     { entries_for(alloc, own) };
@@ -157,28 +160,6 @@ pub fn self_join<R: Threads + Sync, G: Gate>(
     let workers = workers_for(pairs(samples, samples) / 2, workers);
     let sides = both_sides(rt, alloc, &tiles, tile, workers, gate)?;
     Ok(profile_of(rt, &sides, workers, room))
-}
-
-/// The pairs of windows of two series that are likely near, looked for by so many workers side by side. Where there are
-/// few pairs to compare, fewer do.
-fn find_join_seeds<R: Threads + Sync>(
-    rt: &R,
-    alloc: Global,
-    tiles: &SummedJoin,
-    workers: u32,
-) -> Result<JoinSeeds, Memory>
-    requires some { 1 ≤ workers }
-    requires few { workers ≤ MAX_WORKERS }
-{
-    let first = tiles.seeds(alloc)?;
-    let workers = workers_for(first.pairs(), workers);
-    let mut some = Vec::with_capacity(alloc, workers as usize)?;
-    some.push(first)?;
-    for _ in 1..workers {
-        some.push(tiles.seeds(alloc)?)?;
-    }
-    find_all(rt, some.as_mut_slice());
-    Ok(some.swap_remove(0))
 }
 
 /// The pairs of windows of two series that are likely near.
@@ -226,7 +207,7 @@ fn nearest_of_other<R: Threads + Sync, G: Gate>(
         let wide = tiles
             .wide(tile.max(summed_tile(tiles.size())))
             .by_sums(&sums);
-        let seeds = find_join_seeds(rt, alloc, &wide, workers)?;
+        let seeds = find_by_workers(rt, alloc, wide.seeds(alloc)?, workers)?;
         let ahead = AheadOfJoin {
             tiles: &wide,
             seeds: &seeds,

@@ -20,6 +20,6 @@ pub use desks::Desk;
 pub use joins::{ab_join, self_join, workers_for};
 pub use laws::desk_gives_each_piece;
 pub use passes::Pass;
-pub use seeks::{find_all, find_seeds};
-pub use sharing::{Sharing, run_sharing};
+pub use seeks::find_by_workers;
+pub use sharing::{Sharing, run_sharing, run_sharing_in};
 pub use teams::{run_all, run_begun, run_one_after_another};

@@ -7,8 +7,7 @@ use crate::begins::Share;
 use crate::joins::workers_for;
 use mp_nums::Memory;
 use mp_partial::MAX_WORKERS;
-use mp_skips::{Seeds, Seeking};
-use mp_tiles::SummedTiles;
+use mp_skips::Seeking;
 use std::alloc::Global;
 use std::thread::{Threads, join_mut};
 
@@ -62,37 +61,26 @@ fn find_both<R: Threads + Sync, S: Seeking>(
     join_mut(rt, &mut front, &mut back);
 }
 
-/// Looks for all with some side by side, a share with each. The first of them then has what all have found.
-pub fn find_all<R: Threads + Sync, S: Seeking>(rt: &R, some: &mut [S])
-    requires some { 0 < length some.old }
-    requires few { length some.old ≤ MAX_WORKERS }
-    ensures { length some.new ≡ length some.old }
-{
-    let first = Share {
-        number: 0,
-        of: some.len() as u32,
-    };
-    find_some(rt, &first, some);
-}
-
-/// The pairs of windows of a series that are likely near, looked for by so many workers side by side. Where there are
-/// few pairs to compare, fewer do.
-pub fn find_seeds<R: Threads + Sync>(
+/// What is looked for, a share by each of so many workers side by side. Where there are few pairs to compare, fewer do.
+pub fn find_by_workers<R: Threads + Sync, S: Seeking>(
     rt: &R,
     alloc: Global,
-    tiles: &SummedTiles,
+    first: S,
     workers: u32,
-) -> Result<Seeds, Memory>
+) -> Result<S, Memory>
     requires some { 1 ≤ workers }
     requires few { workers ≤ MAX_WORKERS }
 {
-    let first = tiles.seeds(alloc)?;
     let workers = workers_for(first.pairs(), workers);
     let mut some = Vec::with_capacity(alloc, workers as usize)?;
-    some.push(first)?;
     for _ in 1..workers {
-        some.push(tiles.seeds(alloc)?)?;
+        some.push(first.again(alloc)?)?;
     }
-    find_all(rt, some.as_mut_slice());
+    some.push(first)?;
+    let whole = Share {
+        number: 0,
+        of: workers,
+    };
+    find_some(rt, &whole, some.as_mut_slice());
     Ok(some.swap_remove(0))
 }

@@ -1,6 +1,6 @@
 //! Workers that share what they find while they run the pieces of a kernel.
 
-ghost use Rattle.std.specs.Prelude.{◌≡◌, ℕ, ◌<◌, ◌≤◌, ◌++◌, List, length, IfOk};
+ghost use Rattle.std.specs.Prelude.{◌≡◌, ℕ, ◌<◌, ◌≤◌, ◌++◌, List, All, length, IfOk};
 ghost use Rattle.std.specs.Thread.{IsSync, IsSend};
 ghost use Rattle.mp_partial.specs.Values.{Value, merged_below};
 ghost use Rattle.mp_workers.specs.Desks.{Drew, past};
@@ -256,10 +256,31 @@ pub fn run_sharing<R: Threads + Sync, P: Part, S: Sharing<Out = P>, G: Gate>(
     ensures size { IfOk result (λ out. P.size_of out ≡ S.size_of work.now) }
 {
     let mut parts = units(alloc, workers, work.size())?;
+    run_sharing_in(rt, alloc, work, &mut parts, gate)
+}
+
+/// The same by a worker for each of some parts, in which nothing was found yet. The workers take them.
+pub fn run_sharing_in<R: Threads + Sync, P: Part, S: Sharing<Out = P>, G: Gate>(
+    rt: &R,
+    alloc: Global,
+    work: &S,
+    parts: &mut Vec<P>,
+    gate: &G,
+) -> Result<P, Memory>
+    requires pieces { S.pieces_of work.now ≤ MAX_PIECES }
+    requires some { 1 ≤ length parts.old.items }
+    requires workers { length parts.old.items ≤ MAX_WORKERS }
+    requires unfound { All (λ part. (P.size_of part ≡ S.size_of work.now)
+        × (P.value part ≡ P.unit_of (S.size_of work.now))) parts.old.items }
+    requires whole { S.whole work.now ≡ merged_below P.merged (P.unit_of (S.size_of work.now)) (S.value_of work.now)
+        (S.pieces_of work.now) }
+    ensures value { IfOk result (λ out. P.value out ≡ S.whole work.now) }
+    ensures size { IfOk result (λ out. P.size_of out ≡ S.size_of work.now) }
+{
     let (desk, mut pass) = Desk::new(alloc, work.pieces())?;
-    let mut team = hire(alloc, &desk, &mut pass, &mut parts)?;
+    let mut team = hire(alloc, &desk, &mut pass, parts)?;
     run_team(rt, &desk, work, gate, team.as_mut_slice());
-    let found = gather(&desk, &mut pass, team, &mut parts)?;
+    let found = gather(&desk, &mut pass, team, parts)?;
     // the passes are one again, and show that each piece was drawn
     let _next = desk.close(pass);
     Ok(found)

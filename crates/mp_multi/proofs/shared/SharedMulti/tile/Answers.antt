@@ -29,8 +29,8 @@ returns-clause-is g c =
     let parts = own.parts in
     let same : parts_of parts tiles ≡ c.args.self.now.tiles =
     ap (λ (multi : MultiTiling). multi.tiles) c.self.view_is in
-    c.part_of.ensures
-    ∙ ap (λ h. part_of h c.tile-tile.result (piece % parts)) c.height_of.ensures.is
+    c.part_of_tile.ensures
+    ∙ ap (λ h. part_of h c.tile-tile.result (piece % parts)) c.rows_in_part.ensures.is
     ∙ ap (λ t. part_of (part_height parts) t (piece % parts)) c.tile-tile.ensures.is
     ∙ sym (part_is parts tiles piece no_tile (piece_below parts piece tiles c.args.self.now.tiles same c.requires))
     ∙ ap (λ ts. get_or ts piece no_tile) same

@@ -6,7 +6,7 @@ use Rattle.mp_multi.proofs.tiles.SummedMulti.parts.Goals as goal
 
 pub returns-clause-together : goal.returns-clause-together
 returns-clause-together g c =
-    let parts = c.parts_for.result in
+    let parts = c.parts_within.result in
     subst (λ (multi : MultiTiling). multi_together (in_parts parts multi) ≡ multi_together multi) c.self.view_is
-    (parts_together parts g.row.D c.self.inside.tiles (omega (arith, c.parts_for.ensures.some))
+    (parts_together parts g.row.D c.self.inside.tiles (omega (arith, c.parts_within.ensures.some))
     c.self.invariant.tiling)
