@@ -6,74 +6,59 @@ ghost use Rattle.mp_partial.specs.declared.limits.TheConstants.{MAX_WORKERS};
 ghost use Rattle.mp_cuts.specs.declared.cuts.TheConstants.{MAX_TILE};
 
 use crate::words::{Body, Words};
-use mp_nums::{Memory, Sample, Slot};
+use mp_nums::{Memory, Sample, Slot, Slots};
 use mp_outside::OpenGate;
 use mp_partial::Profile;
+use mp_plain::Columns;
 use mp_workers::{ab_join, self_join};
 use std::thread::Threads;
 
-/// A number that tells what is found from something else, but for chance.
-pub fn sum<R: AllocGlobal + Threads + Sync>(
-    rt: &R,
-    words: &Words,
-    samples: &[Sample],
-) -> Result<u128, Memory>
-    requires { length samples.now ≤ MAX_SAMPLES }
-{
-    match words.body {
-        Body::Workers | Body::Each => sum_by_workers(rt, words, samples),
-        Body::Tiles => sum_by_tiles(rt, words, samples),
-        Body::Pairs => sum_by_pairs(rt, words, samples),
-        Body::Join => sum_of_join(rt, words, samples),
+/// What is found.
+#[derive(Drop)]
+pub enum Found {
+    Profile(Profile),
+    Columns(Columns),
+    Join(Slots),
+}
+
+impl Found {
+    /// A number that tells what is found from something else, but for chance.
+    pub fn sum(&self) -> u128 {
+        match self {
+            Found::Profile(profile) => {
+                sum_of_columns(profile.all(), profile.left(), profile.right())
+            }
+            Found::Columns(columns) => sum_of_columns(
+                columns.all.as_slice(),
+                columns.left.as_slice(),
+                columns.right.as_slice(),
+            ),
+            Found::Join(slots) => sum_of_column(slots.as_slice()),
+        }
     }
 }
 
-fn sum_by_workers<R: AllocGlobal + Threads + Sync>(
+/// Finds what is asked for.
+pub fn find<R: AllocGlobal + Threads + Sync>(
     rt: &R,
     words: &Words,
     samples: &[Sample],
-) -> Result<u128, Memory>
+) -> Result<Found, Memory>
     requires { length samples.now ≤ MAX_SAMPLES }
 {
-    let (m, tile, workers) = (words.window, words.tile, words.workers);
-    let profile = self_join(rt, rt.alloc(), samples, m, tile, workers, &OpenGate)?;
-    Ok(sum_of_profile(&profile))
-}
-
-fn sum_by_tiles(rt: &impl AllocGlobal, words: &Words, samples: &[Sample]) -> Result<u128, Memory>
-    requires { length samples.now ≤ MAX_SAMPLES }
-{
-    let profile = mp_tiles::profile(rt.alloc(), samples, words.window, words.tile)?;
-    Ok(sum_of_profile(&profile))
-}
-
-fn sum_by_pairs(rt: &impl AllocGlobal, words: &Words, samples: &[Sample]) -> Result<u128, Memory>
-    requires { length samples.now ≤ MAX_SAMPLES }
-{
-    let columns = mp_plain::profile(rt.alloc(), samples, words.window)?;
-    Ok(sum_of_columns(
-        columns.all.as_slice(),
-        columns.left.as_slice(),
-        columns.right.as_slice(),
-    ))
-}
-
-/// Of the join from the first half of the samples to the second.
-fn sum_of_join<R: AllocGlobal + Threads + Sync>(
-    rt: &R,
-    words: &Words,
-    samples: &[Sample],
-) -> Result<u128, Memory>
-    requires { length samples.now ≤ MAX_SAMPLES }
-{
-    let (a, b) = samples.split_at(samples.len() / 2);
-    let (m, tile, workers) = (words.window, words.tile, words.workers);
-    let joined = ab_join(rt, rt.alloc(), a, b, m, tile, workers, &OpenGate)?;
-    Ok(sum_of_column(joined.as_slice()))
-}
-
-fn sum_of_profile(profile: &Profile) -> u128 {
-    sum_of_columns(profile.all(), profile.left(), profile.right())
+    let (alloc, m, tile, workers) = (rt.alloc(), words.window, words.tile, words.workers);
+    Ok(match words.body {
+        Body::Workers | Body::Each => {
+            Found::Profile(self_join(rt, alloc, samples, m, tile, workers, &OpenGate)?)
+        }
+        Body::Tiles => Found::Profile(mp_tiles::profile(alloc, samples, m, tile)?),
+        Body::Pairs => Found::Columns(mp_plain::profile(alloc, samples, m)?),
+        Body::Join => {
+            // from the first half of the samples to the second
+            let (a, b) = samples.split_at(samples.len() / 2);
+            Found::Join(ab_join(rt, alloc, a, b, m, tile, workers, &OpenGate)?)
+        }
+    })
 }
 
 fn sum_of_columns(all: &[Slot], left: &[Slot], right: &[Slot]) -> u128 {

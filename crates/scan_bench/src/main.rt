@@ -76,8 +76,9 @@ fn time<R: AllocGlobal + Clock + Print + Threads + Sync>(
     requires { length samples.now ≤ MAX_SAMPLES }
 {
     let start = Instant::now(rt)?;
-    let sum = bodies::sum(rt, &words, samples)?;
-    report(rt, sum, words.timed, start.elapsed(rt)?)
+    let found = bodies::find(rt, &words, samples)?;
+    let time = start.elapsed(rt)?;
+    report(rt, found.sum(), words.timed, time)
 }
 
 fn report(rt: &impl Print, sum: u128, timed: bool, time: Duration) -> Result<()> {
