@@ -150,7 +150,12 @@ impl<'a> Entries<'a> {
         ensures size { length into.new.items ≡ length into.old.items }
         ensures spare { into.new.spare ≡ into.old.spare }
     {
-        if let Some(near) = Compact::of_word(self.find(place)).slot() {
+        let word = self.find(place);
+        // most words tell what stands there already
+        if word_of(&into.as_slice()[place as usize]) <= word {
+            return;
+        }
+        if let Some(near) = Compact::of_word(word).slot() {
             offer_at(into, place, near.index, near.dist);
         }
     }

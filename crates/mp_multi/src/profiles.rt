@@ -1,6 +1,6 @@
 //! The multidimensional profile of several channels.
 
-ghost use Rattle.std.specs.Prelude.{◌≡◌, ◌≤◌, [], ◌∷◌, length, map, slice_index_or, IfOk, IfSome};
+ghost use Rattle.std.specs.Prelude.{◌≡◌, ◌+◌, ◌≤◌, [], ◌∷◌, length, map, slice_index_or, IfOk, IfSome};
 ghost use Rattle.std.specs.Thread.{IsSync};
 ghost use Rattle.mp_defs.specs.Series.{series_of};
 ghost use Rattle.mp_results.specs.Multi.{multi_of};
@@ -12,9 +12,8 @@ use crate::entries::Entries;
 use crate::kernels::MultiTiles;
 use crate::limits::MAX_CHANNELS;
 use crate::mates::Search;
-use crate::plans::MultiPlan;
 use crate::shared::SharedMulti;
-use crate::summed::MultiSums;
+use crate::summed::{MultiSums, MultiUnits};
 use crate::tiles::SummedMulti;
 use mp_cuts::{MAX_TILE, MAX_TILES};
 use mp_nums::{Memory, Slots};
@@ -37,47 +36,77 @@ fn parts_for(workers: u32) -> u32
     if workers == 1 { 1 } else { PARTS }
 }
 
-/// Slots of so many windows for each of so many workers, in which nothing was found yet.
-fn unfound_slots(alloc: Global, workers: u32, windows: u64) -> Result<Vec<Slots>, Memory>
-    ensures { IfOk result (λ slots. AreUnfound workers windows slots.items) }
-{
-    let slots = units(alloc, workers, windows)?;
-    Ok(slots)
-}
-
-/// The coarse sums of channels, where they pay, and slots for each of so many workers, in which nothing was found yet.
-/// Several workers make the ones while they make the others: memory costs most where it is used for the first time.
-fn sums_and_slots<'a, R: Threads + Sync, const D: usize>(
+/// Slots of so many windows for each of so many workers, in which nothing was found yet, made by as many. Memory costs
+/// most where it is used for the first time.
+#[cycle(slots)]
+fn unfound_slots<R: Threads + Sync>(
     rt: &R,
     alloc: Global,
-    tiles: &MultiTiles<'a, D>,
-    plan: &MultiPlan<'a>,
     workers: u32,
-) -> Result<Option<(MultiSums<'a>, Vec<Slots>)>, Memory>
-    ensures plan { IfOk result (λ found. IfSome found (λ made. made.0.plan ≡ plan.now)) }
-    ensures slots { IfOk result (λ found. IfSome found (λ made.
-        AreUnfound workers (multi_size tiles.now) made.1.items)) }
+    windows: u64,
+) -> Result<Vec<Slots>, Memory>
+    ensures { IfOk result (λ slots. AreUnfound workers windows slots.items) }
 {
-    let windows = tiles.size();
-    if workers == 1 {
-        return match MultiSums::of(rt, alloc, plan, windows, workers)? {
-            Some(sums) => Ok(Some((sums, unfound_slots(alloc, workers, windows)?))),
-            None => Ok(None),
-        };
+    if workers <= 1 {
+        return Ok(units(alloc, workers, windows)?);
     }
-    let front = move || -> Result<Option<MultiSums>, Memory>
+    let half = workers / 2;
+    unfound_halves(rt, alloc, half, workers - half, windows)
+}
+
+/// The same for some workers and for others, side by side.
+#[cycle(slots)]
+fn unfound_halves<R: Threads + Sync>(
+    rt: &R,
+    alloc: Global,
+    some: u32,
+    others: u32,
+    windows: u64,
+) -> Result<Vec<Slots>, Memory>
+    requires some { 1 ≤ some }
+    requires others { 1 ≤ others }
+    ensures { IfOk result (λ slots. AreUnfound (some + others) windows slots.items) }
+{
+    let front = move || -> Result<Vec<Slots>, Memory>
         requires { IsSync R.row }
-        ensures { IfOk result (λ found. IfSome found (λ sums. sums.plan ≡ plan.entry.now)) }
-    { MultiSums::of(rt, alloc, plan, windows, workers) };
+        ensures { IfOk result (λ slots. AreUnfound some windows slots.items) }
+    { unfound_slots(rt, alloc, some, windows) };
     let back = move || -> Result<Vec<Slots>, Memory>
-        ensures { IfOk result (λ slots. AreUnfound workers windows slots.items) }
-    { unfound_slots(alloc, workers, windows) };
-    let (sums, slots) = join(rt, front, back);
-    let slots = slots?;
-    match sums? {
-        Some(sums) => Ok(Some((sums, slots))),
-        None => Ok(None),
+        requires { IsSync R.row }
+        ensures { IfOk result (λ slots. AreUnfound others windows slots.items) }
+    { unfound_slots(rt, alloc, others, windows) };
+    let (low, high) = join(rt, front, back);
+    let (mut low, mut high) = (low?, high?);
+    low.append(&mut high)?;
+    Ok(low)
+}
+
+/// The coarse sums of channels, and slots of so many windows for each of so many workers, in which nothing was found
+/// yet. Several workers make the ones while they make the others.
+fn sums_and_slots<'a, R: Threads + Sync>(
+    rt: &R,
+    alloc: Global,
+    units: &MultiUnits<'a>,
+    windows: u64,
+    workers: u32,
+) -> Result<(MultiSums<'a>, Vec<Slots>), Memory>
+    ensures plan { IfOk result (λ made. made.0.plan ≡ units.now.plan) }
+    ensures slots { IfOk result (λ made. AreUnfound workers windows made.1.items) }
+{
+    if workers == 1 {
+        let sums = MultiSums::of(rt, alloc, units, workers)?;
+        return Ok((sums, unfound_slots(rt, alloc, workers, windows)?));
     }
+    let front = move || -> Result<MultiSums, Memory>
+        requires { IsSync R.row }
+        ensures { IfOk result (λ sums. sums.plan ≡ units.entry.now.plan) }
+    { MultiSums::of(rt, alloc, units, workers) };
+    let back = move || -> Result<Vec<Slots>, Memory>
+        requires { IsSync R.row }
+        ensures { IfOk result (λ slots. AreUnfound workers windows slots.items) }
+    { unfound_slots(rt, alloc, workers, windows) };
+    let (sums, slots) = join(rt, front, back);
+    Ok((sums?, slots?))
 }
 
 /// The pairs of windows that are likely near, and the entries that workers share: the ones are found while the others
@@ -168,8 +197,8 @@ fn run_tiles<R: Threads + Sync, G: Gate, const D: usize>(
 {
     let windows = tiles.size();
     let workers = workers_for(windows.saturating_mul(windows) / 2, workers);
-    let plan = tiles.plan();
-    if let Some((sums, mut slots)) = sums_and_slots(rt, alloc, tiles, &plan, workers)? {
+    if let Some(units) = MultiUnits::of(&tiles.plan(), windows) {
+        let (sums, mut slots) = sums_and_slots(rt, alloc, &units, windows, workers)?;
         return run_by_sums(rt, alloc, tiles, &sums, &mut slots, tile, workers, gate);
     }
     if workers == 1 {

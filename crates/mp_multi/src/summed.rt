@@ -72,44 +72,74 @@ fn sum_up<'a>(alloc: Global, plan: &MultiPlan<'a>, units: &Units) -> Result<Vec<
     Ok(sums)
 }
 
+/// Channels, and in which units their wide coarse sums are and the narrow ones. No sample is rounded in them.
+#[derive(Clone, Copy)]
+pub(crate) struct MultiUnits<'a> {
+    plan: MultiPlan<'a>,
+    wide: Units,
+    narrow: Units,
+    ghost wide_fits: { 8 * wide.eights ≤ plan.channels.m },
+    ghost narrow_fits: { 8 * narrow.eights ≤ plan.channels.m },
+    ghost wide_levels: { (c : ℕ) → c < length plan.channels.list.now
+        → AreLevels wide.low wide.width (series_of (slice_index_or plan.channels.list.now c [])) },
+    ghost narrow_levels: { (c : ℕ) → c < length plan.channels.list.now
+        → AreLevels narrow.low narrow.width (series_of (slice_index_or plan.channels.list.now c [])) },
+    ghost exact: { narrow.step.size ≡ 1 },
+    ghost wide_exact: { wide.step.size ≡ 1 },
+    ghost low: { narrow.eights ≤ 2 },
+}
+
+impl<'a> MultiUnits<'a> {
+    /// The units of the channels. None where coarse sums wouldn't pay: where there are few windows, and where samples
+    /// would be rounded.
+    pub(crate) fn of(plan: &MultiPlan<'a>, windows: u64) -> Option<MultiUnits<'a>>
+        ensures plan { IfSome result (λ units. units.plan ≡ plan.now) }
+    {
+        if windows < LEAST_WINDOWS || plan.channels.m < LEAST_SAMPLES {
+            return None;
+        }
+        let range = range_of(plan.channels.list);
+        let (wide, narrow) = eights_for(plan.channels.m);
+        let wide = units_for(&range, wide);
+        let narrow = units_for(&range, narrow);
+        if wide.step.size > 1 || narrow.step.size > 1 {
+            return None;
+        }
+        Some(MultiUnits {
+            plan: *plan,
+            wide,
+            narrow,
+        })
+    }
+}
+
 /// The wide coarse sums of each channel, and the narrow ones. Where there are several workers, the ones are made while
 /// the others are.
 fn sum_up_both<'a, R: Threads + Sync>(
     rt: &R,
     alloc: Global,
-    plan: &MultiPlan<'a>,
-    wide: &Units,
-    narrow: &Units,
+    units: &MultiUnits<'a>,
     workers: u32,
 ) -> Result<(Vec<Summed<'a>>, Vec<Summed<'a>>), Memory>
-    requires wide { 8 * wide.now.eights ≤ plan.now.channels.m }
-    requires narrow { 8 * narrow.now.eights ≤ plan.now.channels.m }
-    requires wide_levels { (c : ℕ) → c < length plan.now.channels.list.now
-        → AreLevels wide.now.low wide.now.width (series_of (slice_index_or plan.now.channels.list.now c [])) }
-    requires narrow_levels { (c : ℕ) → c < length plan.now.channels.list.now
-        → AreLevels narrow.now.low narrow.now.width (series_of (slice_index_or plan.now.channels.list.now c [])) }
-    ensures wide { IfOk result (λ both. AreSummed plan.now.channels.m plan.now.channels.list.now wide.now
-        both.0.items) }
-    ensures narrow { IfOk result (λ both. AreSummed plan.now.channels.m plan.now.channels.list.now narrow.now
-        both.1.items) }
+    ensures wide { IfOk result (λ both. AreSummed units.now.plan.channels.m units.now.plan.channels.list.now
+        units.now.wide both.0.items) }
+    ensures narrow { IfOk result (λ both. AreSummed units.now.plan.channels.m units.now.plan.channels.list.now
+        units.now.narrow both.1.items) }
 {
     if workers == 1 {
-        return Ok((sum_up(alloc, plan, wide)?, sum_up(alloc, plan, narrow)?));
+        return Ok((
+            sum_up(alloc, &units.plan, &units.wide)?,
+            sum_up(alloc, &units.plan, &units.narrow)?,
+        ));
     }
     let front = move || -> Result<Vec<Summed>, Memory>
-        requires { (8 * wide.now.eights ≤ plan.now.channels.m)
-            × ((c : ℕ) → c < length plan.now.channels.list.now
-            → AreLevels wide.now.low wide.now.width (series_of (slice_index_or plan.now.channels.list.now c []))) }
-        ensures { IfOk result (λ sums. AreSummed plan.entry.now.channels.m plan.entry.now.channels.list.now
-            wide.entry.now sums.items) }
-    { sum_up(alloc, plan, wide) };
+        ensures { IfOk result (λ sums. AreSummed units.entry.now.plan.channels.m
+            units.entry.now.plan.channels.list.now units.entry.now.wide sums.items) }
+    { sum_up(alloc, &units.plan, &units.wide) };
     let back = move || -> Result<Vec<Summed>, Memory>
-        requires { (8 * narrow.now.eights ≤ plan.now.channels.m)
-            × ((c : ℕ) → c < length plan.now.channels.list.now
-            → AreLevels narrow.now.low narrow.now.width (series_of (slice_index_or plan.now.channels.list.now c []))) }
-        ensures { IfOk result (λ sums. AreSummed plan.entry.now.channels.m plan.entry.now.channels.list.now
-            narrow.entry.now sums.items) }
-    { sum_up(alloc, plan, narrow) };
+        ensures { IfOk result (λ sums. AreSummed units.entry.now.plan.channels.m
+            units.entry.now.plan.channels.list.now units.entry.now.narrow sums.items) }
+    { sum_up(alloc, &units.plan, &units.narrow) };
     let (wide, narrow) = join(rt, front, back);
     Ok((wide?, narrow?))
 }
@@ -130,35 +160,23 @@ pub(crate) struct MultiSums<'a> {
 }
 
 impl<'a> MultiSums<'a> {
-    /// The coarse sums of the channels. None where they wouldn't pay: where there are few windows, and where samples
-    /// would be rounded.
+    /// The coarse sums of the channels, made by several workers where there are some.
     pub(crate) fn of<R: Threads + Sync>(
         rt: &R,
         alloc: Global,
-        plan: &MultiPlan<'a>,
-        windows: u64,
+        units: &MultiUnits<'a>,
         workers: u32,
-    ) -> Result<Option<MultiSums<'a>>, Memory>
-        ensures plan { IfOk result (λ found. IfSome found (λ sums. sums.plan ≡ plan.now)) }
+    ) -> Result<MultiSums<'a>, Memory>
+        ensures plan { IfOk result (λ sums. sums.plan ≡ units.now.plan) }
     {
-        if windows < LEAST_WINDOWS || plan.channels.m < LEAST_SAMPLES {
-            return Ok(None);
-        }
-        let range = range_of(plan.channels.list);
-        let (wide, narrow) = eights_for(plan.channels.m);
-        let wide_units = units_for(&range, wide);
-        let narrow_units = units_for(&range, narrow);
-        if wide_units.step.size > 1 || narrow_units.step.size > 1 {
-            return Ok(None);
-        }
-        let (wide, narrow) = sum_up_both(rt, alloc, plan, &wide_units, &narrow_units, workers)?;
-        Ok(Some(MultiSums {
-            plan: *plan,
-            wide_units,
-            narrow_units,
+        let (wide, narrow) = sum_up_both(rt, alloc, units, workers)?;
+        Ok(MultiSums {
+            plan: units.plan,
+            wide_units: units.wide,
+            narrow_units: units.narrow,
             wide,
             narrow,
-        }))
+        })
     }
 
     /// The same channels as rows and as columns, in some 300 bytes for each.

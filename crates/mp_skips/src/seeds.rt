@@ -19,8 +19,8 @@ use std::simd::prelude::*;
 const AROUND: usize = 256;
 
 /// What workers look for side by side, a share each. Nothing is promised of what they find.
-pub trait Seeking: Drop + Send + Sized {
-    /// Another one that looks for the same, and has found what this one has.
+pub trait Seeking: Drop + Send + Sync + Sized {
+    /// Another one that looks for the same, with what this one has found.
     fn again(&self, alloc: Global) -> Result<Self, Memory>;
 
     /// How many pairs of windows are compared, or some more.

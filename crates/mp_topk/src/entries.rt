@@ -146,7 +146,11 @@ impl<'a, const K: usize> RankEntries<'a, K> {
         ensures spare { into.new.spare ≡ into.old.spare }
     {
         for rank in 0..K {
-            into.take_word(place, rank, self.find(place, rank));
+            let word = self.find(place, rank);
+            // most words tell what stands there already
+            if word != into.word(place, rank) {
+                into.take_word(place, rank, word);
+            }
         }
     }
 

@@ -259,7 +259,8 @@ pub fn run_sharing<R: Threads + Sync, P: Part, S: Sharing<Out = P>, G: Gate>(
     run_sharing_in(rt, alloc, work, &mut parts, gate)
 }
 
-/// The same by a worker for each of some parts, in which nothing was found yet. The workers take them.
+/// The same by a worker for each of some parts, in which nothing was found yet. Nothing is promised of the parts that
+/// stand in the list afterwards.
 pub fn run_sharing_in<R: Threads + Sync, P: Part, S: Sharing<Out = P>, G: Gate>(
     rt: &R,
     alloc: Global,
