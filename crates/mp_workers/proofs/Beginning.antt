@@ -6,7 +6,7 @@ use Rattle.std.proofs.lemmas.List.Elements.{All-append, All-set, All-weaker}
 use Rattle.mp_partial.specs.Values.{Value}
 use Rattle.mp_partial.specs.MergeLaws.{IsMerging}
 use Rattle.mp_workers.specs.Begins.{AreAhead, IsAhead}
-use Rattle.mp_workers.specs.PartLaws.{as_many}
+use Rattle.mp_workers.proofs.PartLaws.{as_many}
 use Rattle.mp_workers.proofs.Teaming.{all_but_one}
 
 module _ {Part : Type 0} (size_of : Part → ℕ) (IsValue : ℕ → Value → Type 0) (value : Part → Value)

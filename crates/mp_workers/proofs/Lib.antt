@@ -1,3 +1,4 @@
+pub mod PartLaws
 pub mod Drawing
 pub mod Working
 pub mod Teaming

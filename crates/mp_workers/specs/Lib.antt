@@ -1,7 +1,6 @@
 pub mod Desks
 pub mod Begins
 pub mod Teams
-pub mod PartLaws
 pub mod Sharing
 pub mod SharingLaws
 pub mod Entries

@@ -1,7 +1,7 @@
 //! Pairs of windows that are likely near, looked for by workers side by side.
 
 ghost use Rattle.std.specs.Prelude.{◌+◌, ◌≤◌};
-ghost use Rattle.std.specs.Thread.{IsSync, IsSend};
+ghost use Rattle.std.specs.Thread.{IsSync};
 
 use crate::begins::Share;
 use crate::joins::workers_for;

@@ -1,7 +1,7 @@
 use Rattle.std.proofs.Common.{ap, ◌∙◌, arith}
 use Rattle.std.specs.Prelude.{replicate}
 use Rattle.std.proofs.lemmas.Result.{IfOk-weaker}
-use Rattle.mp_workers.specs.PartLaws.{all_alike}
+use Rattle.mp_workers.proofs.PartLaws.{all_alike}
 use Rattle.mp_workers.proofs.Teaming.{all_is_value}
 use Rattle.mp_workers.proofs.teams.run_all.Goals as goal
 

@@ -5,7 +5,7 @@ use Rattle.std.proofs.lemmas.Result.{IfOk-weaker}
 use Rattle.mp_partial.specs.Values.{merged_below}
 use Rattle.mp_workers.specs.Begins.{AreAhead}
 use Rattle.mp_workers.proofs.Beginning.{taken_out, units_ahead}
-use Rattle.mp_workers.specs.PartLaws.{all_alike, as_many}
+use Rattle.mp_workers.proofs.PartLaws.{all_alike, as_many}
 use Rattle.mp_workers.proofs.Teaming.{all_is_value, written_back}
 use Rattle.mp_workers.proofs.teams.run_begun.Goals as goal
 

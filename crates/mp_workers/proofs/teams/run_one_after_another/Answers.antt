@@ -3,7 +3,7 @@ use Rattle.std.specs.Prelude.{All, replicate}
 use Rattle.std.proofs.lemmas.List.Elements.{All-push, All-weaker}
 use Rattle.std.proofs.lemmas.Result.{IfOk-weaker}
 use Rattle.mp_partial.specs.Values.{merged_below}
-use Rattle.mp_workers.specs.PartLaws.{all_alike}
+use Rattle.mp_workers.proofs.PartLaws.{all_alike}
 use Rattle.mp_workers.proofs.Teaming.{all_is_value}
 use Rattle.mp_workers.proofs.teams.run_one_after_another.Goals as goal
 
