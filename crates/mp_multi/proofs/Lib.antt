@@ -24,10 +24,12 @@ pub mod LowestLanes
 pub mod GreatestLanes
 pub mod LaneLaws
 pub mod BoundLemmas
+pub mod HalfLemmas
 pub mod BoundLaws
 pub mod FreeLemmas
 pub mod NeedLemmas
 pub mod SkipLemmas
+pub mod KnownLemmas
 pub mod SeedLemmas
 pub mod SummedLemmas
 pub mod SharedLemmas

@@ -1,7 +1,7 @@
 -- Blocks of pairs that are passed over, and what scans of blocks give together.
-use Rattle.std.proofs.Common.{◌≡◌, ℕ, zero, suc, ◌+◌, ◌-◌, ◌*◌, ◌<◌, ◌≤◌, List, [], length, get_or, set, map, min}
+use Rattle.std.proofs.Common.{◌≡◌, ℕ, zero, suc, ◌+◌, ◌-◌, ◌*◌, ◌<◌, ◌≤◌, List, length, get_or, map, min}
 use Rattle.std.proofs.Common.{max, Bool}
-use Rattle.std.proofs.Common.{ap, ◌∙◌, sym, subst, arith, inl, inr, refl}
+use Rattle.std.proofs.Common.{ap, ◌∙◌, sym, subst, arith, inl, refl}
 use Rattle.std.specs.Prelude.{Option, Some, None, IfSome, IfNone, ◌||◌, ◌^◌}
 use Rattle.std.specs.Option.{option_map}
 use Rattle.mp_nums.specs.declared.nearest.Sq.{Sq}
@@ -16,10 +16,7 @@ use Rattle.mp_skips.specs.declared.sums.Units.{Units}
 use Rattle.mp_skips.specs.declared.sums.TheConstants.{NO_NEED}
 use Rattle.mp_skips.specs.Sums.{number_in}
 use Rattle.mp_multi.specs.Blocks.{AreScannedBy}
-use Rattle.std.proofs.lemmas.Bool.{cases_eq}
-use Rattle.std.proofs.lemmas.List.{get_or-set_same, get_or-set_other}
-use Rattle.mp_results.specs.Multi.{distance_in}
-use Rattle.mp_multi.specs.Skips.{AreDistancesIn, AreFar, IsWindowNeed, IsNeedOfAll, AreGroupNeeds}
+use Rattle.mp_multi.specs.Skips.{AreFar, IsWindowNeed, IsNeedOfAll, AreGroupNeeds}
 use Rattle.mp_multi.specs.Tiling.{window_count}
 use Rattle.mp_multi.specs.declared.plans.MultiPlan.{MultiPlan}
 use Rattle.mp_multi.proofs.BlockPairs.{inside, no_pairs, rows_next}
@@ -236,27 +233,6 @@ told_by (Some s) x some none = sym some
 pub small_by : (dist : Option Sq) → IfSome dist (λ d. d.0 < 2 ^ 64) → IfSome dist (λ d. d.0 < 2 ^ 110)
 small_by None small = tt
 small_by (Some s) small = omega (arith, small)
-
--- the distances of one channel more
-pub one_filled : (plan : MultiPlan) (i j count c : ℕ) (dists : List (List ℕ)) (own : List ℕ) → c < length dists
-    → AreDistancesIn plan i j count c dists
-    → ((r d : ℕ) → r < count
-    → distance_in plan.channels.m (map series_of plan.channels.list.now) (i + r) (j + r) c ≡ Some d
-    → number_in own r ≡ d)
-    → AreDistancesIn plan i j count (c + 1) (set dists c own)
-one_filled plan i j count c dists own there before here = record {
-  each = λ q r d lt few is. elim (cases_eq q c) [
-    | inl e ↦
-        subst (λ k. number_in (get_or (set dists c own) k []) r ≡ d) (sym e)
-        (subst (λ (v : List ℕ). number_in v r ≡ d) (sym (get_or-set_same dists c own [] there))
-        (here r d few
-        (subst (λ k. distance_in plan.channels.m (map series_of plan.channels.list.now) (i + r) (j + r) k ≡ Some d) e
-        is)))
-    | inr other ↦
-        subst (λ (v : List ℕ). number_in v r ≡ d) (sym (get_or-set_other dists c q own [] other))
-        (before.each q r d (omega (arith, lt, other)) few is)
-  ];
-}
 
 -- ---- parts of blocks
 

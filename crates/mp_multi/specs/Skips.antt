@@ -1,11 +1,12 @@
 -- What coarse sums of several channels tell of the values of many pairs at once.
-use Rattle.std.specs.Prelude.{◌≡◌, ℕ, ◌+◌, ◌*◌, ◌<◌, ◌≤◌, List, [], length, slice_index_or, map}
+use Rattle.std.specs.Prelude.{◌≡◌, ℕ, ◌+◌, ◌*◌, ◌<◌, ◌≤◌, List, [], length, slice_index_or, map, sum, take}
 use Rattle.std.specs.Prelude.{Option, Some, None, Bool}
 use Rattle.mp_nums.specs.declared.nearest.Near.{Near}
 use Rattle.mp_nums.specs.Listed.{Listed}
 use Rattle.mp_nums.specs.declared.samples.Sample.{Sample}
 use Rattle.mp_defs.specs.Series.{series_of}
 use Rattle.mp_results.specs.Multi.{distance_in, pair_value}
+use Rattle.mp_results.specs.Rising.{rising}
 use Rattle.mp_partial.specs.Values.{Column}
 use Rattle.mp_scans.specs.Slots.{Covers}
 use Rattle.mp_skips.specs.declared.sums.Coarse.{Coarse}
@@ -74,6 +75,14 @@ lane_of t vectors = map (λ v. number_in v t) vectors
 -- the numbers of channels in a lane
 abbrev pub lane_numbers : List (List ℕ) → ℕ → ℕ → Option ℕ
 lane_numbers sums t c = Some (number_in (slice_index_or sums c []) t)
+
+-- the sum of the k least numbers of channels at a place
+abbrev pub least_at : ℕ → ℕ → List (List ℕ) → ℕ → ℕ
+least_at k channels dists r = sum (take k (rising (lane_numbers dists r) channels))
+
+-- the first n numbers of each channel lie below a number
+pub record AreBelow (most channels n : ℕ) (dists : List (List ℕ)) : Type 0 where
+  pub each : (c r : ℕ) → c < channels → r < n → number_in (slice_index_or dists c []) r < most
 
 -- whatever window from first on reaches the need gives a window nothing
 pub record IsWindowNeed (plan : MultiPlan) (units : Units) (slots : Column) (first window need : ℕ) : Type 0 where

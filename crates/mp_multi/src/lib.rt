@@ -11,6 +11,7 @@ mod fast;
 mod fours;
 mod groups;
 mod kernels;
+mod known;
 mod lanes;
 mod laws;
 mod limits;

@@ -48,7 +48,7 @@ fn unfound_slots<R: Threads + Sync>(
     ensures { IfOk result (λ slots. AreUnfound workers windows slots.items) }
 {
     if workers <= 1 {
-        return Ok(units(alloc, workers, windows)?);
+        return units(alloc, workers, windows);
     }
     let half = workers / 2;
     unfound_halves(rt, alloc, half, workers - half, windows)

@@ -1,24 +1,20 @@
 //! The scan of a tile of several channels that passes over blocks of pairs which coarse sums tell to be far apart.
 
-ghost use Rattle.std.specs.Prelude.{◌≡◌, ℕ, ◌+◌, ◌-◌, ◌*◌, ◌^◌, ◌<◌, ◌≤◌, [], length, map, max, min, slice_index_or};
-ghost use Rattle.std.specs.Prelude.{Some, true};
-ghost use Rattle.std.specs.Option.{option_map};
-ghost use Rattle.mp_defs.specs.Series.{series_of};
-ghost use Rattle.mp_results.specs.Multi.{distance_in, pair_value};
-ghost use Rattle.mp_results.specs.Slide.{square};
-ghost use Rattle.mp_scans.specs.Offering.{in_block, only};
+ghost use Rattle.std.specs.Prelude.{◌≡◌, ℕ, ◌+◌, ◌-◌, ◌*◌, ◌%◌, ◌^◌, ◌<◌, ◌≤◌, length, max, min};
+ghost use Rattle.std.specs.Prelude.{true};
+ghost use Rattle.mp_scans.specs.Offering.{in_block};
 ghost use Rattle.mp_scans.specs.declared.sizes.TheConstants.{GROUP, ROWS};
 ghost use Rattle.mp_skips.specs.Sums.{number_in};
 ghost use Rattle.mp_skips.specs.declared.sums.TheConstants.{NO_NEED};
 ghost use Rattle.mp_multi.specs.Blocks.{AreScannedBy};
-ghost use Rattle.mp_multi.specs.Skips.{AreDistancesIn, AreFar, IsNeedOfAll, AreGroupNeeds};
+ghost use Rattle.mp_multi.specs.Skips.{AreFar, IsNeedOfAll, AreGroupNeeds};
 ghost use Rattle.mp_multi.specs.declared.skips.TheConstants.{MOST_HEIGHT};
 
 use crate::bounds::Level;
+use crate::known::{fill_dists, fill_sums, value_at};
 use crate::needs::MOST_GROUPS;
 use crate::scans::offer_both;
-use crate::values::least_sum;
-use mp_nums::{Slots, Sq};
+use mp_nums::Slots;
 use mp_scans::{GROUP, ROWS};
 use std::simd::prelude::*;
 
@@ -47,61 +43,6 @@ pub(crate) struct Rows {
 /// The most rows of a block of the narrow sums.
 const MOST_HEIGHT: usize = 16;
 
-/// The value of a row and a column, from the distances in each channel of a stretch of successive ones, of which it is
-/// the one at a place.
-#[inline]
-fn value_at<const D: usize, const N: usize>(
-    level: &Level,
-    row: usize,
-    column: usize,
-    dists: &[[u64; N]],
-    r: usize,
-) -> Option<Sq>
-    requires channels { length level.now.coarse.now ≡ D }
-    requires row { row < level.now.windows }
-    requires column { column < level.now.windows }
-    requires count { length dists.now ≡ D }
-    requires size { N ≤ 256 }
-    requires place { r < N }
-    requires dists { (c d : ℕ) → c < D → distance_in level.now.plan.channels.m
-        (map series_of level.now.plan.channels.list.now) row column c ≡ Some d
-        → number_in (slice_index_or dists.now c []) r ≡ d }
-    ensures { result ≡ option_map square (pair_value level.now.plan.channels.m level.now.plan.channels.k
-        (map series_of level.now.plan.channels.list.now) row column) }
-{
-    let mut known = [None; D];
-    for c in 0..D {
-        known[c] = level.coarse[c].distance_of(row, column, dists[c][r]);
-    }
-    least_sum(&known, level.plan.channels.k)
-}
-
-/// The distances of successive rows and columns in each channel.
-fn fill_dists<const D: usize, const N: usize>(
-    level: &Level,
-    row: usize,
-    column: usize,
-    count: usize,
-    dists: &mut [[u64; N]],
-)
-    requires exact { level.now.units.step.size ≡ 1 }
-    requires channels { length level.now.coarse.now ≡ D }
-    requires count { length dists.old ≡ D }
-    requires some { 1 ≤ count }
-    requires few { count ≤ N }
-    requires size { N ≤ 256 }
-    requires rows { row + count ≤ level.now.windows }
-    requires columns { column + count ≤ level.now.windows }
-    ensures dists { AreDistancesIn level.now.plan row column count D dists.new }
-    ensures count { length dists.new ≡ D }
-{
-    for c in 0..D {
-        let mut one = [0; N];
-        level.coarse[c].fill_distances(row, column, count, &mut one);
-        dists[c] = one;
-    }
-}
-
 /// Offers successive rows and columns of one diagonal to each other.
 pub(crate) fn scan_diagonal<const D: usize, const N: usize>(
     level: &Level,
@@ -115,6 +56,7 @@ pub(crate) fn scan_diagonal<const D: usize, const N: usize>(
     requires some { 1 ≤ count }
     requires few { count ≤ N }
     requires size { N ≤ 256 }
+    requires eights { N % 8 ≡ 0 }
     requires order { row ≤ column }
     requires columns { column + count ≤ level.now.windows }
     requires windows { length into.old.items ≡ level.now.windows }
@@ -124,9 +66,12 @@ pub(crate) fn scan_diagonal<const D: usize, const N: usize>(
     ensures windows { length into.new.items ≡ level.now.windows }
 {
     let mut dists = [[0; N]; D];
+    let mut sums = [0; N];
     fill_dists::<D, N>(level, row, column, count, &mut dists);
+    let told = fill_sums::<D, N>(level, &dists, count, &mut sums);
     for r in 0..count {
-        let value = value_at::<D, N>(level, row + r, column + r, &dists, r);
+        let sum = if told { Some(sums[r]) } else { None };
+        let value = value_at::<D, N>(level, row + r, column + r, &dists, r, sum);
         offer_both(into, (row + r) as u64, (column + r) as u64, value);
     }
 }

@@ -1,6 +1,6 @@
 //! Distances of series whose samples aren't rounded, from sums of the squares of plain numbers.
 
-ghost use Rattle.std.specs.Prelude.{◌≡◌, ℕ, ◌+◌, ◌^◌, ◌<◌, ◌≤◌, length, Some, None, IfSome, IfNone};
+ghost use Rattle.std.specs.Prelude.{◌≡◌, ℕ, ◌+◌, ◌*◌, ◌^◌, ◌<◌, ◌≤◌, length, Some, None, IfSome, IfNone};
 ghost use Rattle.mp_sums.specs.Grids.{distance_in};
 ghost use Rattle.mp_scans.specs.Windows.{row_windows, column_windows};
 ghost use Rattle.mp_skips.specs.Sums.{number_in};
@@ -32,6 +32,8 @@ impl<'a> Coarse<'a> {
         requires columns { column + count ≤ column_windows self.now.plan.grid }
         ensures dists { (r d : ℕ) → r < count → distance_in self.now.plan.grid (row + r) (column + r) ≡ Some d
             → number_in dists.new r ≡ d }
+        ensures small { (r : ℕ) → r < count → number_in dists.new r ≤ self.now.plan.grid.m * 2 ^ 48 }
+        ensures others { (r : ℕ) → count ≤ r → number_in dists.new r ≡ number_in dists.old r }
         ensures places { length dists.new ≡ length dists.old }
     {
         let mut sum = self.sum_at(row, column);

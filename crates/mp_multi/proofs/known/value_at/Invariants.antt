@@ -4,7 +4,7 @@ use Rattle.mp_nums.specs.declared.nearest.Sq.{Sq}
 use Rattle.mp_defs.specs.Series.{series_of}
 use Rattle.mp_results.specs.Multi.{distance_in}
 use Rattle.mp_multi.specs.LeastSums.{distance_at}
-use Rattle.mp_multi.proofs.skips.value_at.Given as goal
+use Rattle.mp_multi.proofs.known.value_at.Given as goal
 
 abbrev pub invariant-loop-c : goal.invariant-loop-c
 invariant-loop-c g l =

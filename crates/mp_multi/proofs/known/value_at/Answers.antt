@@ -1,13 +1,15 @@
-use Rattle.std.proofs.Common.{◌≡◌, ◌^◌, ◌<◌, ◌∙◌, map, sym, arith}
+use Rattle.std.proofs.Common.{◌≡◌, ◌^◌, ◌<◌, ◌∙◌, map, sym, subst, arith}
 use Rattle.std.proofs.lemmas.List.{length-set}
 use Rattle.std.specs.Prelude.{None, IfSome}
 use Rattle.std.specs.Option.{option_map}
 use Rattle.mp_defs.specs.Series.{series_of}
 use Rattle.mp_results.specs.Multi.{distance_in}
+use Rattle.mp_multi.specs.Skips.{least_at}
 use Rattle.mp_multi.proofs.BoundLaws.{channel_distance}
 use Rattle.mp_multi.proofs.ChannelLemmas.{set_next, value_is}
+use Rattle.mp_multi.proofs.KnownLemmas.{value_known}
 use Rattle.mp_multi.proofs.SkipLemmas.{told_by, small_by}
-use Rattle.mp_multi.proofs.skips.value_at.Goals as goal
+use Rattle.mp_multi.proofs.known.value_at.Goals as goal
 
 pub distance_of-requires-clause-dist : goal.distance_of-requires-clause-dist
 distance_of-requires-clause-dist g c = λ d there.
@@ -43,3 +45,13 @@ returns g c =
     ∙ value_is ch.m ch.k ch.list.now c.args.row c.args.column c.loop-c.known
     (omega (arith, c.loop-c.invariant.places, c.requires.channels, level.are.count))
     (λ q lt. c.loop-c.invariant.told q (omega (arith, lt, c.loop-c.invariant.places, c.loop-c-test.false)))
+
+pub returns-then-are_known : goal.returns-then-are_known
+returns-then-are_known g c =
+    let level = c.args.level.now in
+    let ch = level.plan.channels in
+    let least = least_at ch.k g.row.D c.args.dists.now c.args.r in
+    let here : c.from.result ≡ least =
+    c.from.ensures ∙ subst (λ sum. IfSome sum (λ n. n ≡ least)) c.in-Some.is c.requires.sum in
+    sym (value_known ch.m ch.k g.row.D c.args.row c.args.column c.args.r c.from.result ch.list.now c.args.dists.now
+    (omega (arith, c.requires.channels, level.are.count)) (omega arith) (c.are_known.ensures c.if-are_known.true) here)
