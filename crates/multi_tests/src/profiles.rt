@@ -215,6 +215,28 @@ fn expect_sums<R: Abort + AllocGlobal + Threads + Sync, const D: usize>(rt: &R) 
 
 #[test]
 fn long_channels_have_the_profile_of_all_pairs(rt: HostRuntime) -> Result<(), Fail> {
-    for_each_count!(expect_sums, &rt);
-    Ok(())
+    expect_sums::<_, 1>(&rt)?;
+    expect_sums::<_, 2>(&rt)?;
+    expect_sums::<_, 3>(&rt)?;
+    expect_sums::<_, 4>(&rt)
+}
+
+#[test]
+fn five_long_channels_have_the_profile_of_all_pairs(rt: HostRuntime) -> Result<(), Fail> {
+    expect_sums::<_, 5>(&rt)
+}
+
+#[test]
+fn six_long_channels_have_the_profile_of_all_pairs(rt: HostRuntime) -> Result<(), Fail> {
+    expect_sums::<_, 6>(&rt)
+}
+
+#[test]
+fn seven_long_channels_have_the_profile_of_all_pairs(rt: HostRuntime) -> Result<(), Fail> {
+    expect_sums::<_, 7>(&rt)
+}
+
+#[test]
+fn eight_long_channels_have_the_profile_of_all_pairs(rt: HostRuntime) -> Result<(), Fail> {
+    expect_sums::<_, 8>(&rt)
 }
