@@ -234,7 +234,7 @@ still_fits m a b pairs old new h s = record {
 
 pub lengths_offer : IsOffering 1 FitsLengths may_lengths IsScannedAt
 lengths_offer = record {
-  may = λ m a b into row column h lt lt' apart.
+  may = λ m a b into row column dist h lt lt' apart known.
       let same = same_windows m a b h.same in
       (omega (arith, apart), omega (arith, lt', same, h.places));
   still_fits = λ m a b pairs old new h s. still_fits m a b pairs old new h s;

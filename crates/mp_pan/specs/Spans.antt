@@ -53,8 +53,8 @@ pub record FitsLengths (m : ℕ) (a b : Series) (into : AtLengths) : Type 0 wher
   pub least : into.lengths.least ≡ m
   pub places : length into.slots.now ≡ 4 * windows_of m a
 
-abbrev pub may_lengths : AtLengths → ℕ → ℕ → Type 0
-may_lengths into row column = (row < column) × (4 * column + 4 ≤ length into.slots.now)
+abbrev pub may_lengths : AtLengths → ℕ → ℕ → ℕ → Type 0
+may_lengths into row column dist = (row < column) × (4 * column + 4 ≤ length into.slots.now)
 
 -- the windows of each pair are offered to each other at each of the lengths, and all else is as it was
 pub record IsScannedAt (m : ℕ) (a b : Series) (pairs : ℕ → ℕ → Bool) (old new : AtLengths) : Type 0 where

@@ -306,7 +306,7 @@ module _ {Into : Type 0} {least : ℕ} {fits : ℕ → Series → Series → Int
       )
 
   -- of a row's columns so many are scanned, and the next ones give nothing
-  pub columns_on : {may : Into → ℕ → ℕ → Type 0} → IsOffering least fits may is_scanned → (block : Block)
+  pub columns_on : {may : Into → ℕ → ℕ → ℕ → Type 0} → IsOffering least fits may is_scanned → (block : Block)
       (p c bits best from end : ℕ) (old into : Into) → block.row + p + least ≤ block.column + c → from ≤ end → end ≤ 32
       → FitIn fits block.grid old → FitIn fits block.grid into
       → AreKept block (keeps_row into) (keeps_column into) p c bits

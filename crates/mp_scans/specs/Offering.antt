@@ -27,11 +27,12 @@ pub record TellsNothing (m shift first : ℕ) (gives_nothing : ℕ → ℕ → T
 -- rows are windows of the first series, and columns of the second. A scan is of the pairs of a row and a column that
 -- pass a test, and leads from one state of what keeps the nearest windows to another
 pub record IsOffering {Into : Type 0} (least : ℕ) (fits : ℕ → Series → Series → Into → Type 0)
-    (may_offer : Into → ℕ → ℕ → Type 0)
+    (may_offer : Into → ℕ → ℕ → ℕ → Type 0)
     (is_scanned : ℕ → Series → Series → (ℕ → ℕ → Bool) → Into → Into → Type 0) : Type 0 where
   -- the windows of fitting series may be offered, columns that start far enough behind their row
-  pub may : (m : ℕ) (a b : Series) (into : Into) (row column : ℕ) → fits m a b into
-      → row < windows_of m a → column < windows_of m b → row + least ≤ column → may_offer into row column
+  pub may : (m : ℕ) (a b : Series) (into : Into) (row column dist : ℕ) → fits m a b into
+      → row < windows_of m a → column < windows_of m b → row + least ≤ column
+      → distance m a row b column ≡ Some dist → may_offer into row column dist
   pub still_fits : (m : ℕ) (a b : Series) (pairs : ℕ → ℕ → Bool) (old new : Into) → fits m a b old
       → is_scanned m a b pairs old new → fits m a b new
   -- no pairs give nothing, nor does a pair without a distance

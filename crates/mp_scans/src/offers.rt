@@ -46,15 +46,15 @@ pub trait Offers {
     /// There are places for the windows of these series, the first of which has the rows.
     ghost fits: { ℕ → Series → Series → Self.Into → Type 0 };
 
-    /// A row and a column have their places.
-    ghost may_offer: { Self.Into → ℕ → ℕ → Type 0 };
+    /// A row and a column at a distance may be offered to each other.
+    ghost may_offer: { Self.Into → ℕ → ℕ → ℕ → Type 0 };
 
     /// The second has what the first one had, and what these pairs of windows of the series give.
     ghost is_scanned: { ℕ → Series → Series → (ℕ → ℕ → Bool) → Self.Into → Self.Into → Type 0 };
 
     /// The windows that start at `row` and at `column` have this distance.
     fn offer(into: &mut Self::Into, row: u64, column: u64, dist: Sq)
-        requires may { may_offer into.old row column }
+        requires may { may_offer into.old row column dist.0 }
         requires row { row < MAX_SAMPLES }
         requires column { column < MAX_SAMPLES }
         requires small { dist.0 + 1 < 2 ^ 110 }
@@ -79,7 +79,7 @@ pub trait Offers {
     /// the distance itself may be quicker.
     #[inline]
     fn may_give(into: &Self::Into, row: u64, column: u64, dist: Sq) -> bool
-        requires may { may_offer into.now row column }
+        requires may { may_offer into.now row column dist.0 }
         requires row { row < MAX_SAMPLES }
         requires column { column < MAX_SAMPLES }
         requires small { dist.0 + 1 < 2 ^ 110 }

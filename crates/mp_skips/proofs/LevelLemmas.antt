@@ -115,6 +115,39 @@ pub squares_small : (coarse : Coarse) (n i j : ℕ) → squares_in coarse n i j 
 squares_small coarse n i j =
     total_bound (λ t. square_at coarse (i + t) (j + t)) (2 ^ 48) n (λ t. square_small coarse (i + t) (j + t))
 
+-- where samples aren't rounded, none lies further above the low number than all do at most
+level_within : (p step width : ℕ) → p * step ≤ width → step ≡ 1 → p ≤ width
+level_within p step width le exact =
+    let one : p * 1 ≤ width = subst (λ s. p * s ≤ width) exact le in
+    omega (arith, one)
+
+gap_within : (coarse : Coarse) (i j : ℕ) → coarse.rows.units.step.size ≡ 1
+    → steps_apart coarse i j ≤ coarse.rows.units.width
+gap_within coarse i j exact =
+    let units = coarse.columns.units in
+    let same : units.width ≡ coarse.rows.units.width = ap (λ (u : Units). u.width) coarse.same_units in
+    let step : units.step.size ≡ 1 = ap (λ (u : Units). u.step.size) coarse.same_units ∙ exact in
+    omega (
+      arith,
+      same,
+      level_within (number_in coarse.rows.levels.now i) coarse.rows.units.step.size coarse.rows.units.width
+          (coarse.rows.lists.levels_within i) exact,
+      level_within (number_in coarse.columns.levels.now j) units.step.size units.width
+          (coarse.columns.lists.levels_within j) step,
+    )
+
+square_within : (coarse : Coarse) (i j : ℕ) → coarse.rows.units.step.size ≡ 1
+    → square_at coarse i j ≤ coarse.rows.units.width * coarse.rows.units.width
+square_within coarse i j exact =
+    let h = gap_within coarse i j exact in
+    mul-le (steps_apart coarse i j) (steps_apart coarse i j) coarse.rows.units.width coarse.rows.units.width h h
+
+pub squares_within : (coarse : Coarse) (n i j : ℕ) → coarse.rows.units.step.size ≡ 1
+    → squares_in coarse n i j ≤ n * (coarse.rows.units.width * coarse.rows.units.width)
+squares_within coarse n i j exact =
+    total_bound (λ t. square_at coarse (i + t) (j + t)) (coarse.rows.units.width * coarse.rows.units.width) n
+    (λ t. square_within coarse (i + t) (j + t) exact)
+
 pub none_yet : (coarse : Coarse) (behind i j : ℕ) → 0 ≡ squares_in coarse (behind - behind) i j
 none_yet coarse behind i j =
     let e : 0 ≡ behind - behind = omega arith in

@@ -20,7 +20,7 @@ use Rattle.mp_skips.proofs.NeedLemmas.{rows_need_stays, group_needs_stay}
 
 -- ---- one scan after another
 
-module _ {Into : Type 0} {least : ℕ} {fits : ℕ → Series → Series → Into → Type 0} {may : Into → ℕ → ℕ → Type 0}
+module _ {Into : Type 0} {least : ℕ} {fits : ℕ → Series → Series → Into → Type 0} {may : Into → ℕ → ℕ → ℕ → Type 0}
     {is_scanned : ℕ → Series → Series → (ℕ → ℕ → Bool) → Into → Into → Type 0}
     (laws : IsOffering least fits may is_scanned) (grid : Grid) where
   -- the scan of these pairs and then of those is one of all pairs, as another test tells them
@@ -265,7 +265,7 @@ pub strip_next : (first end row bottom group next i j : ℕ) → group ≤ next
 strip_next first end row bottom group next i j le =
     blocks_next first end (8 * group - row) (8 * next - row) row bottom i j (omega (arith, le))
 
-module _ {Into : Type 0} {least : ℕ} {fits : ℕ → Series → Series → Into → Type 0} {may : Into → ℕ → ℕ → Type 0}
+module _ {Into : Type 0} {least : ℕ} {fits : ℕ → Series → Series → Into → Type 0} {may : Into → ℕ → ℕ → ℕ → Type 0}
     {is_scanned : ℕ → Series → Series → (ℕ → ℕ → Bool) → Into → Into → Type 0}
     (laws : IsOffering least fits may is_scanned) (coarse : Coarse) (into : Into)
     (there : FitIn fits coarse.plan.grid into) where

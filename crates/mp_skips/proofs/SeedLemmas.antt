@@ -9,7 +9,7 @@ use Rattle.mp_scans.specs.Windows.{row_windows, column_windows, FitIn, AreScanne
 use Rattle.mp_skips.specs.Seeds.{IsAhead}
 use Rattle.mp_skips.proofs.PairLemmas.{scanned_next}
 
-module _ {Into : Type 0} {least : ℕ} {fits : ℕ → Series → Series → Into → Type 0} {may : Into → ℕ → ℕ → Type 0}
+module _ {Into : Type 0} {least : ℕ} {fits : ℕ → Series → Series → Into → Type 0} {may : Into → ℕ → ℕ → ℕ → Type 0}
     {is_scanned : ℕ → Series → Series → (ℕ → ℕ → Bool) → Into → Into → Type 0}
     (laws : IsOffering least fits may is_scanned) (grid : Grid) where
   -- pairs among all of them are offered

@@ -1,6 +1,6 @@
 //! Distances of series whose samples aren't rounded, from sums of the squares of plain numbers.
 
-ghost use Rattle.std.specs.Prelude.{◌≡◌, ℕ, ◌+◌, ◌*◌, ◌^◌, ◌<◌, ◌≤◌, length, Some, None, IfSome, IfNone};
+ghost use Rattle.std.specs.Prelude.{◌≡◌, ℕ, ◌+◌, ◌*◌, ◌^◌, ◌<◌, ◌≤◌, length, Some, None, IfSome, IfNone, true};
 ghost use Rattle.mp_sums.specs.Grids.{distance_in};
 ghost use Rattle.mp_scans.specs.Windows.{row_windows, column_windows};
 ghost use Rattle.mp_skips.specs.Sums.{number_in};
@@ -21,6 +21,17 @@ impl<'a> Coarse<'a> {
             Some(sum) => sum,
             None => self.squares(row, column, self.plan.grid.m),
         }
+    }
+
+    /// Whether all distances are told to be below a bound by how far samples lie above the low number at most.
+    pub fn are_below(&self, bound: u64) -> bool
+        ensures { result ≡ true → (i j d : ℕ) → distance_in self.now.plan.grid i j ≡ Some d → d < bound }
+    {
+        if self.rows.units.step.size != 1 {
+            return false;
+        }
+        let width = u128::from(self.rows.units.width);
+        width * width * (self.plan.grid.m as u128) < u128::from(bound)
     }
 
     /// What the distances of `count` successive rows and columns are, where they have one.

@@ -1,5 +1,6 @@
 -- Slots in one number each: of two numbers the lesser stands for the window that comes first.
-use Rattle.std.proofs.Common.{◌≡◌, ℕ, ◌+◌, ◌*◌, ◌/◌, ◌%◌, ◌^◌, ◌<◌, ◌≤◌, inl, inr, true, false, sym, ap, ◌∙◌, arith}
+use Rattle.std.proofs.Common.{◌≡◌, ℕ, ◌+◌, ◌-◌, ◌*◌, ◌/◌, ◌%◌, ◌^◌, ◌<◌, ◌≤◌, inl, inr, true, false, sym, ap, ◌∙◌}
+use Rattle.std.proofs.Common.{arith}
 use Rattle.std.specs.Prelude.{Option, Some, None, ◌==◌, nat_lt, if◌then◌else◌}
 use Rattle.std.proofs.lemmas.Bool.{cases_lt}
 use Rattle.std.proofs.lemmas.Bool.Decides.{nat_tests}
@@ -9,7 +10,7 @@ use Rattle.mp_nums.specs.Near.{comes_before, nearer_of}
 use Rattle.mp_nums.specs.NearLaws.{nearer_with_none}
 use Rattle.mp_series.specs.declared.limits.TheConstants.{MAX_SAMPLES}
 use Rattle.mp_defs.specs.Least.{near_at}
-use Rattle.mp_tiles.specs.Compact.{slot_before, slot_by}
+use Rattle.mp_tiles.specs.Compact.{slot_before, slot_by, slot_of_word}
 use Rattle.mp_tiles.specs.declared.compact.TheConstants.{NO_WINDOW}
 
 no_test : (n : ℕ) → n < NO_WINDOW → (n == NO_WINDOW) ≡ false
@@ -33,6 +34,16 @@ packed near n start small e =
     ∙ ap (λ i. Some (near_at i ((near.dist.0 * MAX_SAMPLES + near.index) / MAX_SAMPLES)))
     (mod-mul-add near.dist.0 MAX_SAMPLES near.index start)
     ∙ ap (λ d. Some (near_at near.index d)) (div-mul-add near.dist.0 MAX_SAMPLES near.index start)
+
+no_word_test : (n : ℕ) → n < 18446744073709551615 → (n == 18446744073709551615) ≡ false
+no_word_test n lt = grind (arith, nat_tests)
+
+-- one whose distance is small enough for a word
+pub word_tells : (near : Near) (n : ℕ) → near.index < MAX_SAMPLES → near.dist.0 < 2 ^ 46 - 1
+    → n ≡ near.dist.0 * MAX_SAMPLES + near.index → slot_of_word n ≡ Some near
+word_tells near n start short e =
+    ap (λ b. if b then None else slot_by n) (no_word_test n (omega (arith, e, start, short)))
+    ∙ packed near n start (omega (arith, short)) e
 
 first_test : (d s e t : ℕ) → s < 262144 → t < 262144 → d * 262144 + s < e * 262144 + t
     → comes_before (near_at s d) (near_at t e) ≡ true

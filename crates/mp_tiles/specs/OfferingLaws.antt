@@ -25,8 +25,8 @@ use Rattle.mp_tiles.specs.TakenLaws.{taken_nothing}
 abbrev pub fits_sides : ℕ → Series → Series → Sided → Type 0
 fits_sides m a b s = HaveSides (windows_of m a) s × (a ≡ b)
 
-abbrev pub may_sides : Sided → ℕ → ℕ → Type 0
-may_sides s row column = (row < column) × (row < length s.right) × (column < length s.left)
+abbrev pub may_sides : Sided → ℕ → ℕ → ℕ → Type 0
+may_sides s row column dist = (row < column) × (row < length s.right) × (column < length s.left)
 
 abbrev pub is_scanned_sides : ℕ → Series → Series → (ℕ → ℕ → Bool) → Sided → Sided → Type 0
 is_scanned_sides m a b pairs old new = AreSided pairs m a old new
@@ -140,7 +140,7 @@ same_series m a b i j d e h = subst (λ (x : Series). distance m a i x j ≡ d) 
 
 pub on_both_sides : IsOffering 1 fits_sides may_sides is_scanned_sides
 on_both_sides = record {
-  may = λ m a b s row column h lt lt' apart.
+  may = λ m a b s row column dist h lt lt' apart known.
       let same : windows_of m b ≡ windows_of m a = ap (windows_of m) (sym h.1) in
       (omega (arith, apart), omega (arith, lt, h.0.right), omega (arith, lt', same, h.0.left));
   still_fits = λ m a b pairs old new h s. (sides_stay pairs m a old new h.0 s, h.1);
@@ -160,8 +160,8 @@ on_both_sides = record {
 abbrev pub fits_each : ℕ → Series → Series → Profiled → Type 0
 fits_each m a b p = HasPlaces (windows_of m a) p × (a ≡ b)
 
-abbrev pub may_each : Profiled → ℕ → ℕ → Type 0
-may_each p row column = (row < column) × (column < length p.all)
+abbrev pub may_each : Profiled → ℕ → ℕ → ℕ → Type 0
+may_each p row column dist = (row < column) × (column < length p.all)
 
 abbrev pub is_scanned_each : ℕ → Series → Series → (ℕ → ℕ → Bool) → Profiled → Profiled → Type 0
 is_scanned_each m a b pairs old new = IsScanned pairs m a old new
@@ -202,7 +202,7 @@ nothing_twice old i j = sym (taken_nothing (taken old i None) j ∙ taken_nothin
 
 pub each_to_other : IsOffering 1 fits_each may_each is_scanned_each
 each_to_other = record {
-  may = λ m a b p row column h lt lt' apart.
+  may = λ m a b p row column dist h lt lt' apart known.
       let same : windows_of m b ≡ length p.all = ap (windows_of m) (sym h.1) ∙ sym h.0.all in
       (omega arith, omega arith);
   still_fits = λ m a b pairs old new h s. (places_stay pairs m a old new h.0 s, h.1);
@@ -246,8 +246,8 @@ pub record HaveTaken (pairs : ℕ → ℕ → Bool) (m : ℕ) (a b : Series) (ol
 abbrev pub fits_rows : ℕ → Series → Series → ColumnToRow → Type 0
 fits_rows m a b into = length into.slots.now ≡ windows_of m a
 
-abbrev pub may_row : ColumnToRow → ℕ → ℕ → Type 0
-may_row into row column = row < length into.slots.now
+abbrev pub may_row : ColumnToRow → ℕ → ℕ → ℕ → Type 0
+may_row into row column dist = row < length into.slots.now
 
 abbrev pub is_scanned_rows : ℕ → Series → Series → (ℕ → ℕ → Bool) → ColumnToRow → ColumnToRow → Type 0
 is_scanned_rows m a b pairs old new = HaveTaken pairs m a b old.slots new.slots
@@ -255,7 +255,7 @@ is_scanned_rows m a b pairs old new = HaveTaken pairs m a b old.slots new.slots
 -- the column's window is offered to the row
 pub column_to_row : IsOffering 0 fits_rows may_row is_scanned_rows
 column_to_row = record {
-  may = λ m a b into row column h lt lt' _. omega (arith, lt, h);
+  may = λ m a b into row column dist h lt lt' _ _. omega (arith, lt, h);
   still_fits = λ m a b pairs old new h s. taken_places pairs m a b old.slots.now new.slots.now h s.slots;
   none = λ m a b pairs into h none. record {
     slots = taken_none pairs m a b into.slots.now h (λ i j _ _. none i j);
@@ -284,8 +284,8 @@ turned pairs i j = pairs j i
 abbrev pub fits_columns : ℕ → Series → Series → RowToColumn → Type 0
 fits_columns m a b into = length into.slots.now ≡ windows_of m b
 
-abbrev pub may_column : RowToColumn → ℕ → ℕ → Type 0
-may_column into row column = column < length into.slots.now
+abbrev pub may_column : RowToColumn → ℕ → ℕ → ℕ → Type 0
+may_column into row column dist = column < length into.slots.now
 
 abbrev pub is_scanned_columns : ℕ → Series → Series → (ℕ → ℕ → Bool) → RowToColumn → RowToColumn → Type 0
 is_scanned_columns m a b pairs old new = HaveTaken (turned pairs) m b a old.slots new.slots
@@ -303,7 +303,7 @@ taken_turned i j m a b old new d l lt lt' is e =
 -- the row's window is offered to the column
 pub row_to_column : IsOffering 0 fits_columns may_column is_scanned_columns
 row_to_column = record {
-  may = λ m a b into row column h lt lt' _. omega (arith, lt', h);
+  may = λ m a b into row column dist h lt lt' _ _. omega (arith, lt', h);
   still_fits = λ m a b pairs old new h s. taken_places (turned pairs) m b a old.slots.now new.slots.now h s.slots;
   none = λ m a b pairs into h none. record {
     slots = taken_none (turned pairs) m b a into.slots.now h (λ i j _ _. none j i);

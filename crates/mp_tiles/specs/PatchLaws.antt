@@ -38,7 +38,7 @@ taken_turned i j m a b first old new h =
 
 pub patch_offers : IsOffering 0 fits_patch may_patch is_scanned_patch
 patch_offers = record {
-  may = λ m a b p row column h lt lt' apart. tt;
+  may = λ m a b p row column dist h lt lt' apart known. tt;
   still_fits = λ m a b pairs old new h s. tt;
   none = λ m a b pairs p h none. record {
     first_row = refl;

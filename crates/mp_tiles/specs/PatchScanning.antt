@@ -22,8 +22,8 @@ pub record IsPatched (pairs : ℕ → ℕ → Bool) (m : ℕ) (a b : Series) (ol
 abbrev pub fits_patch : ℕ → Series → Series → Patched → Type 0
 fits_patch m a b p = ⊤
 
-abbrev pub may_patch : Patched → ℕ → ℕ → Type 0
-may_patch p row column = ⊤
+abbrev pub may_patch : Patched → ℕ → ℕ → ℕ → Type 0
+may_patch p row column dist = ⊤
 
 abbrev pub is_scanned_patch : ℕ → Series → Series → (ℕ → ℕ → Bool) → Patched → Patched → Type 0
 is_scanned_patch m a b pairs old new = IsPatched pairs m a b old new

@@ -1,8 +1,10 @@
 //! Slots in one number each.
 
-ghost use Rattle.std.specs.Prelude.{◌≡◌, ◌+◌, ◌^◌, ◌<◌, ◌≤◌, [], length, slice_index_or, None, vec_capacity};
+ghost use Rattle.std.specs.Prelude.{◌≡◌, ◌+◌, ◌-◌, ◌^◌, ◌<◌, ◌≤◌, [], length, slice_index_or, Some, None};
+ghost use Rattle.std.specs.Prelude.{vec_capacity};
 ghost use Rattle.mp_series.specs.declared.limits.TheConstants.{MAX_SAMPLES};
 ghost use Rattle.mp_partial.specs.Values.{empty_column};
+ghost use Rattle.mp_tiles.specs.Compact.{slot_of_word};
 
 use mp_nums::{Near, Slot, Sq};
 use mp_series::MAX_SAMPLES;
@@ -130,6 +132,16 @@ impl Compact {
     {
         self.number < other.number
     }
+}
+
+/// The word that tells a window, at a distance that fits one.
+#[inline]
+pub fn word_of(near: Near) -> u64
+    requires start { near.index < MAX_SAMPLES }
+    requires short { near.dist.0 < 2 ^ 46 - 1 }
+    ensures { slot_of_word result ≡ Some near }
+{
+    near.dist.0 as u64 * MAX_SAMPLES + near.index
 }
 
 /// Puts no window at each of so many places of a list that has room for them. It takes no memory.

@@ -19,7 +19,7 @@ mod sides;
 mod summed;
 mod summed_joins;
 
-pub use compact::{Compact, NO_WORD};
+pub use compact::{Compact, NO_WORD, word_of};
 pub use joined::JoinSeeds;
 pub use joins::{JoinTiles, join};
 pub use kernels::{OwnTiles, profile};

@@ -3,10 +3,11 @@
 ghost use Rattle.std.specs.Prelude.{◌≡◌, ℕ, ◌+◌, ◌*◌, ◌^◌, ◌<◌, ◌≤◌, [], ◌∷◌, length, slice_index_or};
 ghost use Rattle.mp_partial.specs.Values.{HasColumns, merged_columns};
 ghost use Rattle.mp_partial.specs.declared.limits.TheConstants.{MAX_PIECES};
+ghost use Rattle.mp_defs.specs.Series.{series_of};
 ghost use Rattle.mp_defs.specs.Window.{excl as zone};
 ghost use Rattle.mp_cuts.specs.declared.cuts.TheConstants.{MAX_ROWS, MAX_TILES};
 ghost use Rattle.mp_cuts.specs.Limits.{band_rows};
-ghost use Rattle.mp_cuts.specs.Pairs.{no_tile, IsTileBetween};
+ghost use Rattle.mp_cuts.specs.Pairs.{has_pair, no_tile, IsTileBetween};
 ghost use Rattle.mp_tiles.specs.PairLaws.{some_has};
 ghost use Rattle.mp_tiles.specs.Pieces.{own_size, own_together, own_whole};
 ghost use Rattle.mp_tiles.specs.RowParts.{part_height, part_of};
@@ -15,6 +16,7 @@ use crate::sides::Sides;
 use crate::summed::SummedTiles;
 use mp_cuts::{MAX_ROWS, MAX_TILES, Tile};
 use mp_partial::{Kernel, MAX_PIECES, Part};
+use mp_scans::Offers;
 use mp_skips::{Coarse, Seeds};
 use std::marker::Model;
 
@@ -121,6 +123,38 @@ impl<'a> TileParts<'a> {
         ensures same { result.now.plan.grid.columns.now ≡ result.now.plan.grid.rows.now }
     {
         self.tiles.coarse()
+    }
+
+    /// The length of a window.
+    pub fn window(&self) -> u32
+        ensures { result ≡ self.now.m }
+    {
+        self.tiles.window()
+    }
+
+    /// Offers the windows of each pair of a piece to each other. It takes no memory.
+    pub fn offer<O: Offers>(&self, piece: u64, into: &mut O::Into)
+        requires piece { piece < length self.now.tiles }
+        requires least { O.least ≤ 1 }
+        requires fits { O.fits self.now.m (series_of self.now.samples) (series_of self.now.samples) into.old }
+        ensures { O.is_scanned self.now.m (series_of self.now.samples) (series_of self.now.samples)
+            (has_pair 0 (slice_index_or self.now.tiles piece no_tile)) into.old into.new }
+    {
+        let part = self.tile(piece);
+        if part.first_row <= part.last_row {
+            self.tiles.offer::<O>(&part, into);
+        }
+    }
+
+    /// Offers the windows of each pair of a share of those that are likely near to each other, of so many shares. It
+    /// takes no memory.
+    pub fn offer_seeds<O: Offers>(&self, seeds: &Seeds, share: u32, shares: u32, into: &mut O::Into)
+        requires share { share < shares }
+        requires least { O.least ≤ 1 }
+        requires fits { O.fits self.now.m (series_of self.now.samples) (series_of self.now.samples) into.old }
+        ensures { O.fits self.now.m (series_of self.now.samples) (series_of self.now.samples) into.new }
+    {
+        self.tiles.offer_seeds::<O>(seeds, share, shares, into);
     }
 
     /// Offers a share of the pairs that are likely near to each other, as tiles do that aren't cut. It takes no memory.

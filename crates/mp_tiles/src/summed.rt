@@ -11,13 +11,15 @@ ghost use Rattle.mp_cuts.specs.Pairs.{has_pair, no_tile, IsTileBetween};
 ghost use Rattle.mp_tiles.specs.Among.{profile_among};
 ghost use Rattle.mp_tiles.specs.Pieces.{own_size, own_together, own_whole, sides_value};
 
+use crate::blocks::scan_blocks;
 use crate::kernels::OwnTiles;
 use crate::sides::Sides;
 use mp_cuts::{Cut, Tile};
 use mp_nums::Memory;
 use mp_partial::{Kernel, Part};
+use mp_scans::Offers;
 use mp_series::{excl, windows};
-use mp_skips::{Coarse, Seeds, Summed};
+use mp_skips::{Coarse, Seeds, Summed, scan_seeds};
 use std::alloc::Global;
 use std::marker::Model;
 
@@ -192,6 +194,42 @@ impl<'a> SummedTiles<'a> {
         ensures room { into.new.room ≡ into.old.room }
     {
         into.take_by_sums(&self.coarse, tile, self.is_tried);
+    }
+
+    /// The length of a window.
+    pub(crate) fn window(&self) -> u32
+        ensures { result ≡ self.now.m }
+    {
+        self.coarse.plan.rounding.m
+    }
+
+    /// Offers the windows of each pair of a tile to each other. It takes no memory.
+    pub(crate) fn offer<O: Offers>(&self, tile: &Tile, into: &mut O::Into)
+        requires least { O.least ≤ 1 }
+        requires tile { IsTileBetween (zone self.now.m + 1) (own_size self.now) (own_size self.now) tile.now }
+        requires fits { O.fits self.now.m (series_of self.now.samples) (series_of self.now.samples) into.old }
+        ensures { O.is_scanned self.now.m (series_of self.now.samples) (series_of self.now.samples)
+            (has_pair 0 tile.now) into.old into.new }
+    {
+        scan_blocks::<O>(&self.coarse, tile, self.is_tried, into);
+    }
+
+    /// Offers the windows of each pair of a share of those that are likely near to each other, of so many shares. It
+    /// takes no memory.
+    pub(crate) fn offer_seeds<O: Offers>(
+        &self,
+        seeds: &Seeds,
+        share: u32,
+        shares: u32,
+        into: &mut O::Into,
+    )
+        requires share { share < shares }
+        requires least { O.least ≤ 1 }
+        requires fits { O.fits self.now.m (series_of self.now.samples) (series_of self.now.samples) into.old }
+        ensures { O.fits self.now.m (series_of self.now.samples) (series_of self.now.samples) into.new }
+    {
+        let first = excl(self.coarse.plan.rounding.m) as usize + 1;
+        scan_seeds::<O>(&self.coarse, seeds, share, shares, first, into);
     }
 
     /// Merges the values of all tiles into what there is already, one after another. It takes no memory.

@@ -27,8 +27,8 @@ pub record FitsRanks (k m : ℕ) (a b : Series) (r : Ranked) : Type 0 where
   pub few : AreFew k r.lists
   pub same : a ≡ b
 
-abbrev pub may_offer : Ranked → ℕ → ℕ → Type 0
-may_offer r row column = (row < column) × (column < length r.lists)
+abbrev pub may_offer : Ranked → ℕ → ℕ → ℕ → Type 0
+may_offer r row column dist = (row < column) × (column < length r.lists)
 
 -- the windows of each pair are offered to each other, in the same memory
 pub record AreOffered (k m : ℕ) (a b : Series) (pairs : ℕ → ℕ → Bool) (old new : Ranked) : Type 0 where
@@ -213,7 +213,7 @@ still_fits k m a b pairs old new h s = record {
 
 pub ranks_offer : (k : ℕ) → IsOffering 1 (FitsRanks k) may_offer (AreOffered k)
 ranks_offer k = record {
-  may = λ m a b r row column h lt lt' apart.
+  may = λ m a b r row column dist h lt lt' apart known.
       let same = same_windows m a b h.same in
       (omega (arith, apart), omega (arith, lt', same, h.places));
   still_fits = λ m a b pairs old new h s. still_fits k m a b pairs old new h s;

@@ -7,8 +7,8 @@ use Rattle.mp_scans.specs.Offering.{IsOffering, IsLimiting}
 abbrev pub fits_any : ℕ → Series → Series → Found → Type 0
 fits_any m a b into = Unit {0}
 
-abbrev pub may_any : Found → ℕ → ℕ → Type 0
-may_any into row column = Unit {0}
+abbrev pub may_any : Found → ℕ → ℕ → ℕ → Type 0
+may_any into row column dist = Unit {0}
 
 abbrev pub scanned_any : ℕ → Series → Series → (ℕ → ℕ → Bool) → Found → Found → Type 0
 scanned_any m a b pairs old new = Unit {0}
@@ -18,7 +18,7 @@ keeps_any into one other dist = Unit {0}
 
 pub any_offers : IsOffering 0 fits_any may_any scanned_any
 any_offers = record {
-  may = λ m a b into row column f r c l. tt;
+  may = λ m a b into row column dist f r c l e. tt;
   still_fits = λ m a b pairs old new f s. tt;
   none = λ m a b pairs into f h. tt;
   skipped = λ m a b row column into f r c l e. tt;
