@@ -2,11 +2,13 @@
 use Rattle.std.proofs.Common.{◌≡◌, ℕ, ◌+◌, ◌<◌, ◌≤◌, List, [], ◌∷◌, ◌++◌, Bool, true, false, refl, sym, ap, ◌∙◌}
 use Rattle.std.proofs.Common.{append-nil, arith}
 use Rattle.std.specs.Prelude.{nat_le, nat_lt, ◌&&◌, if◌then◌else◌}
+use Rattle.std.specs.List.{range_with_len}
 use Rattle.std.proofs.lemmas.Bool.Decides.{nat_tests}
 use Rattle.std.proofs.lemmas.List.Elements.{filter-append}
 use Rattle.std.proofs.lemmas.List.Sums.{sum_by-cons, sum_by_push}
+use Rattle.mp_partial.specs.Together.{HaveSamePieces}
 use Rattle.mp_partial.specs.TogetherLaws.{pieces_of_lists}
-use Rattle.mp_workers.specs.Desks.{once_below, past, pieces_among}
+use Rattle.mp_workers.specs.Desks.{HasEachBelow, once_below, past, pieces_among}
 use Rattle.mp_workers.specs.Teams.{HasPast}
 use Rattle.mp_workers.specs.DeskLaws.{DeskGivesEachPiece}
 use Rattle.mp_workers.proofs.Teaming.{all_are_pieces, is_counted, one_for, past_next}
@@ -32,6 +34,20 @@ some_past pieces (x ∷ xs) some = go (nat_le pieces x) refl (λ rest. some_past
         let later = rest (omega (arith, some, sum, none)) in
         (later.0, later.1, omega (arith, later.2, sum_by-cons (one_for later.0) x xs))
 
+-- once a number past the pieces was drawn, each piece was
+pub each_drawn : (pieces next : ℕ) (drawn : List ℕ) → HasEachBelow next drawn → HasPast pieces drawn
+    → HaveSamePieces (pieces_among pieces drawn) (range_with_len 0 pieces)
+each_drawn pieces next drawn has last k =
+    let below : last.0 < next = past_next next last.0 (omega (arith, last.2, has last.0)) in
+    pieces_of_lists.passed (λ number. nat_lt number pieces) drawn k
+    ∙ ap (λ b. nat_lt k pieces && b) (is_counted drawn k ∙ ap (nat_lt 0) (has k))
+    ∙ within (omega (arith, below, last.1)) (nat_lt k pieces) refl
+    ∙ sym (pieces_of_lists.below pieces k)
+  where
+    within : pieces < next → (b : Bool) → nat_lt k pieces ≡ b → (b && nat_lt 0 (once_below next k)) ≡ b
+    within past true e = let lt : k < next = grind (arith, nat_tests) in grind (arith, nat_tests)
+    within past false e = refl
+
 pub desk_gives_each_piece : DeskGivesEachPiece
 desk_gives_each_piece = record {
   by_work = λ pieces old numbers last new drew.
@@ -46,13 +62,7 @@ desk_gives_each_piece = record {
       let here : one_past pieces last ≡ 1 = past_counts pieces last drew.no_piece in
       omega (arith, here, ap (past pieces) drew.drawn, sum_by_push (one_past pieces) (old ++ numbers) last);
   joined = λ pieces xs ys. filter-append (λ number. nat_lt number pieces) xs ys;
-  closed = λ pieces next drawn has some k.
-      let last = some_past pieces drawn some in
-      let below : last.0 < next = past_next next last.0 (omega (arith, last.2, has last.0)) in
-      pieces_of_lists.passed (λ number. nat_lt number pieces) drawn k
-      ∙ ap (λ b. nat_lt k pieces && b) (is_counted drawn k ∙ ap (nat_lt 0) (has k))
-      ∙ within pieces next k (omega (arith, below, last.1)) (nat_lt k pieces) refl
-      ∙ sym (pieces_of_lists.below pieces k);
+  closed = λ pieces next drawn has some. each_drawn pieces next drawn has (some_past pieces drawn some);
 }
   where
     past_test : (pieces last : ℕ) → pieces ≤ last → nat_lt last pieces ≡ false
@@ -60,8 +70,3 @@ desk_gives_each_piece = record {
 
     past_counts : (pieces last : ℕ) → pieces ≤ last → one_past pieces last ≡ 1
     past_counts pieces last le = grind (arith, nat_tests)
-
-    within : (pieces next k : ℕ) → pieces < next → (b : Bool) → nat_lt k pieces ≡ b
-        → (b && nat_lt 0 (once_below next k)) ≡ b
-    within pieces next k past true e = let lt : k < next = grind (arith, nat_tests) in grind (arith, nat_tests)
-    within pieces next k past false e = refl

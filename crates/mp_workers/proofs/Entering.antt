@@ -1,10 +1,8 @@
 -- What entries of both sides keep, and what a worker has that takes from them.
-use Rattle.std.proofs.Common.{◌≡◌, ℕ, ◌+◌, ◌-◌, ◌*◌, ◌/◌, ◌<◌, ◌≤◌, min, List, [], length}
-use Rattle.std.proofs.Common.{get_or}
+use Rattle.std.proofs.Common.{◌≡◌, ℕ, zero, suc, ◌+◌, ◌-◌, ◌*◌, ◌/◌, ◌<◌, ◌≤◌, List, [], ◌∷◌, length, get_or}
 use Rattle.std.proofs.Common.{sym, ap, subst, ◌∙◌, arith}
 use Rattle.std.specs.Prelude.{Option, None, replicate}
 use Rattle.std.proofs.lemmas.List.{get_or_append_left, get_or-append_right, length-append}
-use Rattle.mp_nums.specs.declared.nearest.Near.{Near}
 use Rattle.mp_defs.specs.Series.{series_of}
 use Rattle.mp_defs.specs.Window.{is_allowed}
 use Rattle.mp_defs.specs.Profile.{windows_of, left_entry, right_entry}
@@ -14,12 +12,12 @@ use Rattle.mp_partial.specs.Values.{Column}
 use Rattle.mp_tiles.specs.Compact.{IsWordOf, slot_of_word}
 use Rattle.mp_tiles.specs.Scanning.{taken}
 use Rattle.mp_workers.specs.declared.entries.EntriesView.{EntriesView}
-use Rattle.mp_workers.specs.Entries.{AreEntriesOf, EntriesState, Finds, HasMore, IsWithin}
-use Rattle.mp_workers.specs.Entries.{IsWithinColumn, Lowers}
+use Rattle.mp_workers.specs.Entries.{AreEntriesOf, AreWithin, EntriesState, HasMore, HoldOf, IsWithin, IsWithinColumn}
 use Rattle.mp_workers.specs.Entries.{count_of, left_of, no_word, right_of, view_of, whole_of}
-use Rattle.mp_workers.specs.EntryLaws.{lowered, none_within, one_taken, told}
-use Rattle.atomic_table.specs.Table.{Me, Allows, Enters, step, keeps, opening}
-use mathlib.Core.Option.{none}
+use Rattle.mp_workers.specs.EntryLaws.{none_within, one_taken, told}
+use Rattle.atomic_table.specs.Table.{opening}
+use lib.ListN.{get_elem?}
+use mathlib.Core.Option.{some, some-injective, some-ne-none}
 
 -- ---- the places of both sides
 
@@ -50,23 +48,21 @@ right_at s p =
     behind : (n p : ℕ) → n + p - n ≡ p
     behind n p = omega arith
 
--- ---- steps
-
-pub enters : (s : EntriesState) (slots place : ℕ) → place < length (whole_of s)
-    → Enters (AreEntriesOf s) slots place
-    (λ n w. Finds (step slots place 0 0 none) (view_of s, []) n (w, []))
-enters s slots place lt state holds homes fits = (view_of s, holds, holds.each place lt)
-
-pub allows_lower : (s : EntriesState) (slots id place word : ℕ) (me : Me (Unit {0}) EntriesView)
-    → place < length (whole_of s) → IsWithin word (get_or (whole_of s) place None)
-    → Allows (AreEntriesOf s) slots id me place (λ n. min n word) (Lowers (step slots place word 0 none) me)
-allows_lower s slots id place word me lt is state holds homes there fits =
-    (me.0, keeps, tt, lowered (whole_of s) state.words place word holds lt is, tt)
+-- ---- words
 
 -- words that tell nothing
-pub opens : (s : EntriesState) (count : ℕ) → count ≡ length (whole_of s)
-    → AreEntriesOf s (opening (replicate count no_word) [] (view_of s))
-opens s count e = none_within (whole_of s) count e
+pub opens : (s : EntriesState) (words : List ℕ) (count : ℕ) → words ≡ replicate count no_word
+    → count ≡ length (whole_of s) → AreEntriesOf s (opening words [] (view_of s))
+opens s words count is e = record {
+  within = subst (AreWithin (whole_of s)) (sym is) (none_within (whole_of s) count e);
+  told = λ seat view there. only words (view_of s) seat view there tt;
+}
+  where
+    only : (words : List ℕ) (first : EntriesView) (seat : ℕ) (view : EntriesView) → get_elem? (first ∷ []) seat ≡ some view
+        → HoldOf words first.told → HoldOf words view.told
+    only words first zero view there h =
+        subst (λ (v : EntriesView). HoldOf words v.told) (some-injective first view there) h
+    only words first (suc seat) view there h = absurd (some-ne-none view (sym there))
 
 -- ---- what loops need
 

@@ -5,5 +5,10 @@ pub mod Teaming
 pub mod Beginning
 pub mod Shared
 pub mod Closing
+pub mod Telling
 pub mod Entering
+pub mod Knowing
 pub mod TileSharing
+pub mod TileTelling
+pub mod SlotTelling
+pub mod WholeTelling

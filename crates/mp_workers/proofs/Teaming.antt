@@ -4,7 +4,6 @@ use Rattle.std.proofs.Common.{◌∙◌}
 use Rattle.std.proofs.Common.{append-nil, length, get_or, take, drop, arith, zero, suc}
 use Rattle.std.specs.Prelude.{nat_lt, ◌==◌, ◌&&◌, ◌||◌, if◌then◌else◌, All, Option, Some, option_to_list, slice_get}
 use Rattle.std.specs.Prelude.{slice_set}
-use Rattle.std.specs.Prelude.{map, replicate}
 use Rattle.std.specs.Prelude.{sum_by}
 use Rattle.std.specs.List.{range_with_len, swap_remove}
 use Rattle.std.proofs.lemmas.Bool.Decides.{nat_tests}

@@ -4,6 +4,9 @@ pub mod Teams
 pub mod Sharing
 pub mod SharingLaws
 pub mod Entries
+pub mod Tellers
+pub mod TellerLaws
 pub mod EntryLaws
 pub mod SharedTiles
+pub mod ToldTiles
 pub mod DeskLaws

@@ -4,16 +4,16 @@ use Rattle.mp_defs.specs.Series.{series_of}
 use Rattle.mp_defs.specs.Profile.{Columns, matrix_profile}
 use Rattle.mp_tiles.specs.Pieces.{OwnTiling, own_size, own_together, own_whole}
 use Rattle.mp_tiles.specs.Sides.{Sided}
-use Rattle.mp_workers.specs.Entries.{EntriesState, entries_of, HasMore, IsWithinColumn}
+use Rattle.mp_workers.specs.Entries.{EntriesAt, EntriesState, entries_of, HasMore, IsWithinColumn}
 
 -- the series of tiles
 abbrev pub series_in : OwnTiling → EntriesState
 series_in own = entries_of own.samples own.m
 
 -- the tiles make the profile, and the entries are of their series
-pub record AreShared (own : OwnTiling) (entries : Option EntriesState) : Type 0 where
+pub record AreShared (own : OwnTiling) (entries : Option EntriesAt) : Type 0 where
   pub together : own_together own ≡ own_whole own
-  pub of_series : IfSome entries (λ e. e ≡ series_in own)
+  pub of_series : IfSome entries (λ e. e.series ≡ series_in own)
 
 abbrev pub profile_of : OwnTiling → Columns
 profile_of own = matrix_profile own.m (series_of own.samples)

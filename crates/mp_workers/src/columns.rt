@@ -15,6 +15,11 @@ const WINDOWS_FOR_A_WORKER: u64 = 8_192;
 /// How many columns a profile has.
 const COLUMNS: u32 = 3;
 
+/// Whether each column of so many windows is filled by a worker of its own, where there are so many workers.
+pub(crate) fn are_side_by_side(windows: u64, workers: u32) -> bool {
+    COLUMNS <= workers && WINDOWS_FOR_A_WORKER <= windows
+}
+
 /// Fills the columns of the left and of the right side by side.
 fn fill_sides<R: Threads + Sync>(rt: &R, sides: &Sides, left: &mut Slots, right: &mut Slots)
     requires no_left { left.old.items ≡ [] }
@@ -81,7 +86,7 @@ pub(crate) fn profile_of<R: Threads + Sync>(
     ensures left { result.left ≡ sides.now.left }
     ensures right { result.right ≡ sides.now.right }
 {
-    if workers < COLUMNS || sides.size() < WINDOWS_FOR_A_WORKER {
+    if !are_side_by_side(sides.size(), workers) {
         return sides.profile(room);
     }
     let (mut all, mut left, mut right) = room.into_columns();

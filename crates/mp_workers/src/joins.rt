@@ -1,10 +1,11 @@
 //! Profiles and joins that workers compute side by side.
 
-ghost use Rattle.std.specs.Prelude.{◌≡◌, ◌≤◌, [], ◌∷◌, length, IfOk, IfSome};
+ghost use Rattle.std.specs.Prelude.{◌≡◌, ◌≤◌, [], ◌∷◌, length, IfOk, IfSome, true};
 ghost use Rattle.mp_defs.specs.Series.{series_of};
 ghost use Rattle.mp_defs.specs.Profile.{matrix_profile, ab_join};
-ghost use Rattle.mp_tiles.specs.Pieces.{own_size, own_together, sides_value, join_together};
+ghost use Rattle.mp_tiles.specs.Pieces.{own_size, own_together, own_whole, sides_value, join_together};
 ghost use Rattle.mp_workers.specs.SharedTiles.{series_in};
+ghost use Rattle.mp_workers.specs.ToldTiles.{AreToldOf};
 ghost use Rattle.std.specs.Thread.{IsSync};
 
 use crate::begins::Begin;
@@ -14,13 +15,15 @@ use crate::seeks::find_by_workers;
 use crate::shared_tiles::SharedTiles;
 use crate::sharing::run_sharing;
 use crate::teams::{run_all, run_begun, run_one_after_another};
+use crate::told_columns::profile_told;
+use crate::told_tiles::tell_all;
 use mp_nums::{Memory, Sample, Slots};
 use mp_outside::Gate;
 use mp_partial::{Kernel, MAX_WORKERS, Profile};
 use mp_series::{MAX_SAMPLES, MAX_WINDOW, MIN_WINDOW};
 use mp_skips::Seeds;
 use mp_tiles::{
-    JoinSeeds, JoinTiles, MAX_TILE, MAX_TILES, OwnTiles, Sides, SummedJoin, SummedTiles,
+    JoinSeeds, JoinTiles, MAX_TILE, MAX_TILES, OwnTiles, Sides, SummedJoin, SummedTiles, TileParts,
     summed_tile,
 };
 use std::alloc::Global;
@@ -32,6 +35,9 @@ const PAIRS_FOR_A_WORKER: u64 = 262_144;
 /// In how many parts a tile with the most rows is cut for several workers, so that they stand at different rows: what
 /// one finds while another compares the same rows comes too late for it.
 const PARTS: u32 = 16;
+
+/// Distances below it fit a word, beside the start of a window.
+const MOST_TOLD: u64 = 70_368_744_177_663;
 
 /// How many of the workers so many pairs of windows are worth, at least one. Where there are few pairs, another thread
 /// takes more time than it saves.
@@ -48,12 +54,11 @@ fn pairs(first: &[Sample], second: &[Sample]) -> u64 {
     (first.len() as u64).saturating_mul(second.len() as u64)
 }
 
-/// Both sides of the matrix profile of the tiles' samples. Where tiles are scanned in coarse sums, each worker begins
-/// with what pairs of windows give that these sums tell to be near, and tiles may have `summed_tile` diagonals. Else
-/// several workers compare windows that start close together first, since what these find lets most of the others be
-/// passed over, and each begins the tiles of the others, of at most `tile` diagonals, with what all of them found.
-/// There is a band of such windows for each worker: the windows behind a band's end are near to its last rows, and
-/// would be compared with little known of them once more for each band.
+/// Both sides of the matrix profile of the tiles' samples. Several workers compare windows that start close together
+/// first, since what these find lets most of the others be passed over, and each begins the tiles of the others, of at
+/// most `tile` diagonals, with what all of them found. There is a band of such windows for each worker: the windows
+/// behind a band's end are near to its last rows, and would be compared with little known of them once more for each
+/// band.
 fn both_sides<R: Threads + Sync, G: Gate>(
     rt: &R,
     alloc: Global,
@@ -73,15 +78,6 @@ fn both_sides<R: Threads + Sync, G: Gate>(
         ≡ sides_value (matrix_profile tiles.now.m (series_of tiles.now.samples))) }
     ensures size { IfOk result (λ sides. length sides.left ≡ own_size tiles.now) }
 {
-    if let Some(sums) = tiles.sums(alloc)? {
-        let wide = tiles
-            .wide(tile.max(summed_tile(tiles.size())))
-            .by_sums(&sums);
-        let (seeds, entries) = seeds_and_entries(rt, alloc, &wide, tiles, workers)?;
-        let wide = wide.in_parts(parts_for(workers));
-        let shared = SharedTiles::of(&wide, &seeds, entries);
-        return run_sharing(rt, alloc, &shared, workers, gate);
-    }
     if workers == 1 {
         return run_all(rt, alloc, tiles, tiles.pieces(), workers, gate);
     }
@@ -99,7 +95,7 @@ fn parts_for(workers: u32) -> u32
 
 /// The entries that workers share, of which none is found yet.
 fn entries_for<'a>(alloc: Global, own: &OwnTiles<'a>) -> Result<Entries<'a>, Memory>
-    ensures { IfOk result (λ e. e ≡ series_in own.now) }
+    ensures { IfOk result (λ e. e.series ≡ series_in own.now) }
 {
     Entries::new(alloc, own.samples(), own.window())
 }
@@ -115,7 +111,7 @@ fn seeds_and_entries<'a, R: Threads + Sync>(
 ) -> Result<(Seeds, Option<Entries<'a>>), Memory>
     requires some { 1 ≤ workers }
     requires workers { workers ≤ MAX_WORKERS }
-    ensures { IfOk result (λ made. IfSome made.1 (λ e. e ≡ series_in own.now)) }
+    ensures { IfOk result (λ made. IfSome made.1 (λ e. e.series ≡ series_in own.now)) }
 {
     if workers == 1 {
         return Ok((
@@ -127,10 +123,57 @@ fn seeds_and_entries<'a, R: Threads + Sync>(
         requires { IsSync R.row × (1 ≤ workers) × (workers ≤ MAX_WORKERS) }
     { find_by_workers(rt, alloc, wide.seeds(alloc)?, workers) };
     let back = move || -> Result<Entries, Memory>
-        ensures { IfOk result (λ e. e ≡ series_in own.entry.now) }
+        ensures { IfOk result (λ e. e.series ≡ series_in own.entry.now) }
     { entries_for(alloc, own) };
     let (seeds, entries) = join(rt, front, back);
     Ok((seeds?, Some(entries?)))
+}
+
+/// Whether words hold the distances of the tiles' windows, and there are some.
+fn fit_words(tiles: &TileParts) -> bool
+    ensures { result ≡ true → AreToldOf tiles.now (series_in tiles.now) }
+{
+    tiles.size() > 0 && tiles.coarse().are_below(MOST_TOLD)
+}
+
+/// The matrix profile of the tiles' samples by coarse sums. Each worker begins with what pairs of windows give that
+/// these sums tell to be near. Where words hold the distances, several workers tell each other at once of each pair that
+/// comes before what they know, and none has a profile of its own. Else each keeps what it finds, and shares it behind
+/// each piece.
+fn profile_by_sums<R: Threads + Sync, G: Gate>(
+    rt: &R,
+    alloc: Global,
+    own: &OwnTiles,
+    wide: SummedTiles,
+    workers: u32,
+    gate: &G,
+    room: Profile,
+) -> Result<Profile, Memory>
+    requires same { wide.samples ≡ own.now.samples }
+    requires same_window { wide.m ≡ own.now.m }
+    requires few { length wide.tiles ≤ MAX_TILES }
+    requires together { own_together wide ≡ own_whole wide }
+    requires some { 1 ≤ workers }
+    requires workers { workers ≤ MAX_WORKERS }
+    requires no_window { room.all ≡ [] }
+    requires no_left { room.left ≡ [] }
+    requires no_right { room.right ≡ [] }
+    requires spare { own_size own.now ≤ room.spare }
+    ensures all { IfOk result (λ p. p.all ≡ (matrix_profile own.now.m (series_of own.now.samples)).all) }
+    ensures left { IfOk result (λ p. p.left ≡ (matrix_profile own.now.m (series_of own.now.samples)).left) }
+    ensures right { IfOk result (λ p. p.right ≡ (matrix_profile own.now.m (series_of own.now.samples)).right) }
+{
+    let (seeds, entries) = seeds_and_entries(rt, alloc, &wide, own, workers)?;
+    let parts = wide.in_parts(parts_for(workers));
+    if let Some(entries) = &entries {
+        if fit_words(&parts) {
+            let hold = tell_all(rt, alloc, &parts, &seeds, entries, workers, gate)?;
+            return Ok(profile_told(rt, entries, hold, workers, room));
+        }
+    }
+    let shared = SharedTiles::of(&parts, &seeds, entries);
+    let sides = run_sharing(rt, alloc, &shared, workers, gate)?;
+    Ok(profile_of(rt, &sides, workers, room))
 }
 
 /// The matrix profile of the samples at window length `m`, computed in tiles of at most `tile` diagonals by so many
@@ -158,6 +201,12 @@ pub fn self_join<R: Threads + Sync, G: Gate>(
     let tiles = OwnTiles::new(samples, m, tile);
     let room = Profile::with_capacity(alloc, tiles.size())?;
     let workers = workers_for(pairs(samples, samples) / 2, workers);
+    if let Some(sums) = tiles.sums(alloc)? {
+        let wide = tiles
+            .wide(tile.max(summed_tile(tiles.size())))
+            .by_sums(&sums);
+        return profile_by_sums(rt, alloc, &tiles, wide, workers, gate, room);
+    }
     let sides = both_sides(rt, alloc, &tiles, tile, workers, gate)?;
     Ok(profile_of(rt, &sides, workers, room))
 }

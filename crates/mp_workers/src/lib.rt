@@ -6,6 +6,7 @@ mod begins;
 mod columns;
 mod desks;
 mod entries;
+mod holds;
 mod joins;
 mod laws;
 mod passes;
@@ -13,6 +14,9 @@ mod seeks;
 mod shared_tiles;
 mod sharing;
 mod teams;
+mod tellers;
+mod told_columns;
+mod told_tiles;
 mod workers;
 
 pub use begins::Begin;

@@ -39,7 +39,7 @@ impl<'a, 's> SharedTiles<'a, 's> {
         entries: Option<Entries<'s>>,
     ) -> SharedTiles<'a, 's>
         requires together { own_together tiles.now ≡ own_whole tiles.now }
-        requires of_series { IfSome entries (λ e. e ≡ series_in tiles.now) }
+        requires of_series { IfSome entries (λ e. e.series ≡ series_in tiles.now) }
         ensures { result ≡ tiles.now }
     {
         SharedTiles {

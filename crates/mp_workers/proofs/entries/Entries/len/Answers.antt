@@ -5,9 +5,9 @@ use Rattle.mp_workers.proofs.entries.Entries.len.Goals as goal
 
 pub returns-clause-count : goal.returns-clause-count
 returns-clause-count c =
-    half_is c.word_count.result c.self.inside.table.shared.key c.args.self.now
-    (c.word_count.ensures ∙ c.self.invariant.words_are) c.self.view_is
+    half_is c.word_count.result c.self.inside.table.shared.key c.args.self.now.series
+    (c.word_count.ensures ∙ c.self.invariant.words_are) (ap (λ e. e.series) c.self.view_is)
 
 pub returns-clause-few : goal.returns-clause-few
 returns-clause-few c =
-    omega (arith, returns-clause-count c, ap count_of c.self.view_is, c.self.invariant.few)
+    omega (arith, returns-clause-count c, ap (λ e. count_of e.series) c.self.view_is, c.self.invariant.few)

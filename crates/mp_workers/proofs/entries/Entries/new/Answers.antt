@@ -10,7 +10,7 @@ of_words-requires c =
     let count : ℕ = 2 * c.windows.result in
     let words : c.as_slice.result.now ≡ replicate count no_word =
     c.as_slice.ensures.value ∙ c.in_ok-words.ensures.items_if_clones_equal (λ y e. e) in
-    subst (AreWithin (whole_of s)) (sym words) (opens s count (ap (λ n. 2 * n) c.windows.ensures ∙ sym (whole_count s)))
+    opens s c.as_slice.result.now count words (ap (λ n. 2 * n) c.windows.ensures ∙ sym (whole_count s))
 
 pub invariant_of-result : goal.invariant_of-result
 invariant_of-result c =

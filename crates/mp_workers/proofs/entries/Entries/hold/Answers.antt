@@ -1,0 +1,12 @@
+use Rattle.std.proofs.Common.{◌<◌, length, ap, arith}
+use Rattle.mp_workers.specs.Entries.{count_of, whole_of}
+use Rattle.mp_workers.proofs.Entering.{whole_count}
+use Rattle.mp_workers.proofs.Telling.{enters}
+use Rattle.mp_workers.proofs.entries.Entries.hold.Goals as goal
+
+pub load_new_seat-word-requires : goal.load_new_seat-word-requires
+load_new_seat-word-requires c =
+    let key = c.self.inside.table.shared.key in
+    let some : 0 < length (whole_of key) =
+    omega (arith, c.requires, ap (λ e. count_of e.series) c.self.view_is, whole_count key) in
+    (omega (arith, some, c.self.invariant.words_are), enters key _ _ some)
