@@ -58,7 +58,8 @@ opens s words count is e = record {
   told = λ seat view there. only words (view_of s) seat view there tt;
 }
   where
-    only : (words : List ℕ) (first : EntriesView) (seat : ℕ) (view : EntriesView) → get_elem? (first ∷ []) seat ≡ some view
+    only : (words : List ℕ) (first : EntriesView) (seat : ℕ) (view : EntriesView)
+        → get_elem? (first ∷ []) seat ≡ some view
         → HoldOf words first.told → HoldOf words view.told
     only words first zero view there h =
         subst (λ (v : EntriesView). HoldOf words v.told) (some-injective first view there) h

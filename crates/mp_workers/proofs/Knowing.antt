@@ -124,8 +124,8 @@ before_both (Some x) near j d h is = by x near j d h is (comes_before near x) re
         → comes_before (near_at k e) (near_at j d) ≡ true → comes_before (near_at i a) (near_at j d) ≡ true
     last a i e k d j h is = grind (arith, nat_tests)
 
-    by : (x near : Near) (j d : ℕ) → IsNoLater (Some x) (Some near) → comes_before near (near_at j d) ≡ true → (b : Bool)
-        → comes_before near x ≡ b → comes_before x (near_at j d) ≡ true
+    by : (x near : Near) (j d : ℕ) → IsNoLater (Some x) (Some near) → comes_before near (near_at j d) ≡ true
+        → (b : Bool) → comes_before near x ≡ b → comes_before x (near_at j d) ≡ true
     by x near j d h is true e =
         let same : Some near ≡ Some x = sym (ap (λ b. if b then Some near else Some x) e) ∙ h in
         let one : near ≡ x = cc in

@@ -1,5 +1,5 @@
 -- What workers know behind pieces whose pairs they tell each other of.
-use Rattle.std.proofs.Common.{◌≡◌, ℕ, ◌+◌, ◌≤◌, List, [], ◌∷◌, ◌++◌, sym, ap, subst, arith, inl, inr}
+use Rattle.std.proofs.Common.{◌≡◌, ℕ, ◌+◌, ◌≤◌, List, [], ◌∷◌, ◌++◌, refl, sym, ap, subst, arith, inl, inr}
 use Rattle.std.specs.Prelude.{All, nat_lt}
 use Rattle.std.proofs.lemmas.List.Elements.{All-append, All-weaker, filter-append}
 use Rattle.std.proofs.lemmas.List.Sums.{sum_by-append, sum_by-cons}
@@ -15,7 +15,8 @@ use Rattle.mp_workers.specs.Entries.{Told, EntriesAt, EntriesState, count_of, wh
 use Rattle.mp_workers.specs.SharedTiles.{series_in}
 use Rattle.mp_workers.specs.Teams.{HasPast}
 use Rattle.mp_workers.specs.Tellers.{AreShort, AreTold, FitsTeller, IsHold, IsKnown, IsTold, TellerState}
-use Rattle.mp_workers.specs.ToldTiles.{HasTold, HaveTold, IsPieceTold, pairs_in}
+use Rattle.mp_workers.specs.TellerLaws.{known_more}
+use Rattle.mp_workers.specs.ToldTiles.{TeamHasTold, TellerHasTold, IsPieceTold, pairs_in}
 use Rattle.mp_workers.proofs.Teaming.{new_pieces, one_for}
 use Rattle.atomic_table.specs.Seated.{TableId}
 
@@ -28,20 +29,14 @@ fits_tiles own teller e short = record {
   short = subst (λ (s : EntriesState). AreShort s.m (series_of s.samples)) (sym e) short;
 }
 
--- what is known stays known
-known_more : (told more : Told) (own : OwnTiling) (place j d : ℕ)
-    → ((p : ℕ) (near : Near) → IsTold told p near → IsTold more p near)
-    → IsKnown told (whole_of (series_in own)) place j d → IsKnown more (whole_of (series_in own)) place j d
-known_more told more own place j d h (inl is) = inl (h place _ is)
-known_more told more own place j d h (inr before) = inr before
-
 pub still_told : (own : OwnTiling) (told more : Told) (piece : ℕ)
     → ((p : ℕ) (near : Near) → IsTold told p near → IsTold more p near) → IsPieceTold own told piece
     → IsPieceTold own more piece
 still_told own told more piece h k = record {
-  right = λ i j d lt lt' e may is. known_more told more own (count_of (series_in own) + i) j d h
-      (k.right i j d lt lt' e may is);
-  left = λ i j d lt lt' e may is. known_more told more own j i d h (k.left i j d lt lt' e may is);
+  right = λ i j d lt lt' e may is. known_more told more (whole_of (series_in own)) (whole_of (series_in own))
+      (count_of (series_in own) + i) j d refl h (k.right i j d lt lt' e may is);
+  left = λ i j d lt lt' e may is. known_more told more (whole_of (series_in own)) (whole_of (series_in own)) j i d
+      refl h (k.left i j d lt lt' e may is);
 }
 
 -- the pairs of a piece that were offered
@@ -72,11 +67,12 @@ past_drawn pieces last numbers le =
 pub have_told : (desk : DeskId) (own : OwnTiling) (table : TableId) (weight : ℕ) (old numbers : List ℕ) (last : ℕ)
     (pass : PassState) (teller : TellerState) → old ≡ [] → pass.desk ≡ desk → pass.weight ≡ weight
     → teller.table ≡ table → teller.series ≡ series_in own → Drew desk.pieces old numbers last pass.drawn
-    → All (IsPieceTold own teller.told) numbers → HaveTold desk own table weight pass teller
+    → All (IsPieceTold own teller.told) numbers → TellerHasTold desk own table weight pass teller
 have_told desk own table weight old numbers last pass teller none of is there series drew told = record {
   of_desk = of;
   weight_is = is;
-  past_pieces = subst (HasPast desk.pieces) (sym drew.drawn) (past_drawn desk.pieces last (old ++ numbers) drew.no_piece);
+  past_pieces = subst (HasPast desk.pieces) (sym drew.drawn)
+      (past_drawn desk.pieces last (old ++ numbers) drew.no_piece);
   table_is = there;
   series_is = series;
   told = subst (All (IsPieceTold own teller.told))
@@ -103,12 +99,13 @@ told_more : (own : OwnTiling) (told more : Told) (pieces : List ℕ)
     → ((p : ℕ) (near : Near) → IsTold told p near → IsTold more p near) → All (IsPieceTold own told) pieces
     → All (IsPieceTold own more) pieces
 told_more own told more pieces h all =
-    All-weaker (IsPieceTold own told) (IsPieceTold own more) (λ piece is. still_told own told more piece h is) pieces all
+    All-weaker (IsPieceTold own told) (IsPieceTold own more) (λ piece is. still_told own told more piece h is) pieces
+    all
 
 -- one worker, whose hold takes in what it told
 pub one_has_told : (desk : DeskId) (own : OwnTiling) (entries : EntriesAt) (table : TableId) (weight : ℕ)
-    (before : Told) (teller : TellerState) (new : Teammate) → HaveTold desk own table weight new.pass teller
-    → IsHold entries new.hold → new.hold.told ≡ before ++ teller.told → HasTold desk own entries weight new
+    (before : Told) (teller : TellerState) (new : Teammate) → TellerHasTold desk own table weight new.pass teller
+    → IsHold entries new.hold → new.hold.told ≡ before ++ teller.told → TeamHasTold desk own entries weight new
 one_has_told desk own entries table weight before teller new h hold told = record {
   of_desk = h.of_desk;
   weight_is = h.weight_is;
@@ -121,10 +118,11 @@ one_has_told desk own entries table weight before teller new h hold told = recor
 
 -- two, whose passes and holds are put together
 pub both_have_told : (desk : DeskId) (own : OwnTiling) (entries : EntriesAt) (weight more all : ℕ)
-    (first other new : Teammate) → HasTold desk own entries weight first → HasTold desk own entries more other
-    → new.pass.desk ≡ desk → new.pass.weight ≡ first.pass.weight + other.pass.weight → weight + more ≡ all
+    (first other new : Teammate) → TeamHasTold desk own entries weight first
+    → TeamHasTold desk own entries more other → new.pass.desk ≡ desk
+    → new.pass.weight ≡ first.pass.weight + other.pass.weight → weight + more ≡ all
     → new.pass.drawn ≡ first.pass.drawn ++ other.pass.drawn → IsHold entries new.hold
-    → new.hold.told ≡ first.hold.told ++ other.hold.told → HasTold desk own entries all new
+    → new.hold.told ≡ first.hold.told ++ other.hold.told → TeamHasTold desk own entries all new
 both_have_told desk own entries weight more all first other new h k of is sum drawn hold told = record {
   of_desk = of;
   weight_is = omega (arith, is, sum, h.weight_is, k.weight_is);

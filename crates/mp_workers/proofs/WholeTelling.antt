@@ -20,7 +20,8 @@ use Rattle.mp_defs.specs.Laws.{IsNearest, IsNearestWindow}
 use Rattle.mp_defs.specs.NearestLaws.{entries_are_nearest, zone_is_mutual}
 use Rattle.mp_defs.specs.ColumnLaws.{columns_have_places}
 use Rattle.mp_defs.specs.Profile.{column, windows_of, left_entry, right_entry}
-use Rattle.mp_partial.specs.Values.{Column, Value, empty_column, empty_columns, merged_column, merged_columns, merged_below, merged_over}
+use Rattle.mp_partial.specs.Values.{Column, Value, empty_column, empty_columns, merged_column, merged_columns}
+use Rattle.mp_partial.specs.Values.{merged_below, merged_over}
 use Rattle.mp_partial.specs.MergeLaws.{columns_merge}
 use Rattle.mp_partial.specs.TogetherLaws.{merges_by_pieces}
 use Rattle.mp_partial.specs.Values.{HasColumns}
@@ -32,7 +33,7 @@ use Rattle.mp_workers.specs.Entries.{EntriesAt, EntriesState, Told, count_of, le
 use Rattle.mp_workers.specs.SharedTiles.{series_in}
 use Rattle.mp_workers.specs.Teams.{HasPast}
 use Rattle.mp_workers.specs.Tellers.{ComesBefore, IsKnown, IsTold, IsWholeTold}
-use Rattle.mp_workers.specs.ToldTiles.{HasTold, IsPieceTold, pairs_in}
+use Rattle.mp_workers.specs.ToldTiles.{TeamHasTold, IsPieceTold, pairs_in}
 use Rattle.mp_workers.proofs.Closing.{each_drawn}
 use Rattle.mp_workers.proofs.Entering.{left_at, right_at}
 
@@ -214,7 +215,7 @@ pieces_make_it own desk drawn next all together each past =
     ∙ ap (merged_below merged_columns (empty_columns 2 (own_size own)) (own_value own)) all ∙ together
 
 pub whole_told : (own : OwnTiling) (desk : DeskId) (entries : EntriesAt) (weight : ℕ) (teammate : Teammate)
-    (next : ℕ) → HasTold desk own entries weight teammate → entries.series ≡ series_in own
+    (next : ℕ) → TeamHasTold desk own entries weight teammate → entries.series ≡ series_in own
     → desk.pieces ≡ length own.tiles → own_together own ≡ own_whole own → HasEachBelow next teammate.pass.drawn
     → IsWholeTold entries.series teammate.hold.told
 whole_told own desk entries weight teammate next h of all together each = λ place near e.

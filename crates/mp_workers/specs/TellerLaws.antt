@@ -23,7 +23,7 @@ either_true true t e = inl refl
 either_true false t e = inr e
 
 -- what is known stays known
-known_more : (told more : Told) (whole other : Column) (place j d : ℕ) → whole ≡ other
+pub known_more : (told more : Told) (whole other : Column) (place j d : ℕ) → whole ≡ other
     → ((p : ℕ) (near : Near) → IsTold told p near → IsTold more p near) → IsKnown told whole place j d
     → IsKnown more other place j d
 known_more told more whole other place j d same h (inl is) = inl (h place _ is)

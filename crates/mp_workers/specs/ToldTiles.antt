@@ -33,7 +33,7 @@ pub record AreToldOf (own : OwnTiling) (series : EntriesState) : Type 0 where
   pub some : 1 ≤ count_of (series_in own)
 
 -- some workers have drawn numbers until one was no piece, and what the pieces among them give is known
-pub record HaveTold (desk : DeskId) (own : OwnTiling) (table : TableId) (weight : ℕ) (pass : PassState)
+pub record TellerHasTold (desk : DeskId) (own : OwnTiling) (table : TableId) (weight : ℕ) (pass : PassState)
     (teller : TellerState) : Type 0 where
   pub of_desk : pass.desk ≡ desk
   pub weight_is : pass.weight ≡ weight
@@ -50,7 +50,8 @@ pub record IsToTell (desk : DeskId) (entries : EntriesAt) (count : ℕ) (teammat
   pub hold : IsHold entries teammate.hold
 
 -- it has drawn numbers until one was no piece, or others have for it, and what the pieces among them give is known
-pub record HasTold (desk : DeskId) (own : OwnTiling) (entries : EntriesAt) (weight : ℕ) (teammate : Teammate) : Type 0 where
+pub record TeamHasTold (desk : DeskId) (own : OwnTiling) (entries : EntriesAt) (weight : ℕ) (teammate : Teammate)
+    : Type 0 where
   pub of_desk : teammate.pass.desk ≡ desk
   pub weight_is : teammate.pass.weight ≡ weight
   pub past_pieces : HasPast desk.pieces teammate.pass.drawn

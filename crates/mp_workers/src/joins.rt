@@ -137,9 +137,9 @@ fn fit_words(tiles: &TileParts) -> bool
 }
 
 /// The matrix profile of the tiles' samples by coarse sums. Each worker begins with what pairs of windows give that
-/// these sums tell to be near. Where words hold the distances, several workers tell each other at once of each pair that
-/// comes before what they know, and none has a profile of its own. Else each keeps what it finds, and shares it behind
-/// each piece.
+/// these sums tell to be near. Where words hold the distances, several workers tell each other at once of each pair
+/// that comes before what they know, and none has a profile of its own. Else each keeps what it finds, and shares it
+/// behind each piece.
 fn profile_by_sums<R: Threads + Sync, G: Gate>(
     rt: &R,
     alloc: Global,

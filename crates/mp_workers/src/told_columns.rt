@@ -87,8 +87,8 @@ fn fill_columns<R: Threads + Sync>(
     join_mut(rt, &mut front, &mut back);
 }
 
-/// The profile all of whose windows are told of, in the room of a profile of no windows. Where there are workers enough,
-/// each column is filled by one of its own. It takes no memory.
+/// The profile all of whose windows are told of, in the room of a profile of no windows. Where there are workers
+/// enough, each column is filled by one of its own. It takes no memory.
 pub(crate) fn profile_told<R: Threads + Sync>(
     rt: &R,
     entries: &Entries,

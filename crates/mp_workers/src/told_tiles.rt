@@ -6,7 +6,7 @@ ghost use Rattle.mp_partial.specs.declared.limits.TheConstants.{MAX_PIECES, MAX_
 ghost use Rattle.mp_tiles.specs.Pieces.{own_together, own_whole};
 ghost use Rattle.mp_workers.specs.Desks.{past};
 ghost use Rattle.mp_workers.specs.Tellers.{IsHold, IsWholeTold};
-ghost use Rattle.mp_workers.specs.ToldTiles.{AreToldOf, HasTold, HaveTold, IsToTell};
+ghost use Rattle.mp_workers.specs.ToldTiles.{AreToldOf, TeamHasTold, TellerHasTold, IsToTell};
 
 use crate::desks::Desk;
 use crate::entries::Entries;
@@ -56,7 +56,7 @@ fn tell_pieces<G: Gate>(
     requires unused { pass.old.drawn ≡ [] }
     requires pieces { desk.now.pieces ≤ length tiles.now.tiles }
     requires tiles { AreToldOf tiles.now into.old.series }
-    ensures { HaveTold desk.now tiles.now into.old.table pass.old.weight pass.new into.new }
+    ensures { TellerHasTold desk.now tiles.now into.old.table pass.old.weight pass.new into.new }
 {
     let mut piece = desk.claim(pass);
     while piece < desk.pieces {
@@ -90,7 +90,7 @@ fn tell_some<R: Threads + Sync, G: Gate>(
     requires pieces { desk.now.pieces ≤ length tiles.now.tiles }
     requires tiles { AreToldOf tiles.now entries.now.series }
     requires first { IsToTell desk.now entries.now count first.old }
-    ensures { HasTold desk.now tiles.now entries.now first.old.pass.weight first.new }
+    ensures { TeamHasTold desk.now tiles.now entries.now first.old.pass.weight first.new }
 {
     if count == 1 {
         let mut teller = Teller::new(entries, tiles.window());
@@ -140,26 +140,28 @@ fn tell_both<R: Threads + Sync, G: Gate>(
     requires tiles { AreToldOf tiles.now entries.now.series }
     requires first { IsToTell desk.now entries.now some first.old }
     requires other { IsToTell desk.now entries.now more other.old }
-    ensures first { HasTold desk.now tiles.now entries.now first.old.pass.weight first.new }
-    ensures other { HasTold desk.now tiles.now entries.now other.old.pass.weight other.new }
+    ensures first { TeamHasTold desk.now tiles.now entries.now first.old.pass.weight first.new }
+    ensures other { TeamHasTold desk.now tiles.now entries.now other.old.pass.weight other.new }
 {
     let mut front = ||
         requires { IsSync R.row × IsSync G.row × (1 ≤ some) × (number + some ≤ MAX_WORKERS)
             × (desk.now.pieces ≤ length tiles.now.tiles) × AreToldOf tiles.now entries.now.series
             × IsToTell desk.now entries.now some first.now }
-        ensures { HasTold desk.entry.now tiles.entry.now entries.entry.now first.entry.now.pass.weight first.exit.now }
+        ensures { TeamHasTold desk.entry.now tiles.entry.now entries.entry.now first.entry.now.pass.weight
+            first.exit.now }
     { tell_some(rt, desk, tiles, entries, gate, number, some, first) };
     let mut back = ||
         requires { IsSync R.row × IsSync G.row × (1 ≤ more) × (number + some + more ≤ MAX_WORKERS)
             × (desk.now.pieces ≤ length tiles.now.tiles) × AreToldOf tiles.now entries.now.series
             × IsToTell desk.now entries.now more other.now }
-        ensures { HasTold desk.entry.now tiles.entry.now entries.entry.now other.entry.now.pass.weight other.exit.now }
+        ensures { TeamHasTold desk.entry.now tiles.entry.now entries.entry.now other.entry.now.pass.weight
+            other.exit.now }
     { tell_some(rt, desk, tiles, entries, gate, number + some, more, other) };
     join_mut(rt, &mut front, &mut back);
 }
 
-/// Has so many of all workers, from one on, offer their shares of the pairs that are likely near, side by side. It takes
-/// no memory.
+/// Has so many of all workers, from one on, offer their shares of the pairs that are likely near, side by side. It
+/// takes no memory.
 #[cycle(ahead)]
 fn tell_ahead<R: Threads + Sync>(
     rt: &R,

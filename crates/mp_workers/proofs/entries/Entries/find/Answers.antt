@@ -8,7 +8,8 @@ pub load_new_seat-word-requires : goal.load_new_seat-word-requires
 load_new_seat-word-requires c =
     let key = c.self.inside.table.shared.key in
     let there : c.args.place < length (whole_of key) =
-    subst (λ (s : EntriesState). c.args.place < length (whole_of s)) (sym (ap (λ e. e.series) c.self.view_is)) c.requires in
+    subst (λ (s : EntriesState). c.args.place < length (whole_of s)) (sym (ap (λ e. e.series) c.self.view_is))
+    c.requires in
     (omega (arith, there, c.self.invariant.words_are), enters key _ _ there)
 
 pub returns : goal.returns

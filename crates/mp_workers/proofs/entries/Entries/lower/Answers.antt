@@ -8,14 +8,16 @@ pub load_new_seat-found-requires : goal.load_new_seat-found-requires
 load_new_seat-found-requires c =
     let key = c.self.inside.table.shared.key in
     let there : c.args.place < length (whole_of key) =
-    subst (λ (s : EntriesState). c.args.place < length (whole_of s)) (sym (ap (λ e. e.series) c.self.view_is)) c.requires.place in
+    subst (λ (s : EntriesState). c.args.place < length (whole_of s)) (sym (ap (λ e. e.series) c.self.view_is))
+    c.requires.place in
     (omega (arith, there, c.self.invariant.words_are), enters key _ _ there)
 
 pub fetch_min-before-requires : goal.fetch_min-before-requires
 fetch_min-before-requires c =
     let key = c.self.inside.table.shared.key in
     let there : c.args.place < length (whole_of key) =
-    subst (λ (s : EntriesState). c.args.place < length (whole_of s)) (sym (ap (λ e. e.series) c.self.view_is)) c.requires.place in
+    subst (λ (s : EntriesState). c.args.place < length (whole_of s)) (sym (ap (λ e. e.series) c.self.view_is))
+    c.requires.place in
     let within : IsWithin c.args.word (slice_index_or (whole_of key) c.args.place None) =
     subst (λ (s : EntriesState). IsWithin c.args.word (slice_index_or (whole_of s) c.args.place None))
     (sym (ap (λ e. e.series) c.self.view_is)) c.requires.within in (

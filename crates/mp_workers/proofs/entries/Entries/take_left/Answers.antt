@@ -20,7 +20,8 @@ pub loop-place-preserved : goal.loop-place-preserved
 loop-place-preserved c =
     let before = c.loop-place.invariant in
     record {
-      left = left_taken c.args.self.now.series c.args.into.now.left c.loop-place.into.left _ c.loop-place.place c.find.result
+      left = left_taken c.args.self.now.series c.args.into.now.left c.loop-place.into.left _ c.loop-place.place
+          c.find.result
           before.left
           (omega (arith, c.loop-place-test.true, c.min-place-end.ensures, c.len.ensures.count)) c.find.ensures
           c.take_left.ensures.left;

@@ -13,7 +13,8 @@ loop-place-init c = record {
 
 pub find-requires : goal.find-requires
 find-requires c =
-    right_below c.args.self.now.series c.loop-place.place c.len-count.result c.min-place-end.result c.loop-place-test.true
+    right_below c.args.self.now.series c.loop-place.place c.len-count.result c.min-place-end.result
+    c.loop-place-test.true
     (omega (arith, c.min-place-end.ensures)) c.len-count.ensures.count
 
 pub loop-place-preserved : goal.loop-place-preserved

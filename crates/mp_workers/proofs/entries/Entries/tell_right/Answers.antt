@@ -4,7 +4,8 @@ use Rattle.mp_workers.proofs.entries.Entries.tell_right.Goals as goal
 
 pub lower-requires-clause-place : goal.lower-requires-clause-place
 lower-requires-clause-place c =
-    right_below c.args.self.now.series c.loop-place.place c.len-count.result c.min-place-end.result c.loop-place-test.true
+    right_below c.args.self.now.series c.loop-place.place c.len-count.result c.min-place-end.result
+    c.loop-place-test.true
     (omega (arith, c.min-place-end.ensures)) c.len-count.ensures.count
 
 pub lower-requires-clause-within : goal.lower-requires-clause-within
