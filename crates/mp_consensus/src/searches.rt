@@ -21,7 +21,7 @@ use mp_nums::Memory;
 use mp_outside::Gate;
 use mp_partial::MAX_WORKERS;
 use mp_series::Bundle;
-use mp_workers::{Desk, Pass};
+use mp_workers::{Desk, Pass, run_aside};
 use std::alloc::Global;
 use std::thread::{Threads, join_mut};
 
@@ -66,7 +66,17 @@ fn hire(
     Ok(team)
 }
 
-/// Runs all workers side by side, until no piece is left.
+/// Runs a team of one worker, until no piece is left.
+fn run_one<G: Gate>(alloc: Global, search: &Search, team: &mut [Searcher], gate: &G)
+    requires search { IsSearch search.now }
+    requires one { length team.old ≡ 1 }
+    requires ready { All (IsReady search.now) team.old }
+    ensures { All (IsDone search.now) team.new }
+{
+    team[0].run(alloc, search, gate);
+}
+
+/// Runs all workers side by side, each in a thread of its own, until no piece is left.
 #[cycle(teams)]
 fn run_team<R: Threads + Sync, G: Gate>(
     rt: &R,
@@ -81,7 +91,11 @@ fn run_team<R: Threads + Sync, G: Gate>(
     ensures { All (IsDone search.now) team.new }
 {
     if team.len() == 1 {
-        team[0].run(alloc, search, gate);
+        let mut one = ||
+            requires { IsSearch search.now × (length team.now ≡ 1) × All (IsReady search.now) team.now }
+            ensures { All (IsDone search.entry.now) team.exit.now }
+        { run_one(alloc, search, team, gate) };
+        run_aside(rt, &mut one);
         return;
     }
     let (low, high) = team.split_at_mut(team.len() / 2);
@@ -133,7 +147,11 @@ fn run_all<R: Threads + Sync, G: Gate>(
     ensures count { length team.new.items ≡ length team.old.items }
     ensures done { All (IsDone search.now) team.new.items }
 {
-    run_team(rt, alloc, search, team.as_mut_slice(), gate);
+    if team.len() == 1 {
+        run_one(alloc, search, team.as_mut_slice(), gate);
+    } else {
+        run_team(rt, alloc, search, team.as_mut_slice(), gate);
+    }
 }
 
 /// Takes in the passes of all workers, and tells the first of the best candidates that they found.

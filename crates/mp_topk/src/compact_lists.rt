@@ -7,6 +7,7 @@ ghost use Rattle.mp_topk.specs.Ranking.{lists_in, those_in};
 use crate::lists::push_slot;
 use mp_nums::{Items, Memory, NearList};
 use mp_tiles::Compact;
+use mp_workers::run_aside;
 use std::alloc::Global;
 use std::thread::{Threads, join};
 
@@ -38,6 +39,20 @@ fn lists_in_order<const K: usize>(
     Ok(lists)
 }
 
+/// For each place the list of its windows, by a worker in a thread of its own.
+fn lists_aside<R: Threads, const K: usize>(
+    rt: &R,
+    alloc: Global,
+    places: &[[Compact; K]],
+) -> Result<Vec<NearList>, Memory>
+    ensures { IfOk result (λ lists. lists_in lists.items ≡ map those_in places.now) }
+{
+    let mut own = || -> Result<Vec<NearList>, Memory>
+        ensures { IfOk result (λ lists. lists_in lists.items ≡ map those_in places.entry.now) }
+    { lists_in_order(alloc, places) };
+    run_aside(rt, &mut own)
+}
+
 /// For each place the list of its windows, by two workers.
 fn lists_by_two<R: Threads + Sync, const K: usize>(
     rt: &R,
@@ -52,7 +67,7 @@ fn lists_by_two<R: Threads + Sync, const K: usize>(
     { lists_in_order(alloc, low) };
     let back = move || -> Result<Vec<NearList>, Memory>
         ensures { IfOk result (λ lists. lists_in lists.items ≡ map those_in high.entry.now) }
-    { lists_in_order(alloc, high) };
+    { lists_aside(rt, alloc, high) };
     let (first, second) = join(rt, front, back);
     let mut lists = first?;
     let mut others = second?;

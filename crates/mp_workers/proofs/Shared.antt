@@ -77,27 +77,6 @@ module _ (IsValue : ℕ → Value → Type 0) (unit : ℕ → Value) (merged : V
       → AreReadyToShare IsValue merged whole desk size some
   some_share desk whole workers some all each = record { whole_is_value = all.whole_is_value; each = each }
 
-  -- one worker that has begun
-  pub one_has_begun : (desk : DeskId) (whole : Value) (workers : List WorkerState) (worker : WorkerState)
-      → IsValue size whole → length workers ≡ 1 → IsReadyToShare IsValue merged whole desk size worker
-      → AreReadyToShare IsValue merged whole desk size (slice_set workers 0 worker)
-  one_has_begun desk whole [] worker is one ready = absurd (omega (arith, one))
-  one_has_begun desk whole (x ∷ y ∷ rest) worker is one ready = absurd (omega (arith, one))
-  one_has_begun desk whole (x ∷ []) worker is one ready = record {
-    whole_is_value = is;
-    each = All-cons (IsReadyToShare IsValue merged whole desk size) worker [] ready
-        (All-nil (IsReadyToShare IsValue merged whole desk size));
-  }
-
-  -- two halves of a team that have
-  pub both_have_begun : (desk : DeskId) (whole : Value) (low high : List WorkerState)
-      → AreReadyToShare IsValue merged whole desk size low → AreReadyToShare IsValue merged whole desk size high
-      → AreReadyToShare IsValue merged whole desk size (low ++ high)
-  both_have_begun desk whole low high h k = record {
-    whole_is_value = h.whole_is_value;
-    each = All-append (IsReadyToShare IsValue merged whole desk size) low high h.each k.each;
-  }
-
   -- two halves of a team, once the first worker of one has what both found
   pub both_have_shared : (desk : DeskId) (value : ℕ → Value) (whole : Value)
       → ((k : ℕ) → k < desk.pieces → IsValue size (value k)) → IsValue size whole

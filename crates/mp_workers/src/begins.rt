@@ -5,6 +5,7 @@ ghost use Rattle.std.specs.Thread.{IsSync, IsSend};
 ghost use Rattle.mp_partial.specs.Values.{Value};
 ghost use Rattle.mp_workers.specs.Begins.{AreAhead};
 
+use crate::aside::run_aside;
 use mp_partial::{MAX_WORKERS, Part};
 use std::thread::{Threads, join_mut};
 
@@ -38,7 +39,18 @@ pub(crate) struct Share {
     pub(crate) of: u32,
 }
 
-/// Finds a share for each of some parts, from one on, side by side. The first part then has what all of them found.
+/// Finds a share for the first of some parts.
+fn begin_one<P: Part, B: Begin<Out = P>>(ahead: &B, share: &Share, parts: &mut [P])
+    requires some { 0 < length parts.old }
+    requires shares { share.now.number + length parts.old ≤ share.now.of }
+    requires kept { AreAhead P.size_of P.is_value P.value P.merged (B.size_of ahead.now) (B.whole ahead.now) parts.old }
+    ensures { AreAhead P.size_of P.is_value P.value P.merged (B.size_of ahead.now) (B.whole ahead.now) parts.new }
+{
+    ahead.begin(share.number, share.of, &mut parts[0]);
+}
+
+/// Finds a share for each of some parts, from one on, side by side, each in a thread of its own. The first part then
+/// has what all of them found.
 #[cycle(begins)]
 fn begin_some<R: Threads + Sync, P: Part, B: Begin<Out = P>>(
     rt: &R,
@@ -52,7 +64,13 @@ fn begin_some<R: Threads + Sync, P: Part, B: Begin<Out = P>>(
     ensures { AreAhead P.size_of P.is_value P.value P.merged (B.size_of ahead.now) (B.whole ahead.now) parts.new }
 {
     if parts.len() == 1 {
-        ahead.begin(share.number, share.of, &mut parts[0]);
+        let mut one = ||
+            requires { (0 < length parts.now) × (share.now.number + length parts.now ≤ share.now.of)
+                × AreAhead P.size_of P.is_value P.value P.merged (B.size_of ahead.now) (B.whole ahead.now) parts.now }
+            ensures { AreAhead P.size_of P.is_value P.value P.merged (B.size_of ahead.entry.now)
+                (B.whole ahead.entry.now) parts.exit.now }
+        { begin_one(ahead, share, parts) };
+        run_aside(rt, &mut one);
         return;
     }
     let (low, high) = parts.split_at_mut(parts.len() / 2);
@@ -117,5 +135,9 @@ pub(crate) fn begin_all<R: Threads + Sync, P: Part, B: Begin<Out = P>>(
         number: 0,
         of: parts.len() as u32,
     };
-    begin_some(rt, ahead, &first, parts);
+    if parts.len() == 1 {
+        begin_one(ahead, &first, parts);
+    } else {
+        begin_some(rt, ahead, &first, parts);
+    }
 }

@@ -4,6 +4,7 @@ ghost use Rattle.std.specs.Prelude.{◌≡◌, ◌≤◌, [], length};
 ghost use Rattle.std.specs.Thread.{IsSync};
 ghost use Rattle.mp_partial.specs.Values.{merged_column};
 
+use crate::aside::run_aside;
 use mp_nums::Slots;
 use mp_partial::{Part, Profile};
 use mp_tiles::Sides;
@@ -18,6 +19,19 @@ const COLUMNS: u32 = 3;
 /// Whether each column of so many windows is filled by a worker of its own, where there are so many workers.
 pub(crate) fn are_side_by_side(windows: u64, workers: u32) -> bool {
     COLUMNS <= workers && WINDOWS_FOR_A_WORKER <= windows
+}
+
+/// Fills the column of the right in a thread of its own.
+fn fill_right<R: Threads>(rt: &R, sides: &Sides, right: &mut Slots)
+    requires no_right { right.old.items ≡ [] }
+    requires spare { length sides.now.left ≤ right.old.spare }
+    ensures { right.new.items ≡ sides.now.right }
+{
+    let mut own = ||
+        requires { (right.now.items ≡ []) × (length sides.now.left ≤ right.now.spare) }
+        ensures { right.exit.now.items ≡ sides.entry.now.right }
+    { sides.put_right(right) };
+    run_aside(rt, &mut own);
 }
 
 /// Fills the columns of the left and of the right side by side.
@@ -36,7 +50,7 @@ fn fill_sides<R: Threads + Sync>(rt: &R, sides: &Sides, left: &mut Slots, right:
     let mut back = ||
         requires { (right.now.items ≡ []) × (length sides.now.left ≤ right.now.spare) }
         ensures { right.exit.now.items ≡ sides.entry.now.right }
-    { sides.put_right(right) };
+    { fill_right(rt, sides, right) };
     join_mut(rt, &mut front, &mut back);
 }
 

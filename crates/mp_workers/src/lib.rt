@@ -2,6 +2,7 @@
 //! they compute.
 #![tactic(auto)]
 
+mod aside;
 mod begins;
 mod columns;
 mod desks;
@@ -19,6 +20,7 @@ mod told_columns;
 mod told_tiles;
 mod workers;
 
+pub use aside::run_aside;
 pub use begins::Begin;
 pub use desks::Desk;
 pub use joins::{ab_join, self_join, workers_for};

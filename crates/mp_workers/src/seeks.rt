@@ -1,8 +1,9 @@
 //! Pairs of windows that are likely near, looked for by workers side by side.
 
-ghost use Rattle.std.specs.Prelude.{◌+◌, ◌≤◌};
+ghost use Rattle.std.specs.Prelude.{◌+◌, ◌<◌, ◌≤◌};
 ghost use Rattle.std.specs.Thread.{IsSync};
 
+use crate::aside::run_aside;
 use crate::begins::Share;
 use crate::joins::workers_for;
 use mp_nums::Memory;
@@ -11,7 +12,16 @@ use mp_skips::Seeking;
 use std::alloc::Global;
 use std::thread::{Threads, join};
 
-/// What so many shares find, from one share on, each looked for by another one like the first.
+/// What a share finds, looked for by another one like the first.
+fn find_one<S: Seeking>(alloc: Global, first: &S, share: Share) -> Result<S, Memory>
+    requires { share.number < share.of }
+{
+    let mut own = first.again(alloc)?;
+    own.find(share.number, share.of);
+    Ok(own)
+}
+
+/// What so many shares find, from one share on, each looked for by another one like the first in a thread of its own.
 #[cycle(seeks)]
 fn find_some<R: Threads + Sync, S: Seeking>(
     rt: &R,
@@ -24,9 +34,10 @@ fn find_some<R: Threads + Sync, S: Seeking>(
     requires shares { share.number + count ≤ share.of }
 {
     if count == 1 {
-        let mut own = first.again(alloc)?;
-        own.find(share.number, share.of);
-        return Ok(own);
+        let mut own = || -> Result<S, Memory>
+            requires { share.number < share.of }
+        { find_one(alloc, first, share) };
+        return run_aside(rt, &mut own);
     }
     let half = count / 2;
     let next = Share {

@@ -6,6 +6,7 @@ ghost use Rattle.mp_partial.specs.Values.{Value, merged_below};
 ghost use Rattle.mp_workers.specs.Desks.{Drew, past};
 ghost use Rattle.mp_workers.specs.Sharing.{AreReadyToShare, HasPieces, HaveShared};
 
+use crate::aside::run_aside;
 use crate::desks::Desk;
 use crate::passes::Pass;
 use crate::workers::{Worker, gather, hire, merge_first};
@@ -104,60 +105,26 @@ impl Desk {
     }
 }
 
-/// Has the workers of a team find their shares ahead of the pieces, side by side.
-#[cycle(begin)]
-fn begin_team<R: Threads + Sync, P: Part, S: Sharing<Out = P>>(
-    rt: &R,
+/// Has a team of one worker find its share ahead of the pieces, and then run pieces until none is left.
+fn share_one<P: Part, S: Sharing<Out = P>, G: Gate>(
     desk: &Desk,
     work: &S,
+    gate: &G,
     team: &mut [Worker<P>],
 )
-    requires some { 0 < length team.old }
+    requires one { length team.old ≡ 1 }
+    requires pieces { desk.now.pieces ≤ S.pieces_of work.now }
     requires ready { AreReadyToShare P.is_value P.merged (S.whole work.now) desk.now (S.size_of work.now) team.old }
-    ensures { AreReadyToShare P.is_value P.merged (S.whole work.now) desk.now (S.size_of work.now) team.new }
+    ensures { HaveShared P.is_value P.merged (S.value_of work.now) (S.whole work.now) desk.now (S.size_of work.now)
+        team.new }
 {
-    if team.len() == 1 {
-        team[0].begin(desk, work);
-        return;
-    }
-    let (low, high) = team.split_at_mut(team.len() / 2);
-    begin_halves(rt, desk, work, low, high);
+    let worker = &mut team[0];
+    worker.begin(desk, work);
+    worker.share(desk, work, gate);
 }
 
-/// Has two halves of a team find theirs, side by side.
-#[cycle(begin)]
-fn begin_halves<R: Threads + Sync, P: Part, S: Sharing<Out = P>>(
-    rt: &R,
-    desk: &Desk,
-    work: &S,
-    low: &mut [Worker<P>],
-    high: &mut [Worker<P>],
-)
-    requires some { 0 < length low.old }
-    requires others { 0 < length high.old }
-    requires ready { AreReadyToShare P.is_value P.merged (S.whole work.now) desk.now (S.size_of work.now) low.old }
-    requires others_ready { AreReadyToShare P.is_value P.merged (S.whole work.now) desk.now (S.size_of work.now)
-        high.old }
-    ensures low { AreReadyToShare P.is_value P.merged (S.whole work.now) desk.now (S.size_of work.now) low.new }
-    ensures high { AreReadyToShare P.is_value P.merged (S.whole work.now) desk.now (S.size_of work.now) high.new }
-{
-    let mut front = ||
-        requires { IsSync R.row × IsSync S.row × IsSend P.row × (0 < length low.now)
-            × AreReadyToShare P.is_value P.merged (S.whole work.now) desk.now (S.size_of work.now) low.now }
-        ensures { AreReadyToShare P.is_value P.merged (S.whole work.entry.now) desk.entry.now
-            (S.size_of work.entry.now) low.exit.now }
-    { begin_team(rt, desk, work, low) };
-    let mut back = ||
-        requires { IsSync R.row × IsSync S.row × IsSend P.row × (0 < length high.now)
-            × AreReadyToShare P.is_value P.merged (S.whole work.now) desk.now (S.size_of work.now) high.now }
-        ensures { AreReadyToShare P.is_value P.merged (S.whole work.entry.now) desk.entry.now
-            (S.size_of work.entry.now) high.exit.now }
-    { begin_team(rt, desk, work, high) };
-    join_mut(rt, &mut front, &mut back);
-}
-
-/// Runs the workers of a team side by side, until no piece is left. The first one then has the values of all pieces
-/// that they drew.
+/// Has the workers of a team find their shares ahead of the pieces and then run pieces until none is left, side by side,
+/// each in a thread of its own. The first one then has the values of all pieces that they drew.
 #[cycle(sharing)]
 fn share_team<R: Threads + Sync, P: Part, S: Sharing<Out = P>, G: Gate>(
     rt: &R,
@@ -173,7 +140,13 @@ fn share_team<R: Threads + Sync, P: Part, S: Sharing<Out = P>, G: Gate>(
         team.new }
 {
     if team.len() == 1 {
-        team[0].share(desk, work, gate);
+        let mut one = ||
+            requires { (length team.now ≡ 1) × (desk.now.pieces ≤ S.pieces_of work.now)
+                × AreReadyToShare P.is_value P.merged (S.whole work.now) desk.now (S.size_of work.now) team.now }
+            ensures { HaveShared P.is_value P.merged (S.value_of work.entry.now) (S.whole work.entry.now)
+                desk.entry.now (S.size_of work.entry.now) team.exit.now }
+        { share_one(desk, work, gate, team) };
+        run_aside(rt, &mut one);
         return;
     }
     let (low, high) = team.split_at_mut(team.len() / 2);
@@ -220,8 +193,8 @@ fn share_halves<R: Threads + Sync, P: Part, S: Sharing<Out = P>, G: Gate>(
     join_mut(rt, &mut front, &mut back);
 }
 
-/// Has the workers of a team find their shares ahead of the pieces, and then run pieces until none is left: what all of
-/// them find ahead is there for each of them at its first piece.
+/// Has the workers of a team find their shares ahead of the pieces and then run pieces until none is left, several side
+/// by side.
 fn run_team<R: Threads + Sync, P: Part, S: Sharing<Out = P>, G: Gate>(
     rt: &R,
     desk: &Desk,
@@ -235,8 +208,11 @@ fn run_team<R: Threads + Sync, P: Part, S: Sharing<Out = P>, G: Gate>(
     ensures { HaveShared P.is_value P.merged (S.value_of work.now) (S.whole work.now) desk.now (S.size_of work.now)
         team.new }
 {
-    begin_team(rt, desk, work, team);
-    share_team(rt, desk, work, gate, team);
+    if team.len() == 1 {
+        share_one(desk, work, gate, team);
+    } else {
+        share_team(rt, desk, work, gate, team);
+    }
 }
 
 /// What all pieces have together, found by so many workers side by side that share what they find.

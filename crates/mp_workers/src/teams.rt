@@ -5,6 +5,7 @@ ghost use Rattle.std.specs.Thread.{IsSync, IsSend};
 ghost use Rattle.mp_partial.specs.Values.{Value, merged_below};
 ghost use Rattle.mp_workers.specs.Teams.{AreReady, HaveRun, found_first, with_pieces};
 
+use crate::aside::run_aside;
 use crate::begins::{Begin, begin_all};
 use crate::desks::Desk;
 use crate::workers::{Worker, gather, hand_on, hire, merge_first};
@@ -14,9 +15,26 @@ use mp_partial::{Kernel, MAX_PIECES, MAX_WORKERS, Part, units};
 use std::alloc::Global;
 use std::thread::{Threads, join_mut};
 
-/// Runs the workers of a team side by side, until no piece is left. The first one then has what all of them found.
+/// Runs a team of one worker, until no piece is left.
+fn run_one<P: Part, K: Kernel<Out = P>, G: Gate>(
+    desk: &Desk,
+    kernel: &K,
+    gate: &G,
+    team: &mut [Worker<P>],
+)
+    requires one { length team.old ≡ 1 }
+    requires pieces { desk.now.pieces ≤ K.pieces_of kernel.now }
+    requires ready { AreReady P.is_value desk.now (K.size_of kernel.now) team.old }
+    ensures { HaveRun desk.now (K.size_of kernel.now) (with_pieces P.merged (P.unit_of (K.size_of kernel.now))
+        (K.value_of kernel.now) (found_first team.old)) team.new }
+{
+    team[0].work(desk, kernel, gate);
+}
+
+/// Runs the workers of a team side by side, each in a thread of its own, until no piece is left. The first one then has
+/// what all of them found.
 #[cycle(teams)]
-fn run_team<R: Threads + Sync, P: Part, K: Kernel<Out = P>, G: Gate>(
+fn run_some<R: Threads + Sync, P: Part, K: Kernel<Out = P>, G: Gate>(
     rt: &R,
     desk: &Desk,
     kernel: &K,
@@ -30,7 +48,14 @@ fn run_team<R: Threads + Sync, P: Part, K: Kernel<Out = P>, G: Gate>(
         (K.value_of kernel.now) (found_first team.old)) team.new }
 {
     if team.len() == 1 {
-        team[0].work(desk, kernel, gate);
+        let mut one = ||
+            requires { (length team.now ≡ 1) × (desk.now.pieces ≤ K.pieces_of kernel.now)
+                × AreReady P.is_value desk.now (K.size_of kernel.now) team.now }
+            ensures { HaveRun desk.entry.now (K.size_of kernel.entry.now)
+                (with_pieces P.merged (P.unit_of (K.size_of kernel.entry.now)) (K.value_of kernel.entry.now)
+                (found_first team.entry.now)) team.exit.now }
+        { run_one(desk, kernel, gate, team) };
+        run_aside(rt, &mut one);
         return;
     }
     let (low, high) = team.split_at_mut(team.len() / 2);
@@ -87,7 +112,7 @@ fn run_halves<R: Threads + Sync, P: Part, K: Kernel<Out = P>, G: Gate>(
         ensures { HaveRun desk.entry.now (K.size_of kernel.entry.now)
             (with_pieces P.merged (P.unit_of (K.size_of kernel.entry.now)) (K.value_of kernel.entry.now)
             (found_first low.entry.now)) low.exit.now }
-    { run_team(rt, desk, kernel, gate, low) };
+    { run_some(rt, desk, kernel, gate, low) };
     let mut back = ||
         requires { IsSync R.row × IsSync K.row × IsSync G.row × IsSend P.row × (0 < length high.now)
             × (desk.now.pieces ≤ K.pieces_of kernel.now)
@@ -95,8 +120,29 @@ fn run_halves<R: Threads + Sync, P: Part, K: Kernel<Out = P>, G: Gate>(
         ensures { HaveRun desk.entry.now (K.size_of kernel.entry.now)
             (with_pieces P.merged (P.unit_of (K.size_of kernel.entry.now)) (K.value_of kernel.entry.now)
             (found_first high.entry.now)) high.exit.now }
-    { run_team(rt, desk, kernel, gate, high) };
+    { run_some(rt, desk, kernel, gate, high) };
     join_mut(rt, &mut front, &mut back);
+}
+
+/// Runs the workers of a team, several side by side. The first one then has what all of them found.
+fn run_team<R: Threads + Sync, P: Part, K: Kernel<Out = P>, G: Gate>(
+    rt: &R,
+    desk: &Desk,
+    kernel: &K,
+    gate: &G,
+    team: &mut [Worker<P>],
+)
+    requires some { 0 < length team.old }
+    requires pieces { desk.now.pieces ≤ K.pieces_of kernel.now }
+    requires ready { AreReady P.is_value desk.now (K.size_of kernel.now) team.old }
+    ensures { HaveRun desk.now (K.size_of kernel.now) (with_pieces P.merged (P.unit_of (K.size_of kernel.now))
+        (K.value_of kernel.now) (found_first team.old)) team.new }
+{
+    if team.len() == 1 {
+        run_one(desk, kernel, gate, team);
+    } else {
+        run_some(rt, desk, kernel, gate, team);
+    }
 }
 
 /// How many of the workers are started: no more than there are pieces, and at least one.
@@ -145,8 +191,8 @@ fn run_from<R: Threads + Sync, P: Part, K: Kernel<Out = P>, G: Gate>(
 /// What the pieces below a number have together, run by so many workers side by side. Each worker draws the next piece,
 /// passes the gate and runs it, until no piece is left. No more workers are started than there are pieces.
 ///
-/// All memory is taken before the first thread is started. Each worker but one has a thread of its own; a worker whose
-/// thread can't be started is run by the one that would have started it.
+/// All memory is taken before the first thread is started. Each of several workers has a thread of its own, for which
+/// the caller's thread waits; a worker whose thread can't be started is run by the one that would have started it.
 pub fn run_all<R: Threads + Sync, K: Kernel, G: Gate>(
     rt: &R,
     alloc: Global,

@@ -6,12 +6,29 @@ ghost use Rattle.mp_partial.specs.Values.{merged_column};
 ghost use Rattle.mp_workers.specs.Entries.{count_of, left_of, right_of};
 ghost use Rattle.mp_workers.specs.Tellers.{IsHold, IsWholeTold};
 
+use crate::aside::run_aside;
 use crate::columns::are_side_by_side;
 use crate::entries::Entries;
 use crate::holds::Hold;
 use mp_nums::Slots;
 use mp_partial::Profile;
 use std::thread::{Threads, join_mut};
+
+/// Fills the column of the right in a thread of its own.
+fn fill_right<R: Threads>(rt: &R, entries: &Entries, hold: &mut Hold, right: &mut Slots)
+    requires hold { IsHold entries.now hold.old }
+    requires whole { IsWholeTold entries.now.series hold.old.told }
+    requires no_window { right.old.items ≡ [] }
+    requires spare { count_of entries.now.series ≤ right.old.spare }
+    ensures { right.new.items ≡ right_of entries.now.series }
+{
+    let mut own = ||
+        requires { IsHold entries.now hold.now × IsWholeTold entries.now.series hold.now.told
+            × (right.now.items ≡ []) × (count_of entries.now.series ≤ right.now.spare) }
+        ensures { right.exit.now.items ≡ right_of entries.entry.now.series }
+    { entries.put_right(hold, right) };
+    run_aside(rt, &mut own);
+}
 
 /// Fills the columns of the left and of the right side by side.
 fn fill_sides<R: Threads + Sync>(
@@ -42,7 +59,7 @@ fn fill_sides<R: Threads + Sync>(
         requires { IsHold entries.now other.now × IsWholeTold entries.now.series other.now.told
             × (right.now.items ≡ []) × (count_of entries.now.series ≤ right.now.spare) }
         ensures { right.exit.now.items ≡ right_of entries.entry.now.series }
-    { entries.put_right(other, right) };
+    { fill_right(rt, entries, other, right) };
     join_mut(rt, &mut front, &mut back);
 }
 

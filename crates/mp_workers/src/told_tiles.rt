@@ -8,6 +8,7 @@ ghost use Rattle.mp_workers.specs.Desks.{past};
 ghost use Rattle.mp_workers.specs.Tellers.{IsHold, IsWholeTold};
 ghost use Rattle.mp_workers.specs.ToldTiles.{AreToldOf, TeamHasTold, TellerHasTold, IsToTell};
 
+use crate::aside::run_aside;
 use crate::desks::Desk;
 use crate::entries::Entries;
 use crate::holds::Hold;
@@ -19,7 +20,7 @@ use mp_partial::Kernel;
 use mp_skips::Seeds;
 use mp_tiles::TileParts;
 use std::alloc::Global;
-use std::thread::{Threads, join, join_mut};
+use std::thread::{Threads, join_mut};
 
 /// Cuts off a pass of so much weight.
 fn cut(desk: &Desk, pass: &mut Pass, weight: u32) -> Pass
@@ -73,40 +74,84 @@ struct Teammate {
     hold: Hold,
 }
 
-/// Has so many workers draw pieces side by side, from one worker on. The first of them then knows what all know.
+/// The pieces of a series, the pairs that are likely near, and the entries in which so many workers tell each other what
+/// they find.
+#[derive(Drop)]
+struct ToldTiles<'a, 's> {
+    tiles: &'a TileParts<'a>,
+    seeds: &'a Seeds,
+    entries: &'a Entries<'s>,
+    workers: u32,
+}
+
+impl<'a, 's> ToldTiles<'a, 's> {
+    /// Has a worker offer its share of the pairs that are likely near. It takes no memory.
+    fn tell_ahead(&self, number: u32)
+        requires number { number < self.now.workers }
+        requires tiles { AreToldOf self.now.tiles.now self.now.entries.now.series }
+    {
+        let mut teller = Teller::new(self.entries, self.tiles.window());
+        self.tiles
+            .offer_seeds::<Telling>(self.seeds, number, self.workers, &mut teller);
+    }
+
+    /// Has a worker offer its share of the pairs that are likely near, and then those of the pieces that it draws. It
+    /// then knows what these give. It takes no memory.
+    fn tell<G: Gate>(&self, desk: &Desk, gate: &G, number: u32, own: &mut Teammate)
+        requires number { number < self.now.workers }
+        requires pieces { desk.now.pieces ≤ length self.now.tiles.now.tiles }
+        requires tiles { AreToldOf self.now.tiles.now self.now.entries.now.series }
+        requires own { IsToTell desk.now self.now.entries.now 1 own.old }
+        ensures { TeamHasTold desk.now self.now.tiles.now self.now.entries.now own.old.pass.weight own.new }
+    {
+        self.tell_ahead(number);
+        let (tiles, pass) = (self.tiles, &mut own.pass);
+        let mut teller = Teller::new(self.entries, tiles.window());
+        tell_pieces(desk, pass, number, tiles, &mut teller, gate);
+        self.entries.join(&mut own.hold, teller.into_hold());
+    }
+}
+
+/// Has so many workers tell each other what they find side by side, from one worker on, each in a thread of its own:
+/// first of its share of the pairs that are likely near, and then of the pieces that it draws. The first of them then
+/// knows what all know.
 #[cycle(telling)]
 fn tell_some<R: Threads + Sync, G: Gate>(
     rt: &R,
     desk: &Desk,
-    tiles: &TileParts,
-    entries: &Entries,
+    told: &ToldTiles,
     gate: &G,
     number: u32,
     count: u32,
     first: &mut Teammate,
 )
     requires some { 1 ≤ count }
-    requires numbers { number + count ≤ MAX_WORKERS }
-    requires pieces { desk.now.pieces ≤ length tiles.now.tiles }
-    requires tiles { AreToldOf tiles.now entries.now.series }
-    requires first { IsToTell desk.now entries.now count first.old }
-    ensures { TeamHasTold desk.now tiles.now entries.now first.old.pass.weight first.new }
+    requires numbers { number + count ≤ told.now.workers }
+    requires few { told.now.workers ≤ MAX_WORKERS }
+    requires pieces { desk.now.pieces ≤ length told.now.tiles.now.tiles }
+    requires tiles { AreToldOf told.now.tiles.now told.now.entries.now.series }
+    requires first { IsToTell desk.now told.now.entries.now count first.old }
+    ensures { TeamHasTold desk.now told.now.tiles.now told.now.entries.now first.old.pass.weight first.new }
 {
     if count == 1 {
-        let mut teller = Teller::new(entries, tiles.window());
-        tell_pieces(desk, &mut first.pass, number, tiles, &mut teller, gate);
-        entries.join(&mut first.hold, teller.into_hold());
+        let mut own = ||
+            requires { (number < told.now.workers) × (desk.now.pieces ≤ length told.now.tiles.now.tiles)
+                × AreToldOf told.now.tiles.now told.now.entries.now.series
+                × IsToTell desk.now told.now.entries.now 1 first.now }
+            ensures { TeamHasTold desk.entry.now told.entry.now.tiles.now told.entry.now.entries.now
+                first.entry.now.pass.weight first.exit.now }
+        { told.tell(desk, gate, number, first) };
+        run_aside(rt, &mut own);
         return;
     }
     let half = count / 2;
     let pass = cut(desk, &mut first.pass, count - half);
-    let hold = entries.hold();
+    let hold = told.entries.hold();
     let mut other = Teammate { pass, hold };
     tell_both(
         rt,
         desk,
-        tiles,
-        entries,
+        told,
         gate,
         number,
         half,
@@ -116,7 +161,7 @@ fn tell_some<R: Threads + Sync, G: Gate>(
     );
     let Teammate { pass, hold } = other;
     desk.join(&mut first.pass, pass);
-    entries.join(&mut first.hold, hold);
+    told.entries.join(&mut first.hold, hold);
 }
 
 /// The same of two halves side by side.
@@ -124,8 +169,7 @@ fn tell_some<R: Threads + Sync, G: Gate>(
 fn tell_both<R: Threads + Sync, G: Gate>(
     rt: &R,
     desk: &Desk,
-    tiles: &TileParts,
-    entries: &Entries,
+    told: &ToldTiles,
     gate: &G,
     number: u32,
     some: u32,
@@ -135,90 +179,32 @@ fn tell_both<R: Threads + Sync, G: Gate>(
 )
     requires some { 1 ≤ some }
     requires more { 1 ≤ more }
-    requires numbers { number + some + more ≤ MAX_WORKERS }
-    requires pieces { desk.now.pieces ≤ length tiles.now.tiles }
-    requires tiles { AreToldOf tiles.now entries.now.series }
-    requires first { IsToTell desk.now entries.now some first.old }
-    requires other { IsToTell desk.now entries.now more other.old }
-    ensures first { TeamHasTold desk.now tiles.now entries.now first.old.pass.weight first.new }
-    ensures other { TeamHasTold desk.now tiles.now entries.now other.old.pass.weight other.new }
+    requires numbers { number + some + more ≤ told.now.workers }
+    requires few { told.now.workers ≤ MAX_WORKERS }
+    requires pieces { desk.now.pieces ≤ length told.now.tiles.now.tiles }
+    requires tiles { AreToldOf told.now.tiles.now told.now.entries.now.series }
+    requires first { IsToTell desk.now told.now.entries.now some first.old }
+    requires other { IsToTell desk.now told.now.entries.now more other.old }
+    ensures first { TeamHasTold desk.now told.now.tiles.now told.now.entries.now first.old.pass.weight first.new }
+    ensures other { TeamHasTold desk.now told.now.tiles.now told.now.entries.now other.old.pass.weight other.new }
 {
     let mut front = ||
-        requires { IsSync R.row × IsSync G.row × (1 ≤ some) × (number + some ≤ MAX_WORKERS)
-            × (desk.now.pieces ≤ length tiles.now.tiles) × AreToldOf tiles.now entries.now.series
-            × IsToTell desk.now entries.now some first.now }
-        ensures { TeamHasTold desk.entry.now tiles.entry.now entries.entry.now first.entry.now.pass.weight
-            first.exit.now }
-    { tell_some(rt, desk, tiles, entries, gate, number, some, first) };
+        requires { IsSync R.row × IsSync G.row × (1 ≤ some) × (number + some ≤ told.now.workers)
+            × (told.now.workers ≤ MAX_WORKERS) × (desk.now.pieces ≤ length told.now.tiles.now.tiles)
+            × AreToldOf told.now.tiles.now told.now.entries.now.series
+            × IsToTell desk.now told.now.entries.now some first.now }
+        ensures { TeamHasTold desk.entry.now told.entry.now.tiles.now told.entry.now.entries.now
+            first.entry.now.pass.weight first.exit.now }
+    { tell_some(rt, desk, told, gate, number, some, first) };
     let mut back = ||
-        requires { IsSync R.row × IsSync G.row × (1 ≤ more) × (number + some + more ≤ MAX_WORKERS)
-            × (desk.now.pieces ≤ length tiles.now.tiles) × AreToldOf tiles.now entries.now.series
-            × IsToTell desk.now entries.now more other.now }
-        ensures { TeamHasTold desk.entry.now tiles.entry.now entries.entry.now other.entry.now.pass.weight
-            other.exit.now }
-    { tell_some(rt, desk, tiles, entries, gate, number + some, more, other) };
+        requires { IsSync R.row × IsSync G.row × (1 ≤ more) × (number + some + more ≤ told.now.workers)
+            × (told.now.workers ≤ MAX_WORKERS) × (desk.now.pieces ≤ length told.now.tiles.now.tiles)
+            × AreToldOf told.now.tiles.now told.now.entries.now.series
+            × IsToTell desk.now told.now.entries.now more other.now }
+        ensures { TeamHasTold desk.entry.now told.entry.now.tiles.now told.entry.now.entries.now
+            other.entry.now.pass.weight other.exit.now }
+    { tell_some(rt, desk, told, gate, number + some, more, other) };
     join_mut(rt, &mut front, &mut back);
-}
-
-/// Has so many of all workers, from one on, offer their shares of the pairs that are likely near, side by side. It
-/// takes no memory.
-#[cycle(ahead)]
-fn tell_ahead<R: Threads + Sync>(
-    rt: &R,
-    tiles: &TileParts,
-    seeds: &Seeds,
-    entries: &Entries,
-    number: u32,
-    count: u32,
-    workers: u32,
-)
-    requires some { 1 ≤ count }
-    requires numbers { number + count ≤ workers }
-    requires tiles { AreToldOf tiles.now entries.now.series }
-{
-    if count == 1 {
-        let mut teller = Teller::new(entries, tiles.window());
-        tiles.offer_seeds::<Telling>(seeds, number, workers, &mut teller);
-        return;
-    }
-    let half = count / 2;
-    tell_both_ahead(
-        rt,
-        tiles,
-        seeds,
-        entries,
-        number,
-        half,
-        count - half,
-        workers,
-    );
-}
-
-/// The same of two halves side by side.
-#[cycle(ahead)]
-fn tell_both_ahead<R: Threads + Sync>(
-    rt: &R,
-    tiles: &TileParts,
-    seeds: &Seeds,
-    entries: &Entries,
-    number: u32,
-    some: u32,
-    more: u32,
-    workers: u32,
-)
-    requires some { 1 ≤ some }
-    requires more { 1 ≤ more }
-    requires numbers { number + some + more ≤ workers }
-    requires tiles { AreToldOf tiles.now entries.now.series }
-{
-    let front = move ||
-        requires { IsSync R.row × (1 ≤ some) × (number + some ≤ workers) × AreToldOf tiles.now entries.now.series }
-    { tell_ahead(rt, tiles, seeds, entries, number, some, workers) };
-    let back = move ||
-        requires { IsSync R.row × (1 ≤ more) × (number + some + more ≤ workers)
-            × AreToldOf tiles.now entries.now.series }
-    { tell_ahead(rt, tiles, seeds, entries, number + some, more, workers) };
-    let _both = join(rt, front, back);
 }
 
 /// Has so many workers tell each other of the pairs of all tiles, and before these of such as are likely near. What is
@@ -240,11 +226,16 @@ pub(crate) fn tell_all<R: Threads + Sync, G: Gate>(
     ensures hold { IfOk result (λ hold. IsHold entries.now hold) }
     ensures whole { IfOk result (λ hold. IsWholeTold entries.now.series hold.told) }
 {
+    let told = ToldTiles {
+        tiles,
+        seeds,
+        entries,
+        workers,
+    };
     let (desk, pass) = Desk::new(alloc, tiles.pieces())?;
-    tell_ahead(rt, tiles, seeds, entries, 0, workers, workers);
     let hold = entries.hold();
     let mut first = Teammate { pass, hold };
-    tell_some(rt, &desk, tiles, entries, gate, 0, workers, &mut first);
+    tell_some(rt, &desk, &told, gate, 0, workers, &mut first);
     let Teammate { pass, hold } = first;
     // the passes are one again, and show that each piece was drawn
     let _next = desk.close(pass);

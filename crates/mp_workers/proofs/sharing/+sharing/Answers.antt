@@ -2,17 +2,8 @@ use Rattle.std.proofs.Common.{subst, sym, arith}
 use Rattle.std.specs.Prelude.{All}
 use Rattle.std.proofs.lemmas.List.Elements.{All-drop, All-take}
 use Rattle.mp_workers.specs.Sharing.{IsReadyToShare}
-use Rattle.mp_workers.proofs.Shared.{both_have_shared, one_has_shared, some_share}
+use Rattle.mp_workers.proofs.Shared.{both_have_shared, some_share}
 use Rattle.mp_workers.proofs.sharing.+sharing.Goals as goal
-
-pub share_team-returns-then-team-eq1 : goal.share_team-returns-then-team-eq1
-share_team-returns-then-team-eq1 g t c =
-    let part_laws = g.met.P.Part g.world.𝓛 g.world.𝓜 g.world.𝓡 ((λ s x. x), (λ x. x), (λ x. x), λ x. x) in
-    let work = g.S.Sharing in
-    let part = g.P.Part in
-    one_has_shared part.is_value part.unit_of part.merged part_laws.laws (work.size_of c.args.work.now) c.args.desk.now
-    (work.value_of c.args.work.now) (work.whole c.args.work.now) c.args.team.now c.share.new.self c.if-team-eq1.true
-    c.share.ensures.done c.share.ensures.is_value c.share.ensures.found
 
 pub share_team-returns : goal.share_team-returns
 share_team-returns g t c =

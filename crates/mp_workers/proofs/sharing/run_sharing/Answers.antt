@@ -1,4 +1,4 @@
-use Rattle.std.proofs.Common.{◌≡◌, ◌<◌, ◌≤◌, length, ap, ◌∙◌, arith}
+use Rattle.std.proofs.Common.{ap, ◌∙◌, arith}
 use Rattle.std.specs.Prelude.{replicate}
 use Rattle.mp_workers.proofs.PartLaws.{all_alike, as_many}
 use Rattle.mp_workers.proofs.sharing.run_sharing.Goals as goal

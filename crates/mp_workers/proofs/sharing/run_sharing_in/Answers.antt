@@ -1,5 +1,5 @@
 use Rattle.std.proofs.Common.{◌≡◌, length, sym, ap, ◌∙◌, arith, subst}
-use Rattle.std.specs.Prelude.{All, replicate, slice_get, sum_by}
+use Rattle.std.specs.Prelude.{All, slice_get, sum_by}
 use Rattle.std.proofs.lemmas.List.Elements.{All-weaker}
 use Rattle.mp_partial.specs.Values.{merged_below}
 use Rattle.mp_workers.specs.Desks.{times}

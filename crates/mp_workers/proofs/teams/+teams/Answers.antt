@@ -2,7 +2,7 @@ use Rattle.std.proofs.Common.{subst, sym, ◌∙◌, arith}
 use Rattle.std.specs.Prelude.{All}
 use Rattle.std.proofs.lemmas.List.Elements.{All-drop, All-take}
 use Rattle.mp_workers.specs.Teams.{HaveRun, IsReady, found_first, with_pieces}
-use Rattle.mp_workers.proofs.Teaming.{one_has_run, both_have_run, first_found, part_ready}
+use Rattle.mp_workers.proofs.Teaming.{both_have_run, first_found, part_ready}
 use Rattle.mp_workers.proofs.teams.+teams.Goals as goal
 
 pub run_both-returns : goal.run_both-returns
@@ -22,17 +22,8 @@ run_both-returns g t c =
     c.run_halves.new.high) c.requires.same c.run_halves.ensures.high)
     c.merge_first.ensures
 
-pub run_team-returns-then-team-eq1 : goal.run_team-returns-then-team-eq1
-run_team-returns-then-team-eq1 g t c =
-    let kernel = g.K.Kernel in
-    let part = g.P.Part in
-    let size = kernel.size_of c.args.kernel.now in
-    one_has_run c.args.desk.now size
-    (with_pieces part.merged (part.unit_of size) (kernel.value_of c.args.kernel.now)) c.args.team.now
-    c.index-team-0.result c.work.new.self c.if-team-eq1.true c.work.ensures.done c.work.ensures.found
-
-pub run_team-run_both-requires-clause-ready : goal.run_team-run_both-requires-clause-ready
-run_team-run_both-requires-clause-ready g t c κs within =
+pub run_some-run_both-requires-clause-ready : goal.run_some-run_both-requires-clause-ready
+run_some-run_both-requires-clause-ready g t c κs within =
     let size = g.K.Kernel.size_of c.args.kernel.now in
     let start = found_first c.args.team.now in
     let ready = IsReady c.args.desk.now size start in
@@ -40,8 +31,8 @@ run_team-run_both-requires-clause-ready g t c κs within =
     (subst (All ready) (sym c.split_at_mut-low.ensures.front) (All-take ready _ _ c.requires.ready.each))
     (omega (arith, c.split_at_mut-low.ensures.front_len, c.requires.some))
 
-pub run_team-run_both-requires-clause-others_ready : goal.run_team-run_both-requires-clause-others_ready
-run_team-run_both-requires-clause-others_ready g t c κs within =
+pub run_some-run_both-requires-clause-others_ready : goal.run_some-run_both-requires-clause-others_ready
+run_some-run_both-requires-clause-others_ready g t c κs within =
     let size = g.K.Kernel.size_of c.args.kernel.now in
     let start = found_first c.args.team.now in
     let ready = IsReady c.args.desk.now size start in
@@ -49,8 +40,8 @@ run_team-run_both-requires-clause-others_ready g t c κs within =
     (subst (All ready) (sym c.split_at_mut-low.ensures.back) (All-drop ready _ _ c.requires.ready.each))
     (omega (arith, c.split_at_mut-low.ensures.back_len, c.requires.some))
 
-pub run_team-run_both-requires-clause-same : goal.run_team-run_both-requires-clause-same
-run_team-run_both-requires-clause-same g t c κs within =
+pub run_some-run_both-requires-clause-same : goal.run_some-run_both-requires-clause-same
+run_some-run_both-requires-clause-same g t c κs within =
     let desk = c.args.desk.now in
     let size = g.K.Kernel.size_of c.args.kernel.now in
     let start = found_first c.args.team.now in

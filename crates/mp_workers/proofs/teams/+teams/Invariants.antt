@@ -1,8 +1,8 @@
 use Rattle.std.proofs.Common.{◌+◌, ◌-◌, ◌*◌, length}
 use Rattle.mp_workers.proofs.teams.+teams.Given as goal
 
-abbrev pub decreases-run_team : goal.decreases-run_team
-decreases-run_team g l = 4 * length l.team.now
+abbrev pub decreases-run_some : goal.decreases-run_some
+decreases-run_some g l = 4 * length l.team.now
 
 abbrev pub decreases-run_both : goal.decreases-run_both
 decreases-run_both g l = 4 * (length l.low.now + length l.high.now) - 1
