@@ -1,12 +1,12 @@
 -- Pairs that are offered ahead of all others.
-use Rattle.std.proofs.Common.{◌≡◌, ℕ, ◌+◌, ◌<◌, ◌≤◌, Bool, arith}
+use Rattle.std.proofs.Common.{◌≡◌, ℕ, ◌+◌, ◌<◌, ◌≤◌, Bool, false, refl, arith}
 use Rattle.std.specs.Prelude.{◌||◌}
 use Rattle.std.proofs.lemmas.Bool.Decides.{nat_tests}
 use Rattle.mp_defs.specs.Series.{Series}
 use Rattle.mp_sums.specs.declared.distances.Grid.{Grid}
 use Rattle.mp_scans.specs.Offering.{in_block, IsOffering}
 use Rattle.mp_scans.specs.Windows.{row_windows, column_windows, FitIn, AreScannedIn}
-use Rattle.mp_skips.specs.Seeds.{IsAhead}
+use Rattle.mp_skips.specs.Seeds.{AreSomeScanned, IsAhead}
 use Rattle.mp_skips.proofs.PairLemmas.{scanned_next}
 
 module _ {Into : Type 0} {least : ℕ} {fits : ℕ → Series → Series → Into → Type 0} {may : Into → ℕ → ℕ → ℕ → Type 0}
@@ -19,6 +19,16 @@ module _ {Into : Type 0} {least : ℕ} {fits : ℕ → Series → Series → Int
   ahead_of p q old new there s among = record {
     all = λ after t. scanned_next laws grid p q q old new after there s t among;
   }
+
+  -- nothing is offered
+  pub none_scanned : (into : Into) → FitIn fits grid into → AreSomeScanned is_scanned grid into into
+  none_scanned into there = (λ i j. false, laws.none grid.m _ _ (λ i j. false) into there (λ i j. refl))
+
+  -- some pairs, and then others
+  pub some_then : (old mid new : Into) → AreSomeScanned is_scanned grid old mid
+      → AreSomeScanned is_scanned grid mid new → AreSomeScanned is_scanned grid old new
+  some_then old mid new h k =
+      (λ i j. h.0 i j || k.0 i j, laws.both grid.m _ _ h.0 k.0 old mid new h.1 k.1)
 
 module _ {Into : Type 0} (is_scanned : ℕ → Series → Series → (ℕ → ℕ → Bool) → Into → Into → Type 0) (grid : Grid)
     (pairs : ℕ → ℕ → Bool) where

@@ -9,3 +9,9 @@ pub record IsAhead {Into : Type 0} (is_scanned : ℕ → Series → Series → (
     → Type 0) (grid : Grid) (pairs : ℕ → ℕ → Bool) (old new : Into) : Type 0 where
   pub all : (after : Into) → AreScannedIn is_scanned grid pairs new after
       → AreScannedIn is_scanned grid pairs old after
+
+-- the new state has what the old one had, and what some pairs give
+abbrev pub AreSomeScanned : {Into : Type 0}
+    → (ℕ → Series → Series → (ℕ → ℕ → Bool) → Into → Into → Type 0) → Grid
+    → Into → Into → Type 0
+AreSomeScanned is_scanned grid old new = (pairs : ℕ → ℕ → Bool) × AreScannedIn is_scanned grid pairs old new

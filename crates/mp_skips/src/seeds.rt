@@ -1,10 +1,10 @@
 //! Pairs of windows that are likely near. Where they are compared before all others, more of these can be passed over.
 
-ghost use Rattle.std.specs.Prelude.{◌≡◌, ℕ, ◌+◌, ◌-◌, ◌<◌, ◌≤◌};
+ghost use Rattle.std.specs.Prelude.{◌≡◌, ◌+◌, ◌-◌, ◌<◌, ◌≤◌};
 ghost use Rattle.mp_scans.specs.Offering.{in_block};
 ghost use Rattle.mp_scans.specs.Windows.{row_windows, column_windows, FitIn, AreScannedIn};
 ghost use Rattle.mp_skips.specs.Levels.{squares_in};
-ghost use Rattle.mp_skips.specs.Seeds.{IsAhead};
+ghost use Rattle.mp_skips.specs.Seeds.{AreSomeScanned, IsAhead};
 
 use crate::mates::{Search, Sought};
 use crate::pairs::{Stretch, offer_pair};
@@ -149,6 +149,7 @@ fn scan_behind<O: Offers>(
     ensures ahead { IsAhead O.is_scanned coarse.now.plan.grid
         (in_block first (column_windows coarse.now.plan.grid) 0 (row_windows coarse.now.plan.grid)) into.old into.new }
     ensures fits { FitIn O.fits coarse.now.plan.grid into.new }
+    ensures some { AreSomeScanned O.is_scanned coarse.now.plan.grid into.old into.new }
 {
     let compared = trail.follow(stretch);
     if compared == stretch.count {
@@ -180,6 +181,7 @@ fn scan_around<O: Offers>(
     ensures ahead { IsAhead O.is_scanned coarse.now.plan.grid
         (in_block first (column_windows coarse.now.plan.grid) 0 (row_windows coarse.now.plan.grid)) into.old into.new }
     ensures fits { FitIn O.fits coarse.now.plan.grid into.new }
+    ensures some { AreSomeScanned O.is_scanned coarse.now.plan.grid into.old into.new }
 {
     let step = 8 * coarse.rows.units.eights;
     let around = AROUND.min(16 * step);
@@ -249,6 +251,7 @@ fn scan_seed<O: Offers>(
     ensures ahead { IsAhead O.is_scanned coarse.now.plan.grid
         (in_block first (column_windows coarse.now.plan.grid) 0 (row_windows coarse.now.plan.grid)) into.old into.new }
     ensures fits { FitIn O.fits coarse.now.plan.grid into.new }
+    ensures some { AreSomeScanned O.is_scanned coarse.now.plan.grid into.old into.new }
 {
     if row >= count_rows(coarse) {
         return;
@@ -286,6 +289,7 @@ pub fn scan_seeds<O: Offers>(
     ensures ahead { IsAhead O.is_scanned coarse.now.plan.grid
         (in_block first (column_windows coarse.now.plan.grid) 0 (row_windows coarse.now.plan.grid)) into.old into.new }
     ensures fits { FitIn O.fits coarse.now.plan.grid into.new }
+    ensures some { AreSomeScanned O.is_scanned coarse.now.plan.grid into.old into.new }
 {
     let step = 8 * coarse.rows.units.eights;
     let count = seeds.search.mates.len();

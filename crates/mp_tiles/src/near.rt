@@ -97,7 +97,7 @@ pub struct NearTiles<'a> {
 }
 
 impl<'a> Model for NearTiles<'a> {
-    ghost use Rattle.mp_tiles.specs.Pieces.{OwnTiling, IsOwnTiling};
+    ghost use Rattle.mp_tiles.specs.Pieces.{OwnTiling};
     ghost use Rattle.mp_tiles.specs.Near.{IsNear, bands_of};
 
     ghost Value = { OwnTiling };

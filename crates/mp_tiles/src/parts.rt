@@ -1,6 +1,6 @@
 //! Parts of the rows of tiles as the pieces of a kernel.
 
-ghost use Rattle.std.specs.Prelude.{◌≡◌, ℕ, ◌+◌, ◌*◌, ◌^◌, ◌<◌, ◌≤◌, [], ◌∷◌, length, slice_index_or};
+ghost use Rattle.std.specs.Prelude.{◌≡◌, ℕ, ◌+◌, ◌*◌, ◌^◌, ◌<◌, ◌≤◌, [], ◌∷◌, length, slice_index_or, Bool};
 ghost use Rattle.mp_partial.specs.Values.{HasColumns, merged_columns};
 ghost use Rattle.mp_partial.specs.declared.limits.TheConstants.{MAX_PIECES};
 ghost use Rattle.mp_defs.specs.Series.{series_of};
@@ -152,7 +152,9 @@ impl<'a> TileParts<'a> {
         requires share { share < shares }
         requires least { O.least ≤ 1 }
         requires fits { O.fits self.now.m (series_of self.now.samples) (series_of self.now.samples) into.old }
-        ensures { O.fits self.now.m (series_of self.now.samples) (series_of self.now.samples) into.new }
+        ensures fits { O.fits self.now.m (series_of self.now.samples) (series_of self.now.samples) into.new }
+        ensures some { (pairs : ℕ → ℕ → Bool) × O.is_scanned self.now.m (series_of self.now.samples)
+            (series_of self.now.samples) pairs into.old into.new }
     {
         self.tiles.offer_seeds::<O>(seeds, share, shares, into);
     }

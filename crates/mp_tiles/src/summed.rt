@@ -1,6 +1,6 @@
 //! The tiles of a series as the pieces of a kernel that passes over blocks of pairs by coarse sums.
 
-ghost use Rattle.std.specs.Prelude.{◌≡◌, ◌+◌, ◌*◌, ◌<◌, ◌≤◌, [], ◌∷◌, All, length, slice_index_or, IfOk, IfSome};
+ghost use Rattle.std.specs.Prelude.{◌≡◌, ℕ, ◌+◌, ◌*◌, ◌<◌, ◌≤◌, [], ◌∷◌, All, length, slice_index_or, IfOk, IfSome, Bool};
 ghost use Rattle.mp_series.specs.declared.limits.TheConstants.{MAX_SAMPLES};
 ghost use Rattle.mp_defs.specs.Series.{series_of};
 ghost use Rattle.mp_defs.specs.Window.{excl as zone};
@@ -226,7 +226,9 @@ impl<'a> SummedTiles<'a> {
         requires share { share < shares }
         requires least { O.least ≤ 1 }
         requires fits { O.fits self.now.m (series_of self.now.samples) (series_of self.now.samples) into.old }
-        ensures { O.fits self.now.m (series_of self.now.samples) (series_of self.now.samples) into.new }
+        ensures fits { O.fits self.now.m (series_of self.now.samples) (series_of self.now.samples) into.new }
+        ensures some { (pairs : ℕ → ℕ → Bool) × O.is_scanned self.now.m (series_of self.now.samples)
+            (series_of self.now.samples) pairs into.old into.new }
     {
         let first = excl(self.coarse.plan.rounding.m) as usize + 1;
         scan_seeds::<O>(&self.coarse, seeds, share, shares, first, into);

@@ -5,10 +5,11 @@ pub mod Teaming
 pub mod Beginning
 pub mod Shared
 pub mod Closing
-pub mod Telling
+pub mod Falling
 pub mod Entering
 pub mod Knowing
 pub mod TileSharing
+pub mod HoldTelling
 pub mod TileTelling
 pub mod SlotTelling
 pub mod WholeTelling

@@ -7,6 +7,7 @@ use Rattle.std.proofs.lemmas.Bool.{cases_lt}
 use Rattle.std.proofs.lemmas.Bool.Decides.{nat_tests}
 use Rattle.std.proofs.Math.ListN.{get_or-eq_default}
 use Rattle.std.proofs.lemmas.List.Elements.{All-head, All-tail}
+use Rattle.std.proofs.lemmas.List.FromFn.{get_or-range_with_len, length-range_with_len}
 use Rattle.mp_nums.specs.declared.nearest.Near.{Near}
 use Rattle.mp_nums.specs.Near.{comes_before, nearer_of}
 use Rattle.mp_cuts.specs.declared.cuts.Tile.{Tile}
@@ -21,20 +22,13 @@ use Rattle.mp_defs.specs.NearestLaws.{entries_are_nearest, zone_is_mutual}
 use Rattle.mp_defs.specs.ColumnLaws.{columns_have_places}
 use Rattle.mp_defs.specs.Profile.{column, windows_of, left_entry, right_entry}
 use Rattle.mp_partial.specs.Values.{Column, Value, empty_column, empty_columns, merged_column, merged_columns}
-use Rattle.mp_partial.specs.Values.{merged_below, merged_over}
-use Rattle.mp_partial.specs.MergeLaws.{columns_merge}
-use Rattle.mp_partial.specs.TogetherLaws.{merges_by_pieces}
-use Rattle.mp_partial.specs.Values.{HasColumns}
+use Rattle.mp_partial.specs.Values.{merged_over}
 use Rattle.mp_tiles.specs.Among.{either_way}
-use Rattle.mp_tiles.specs.Pieces.{OwnTiling, own_size, own_together, own_value, own_whole, sides_have_columns}
-use Rattle.mp_workers.specs.Desks.{DeskId, HasEachBelow, pieces_among}
-use Rattle.mp_workers.specs.declared.told_tiles.Teammate.{Teammate}
-use Rattle.mp_workers.specs.Entries.{EntriesAt, EntriesState, Told, count_of, left_of, right_of, whole_of}
+use Rattle.mp_tiles.specs.Pieces.{OwnTiling, own_size, own_together, own_value, own_whole}
+use Rattle.mp_workers.specs.Entries.{EntriesState, Told, count_of, left_of, right_of, whole_of}
 use Rattle.mp_workers.specs.SharedTiles.{series_in}
-use Rattle.mp_workers.specs.Teams.{HasPast}
 use Rattle.mp_workers.specs.Tellers.{ComesBefore, IsKnown, IsTold, IsWholeTold}
-use Rattle.mp_workers.specs.ToldTiles.{TeamHasTold, IsPieceTold, pairs_in}
-use Rattle.mp_workers.proofs.Closing.{each_drawn}
+use Rattle.mp_workers.specs.ToldTiles.{IsPieceTold, pairs_in}
 use Rattle.mp_workers.proofs.Entering.{left_at, right_at}
 
 -- ---- what stands in merged columns stands in one of them
@@ -201,41 +195,29 @@ right_told own told k p near is here whole =
 
 -- ---- all of the profile
 
--- what the pieces that were drawn have together is the profile
-pieces_make_it : (own : OwnTiling) (desk : DeskId) (drawn : List ℕ) (next : ℕ) → desk.pieces ≡ length own.tiles
-    → own_together own ≡ own_whole own → HasEachBelow next drawn
-    → HasPast desk.pieces drawn
-    → merged_over merged_columns (empty_columns 2 (own_size own)) (own_value own) (pieces_among desk.pieces drawn)
-    ≡ own_whole own
-pieces_make_it own desk drawn next all together each past =
-    (merges_by_pieces (HasColumns 2) (empty_columns 2) merged_columns (columns_merge 2)).same (own_size own)
-    (own_value own) (pieces_among desk.pieces drawn) (range_with_len 0 desk.pieces)
-    (λ k there. sides_have_columns (pairs_in own k) own.m own.samples)
-    (each_drawn desk.pieces next drawn each past)
-    ∙ ap (merged_below merged_columns (empty_columns 2 (own_size own)) (own_value own)) all ∙ together
-
-pub whole_told : (own : OwnTiling) (desk : DeskId) (entries : EntriesAt) (weight : ℕ) (teammate : Teammate)
-    (next : ℕ) → TeamHasTold desk own entries weight teammate → entries.series ≡ series_in own
-    → desk.pieces ≡ length own.tiles → own_together own ≡ own_whole own → HasEachBelow next teammate.pass.drawn
-    → IsWholeTold entries.series teammate.hold.told
-whole_told own desk entries weight teammate next h of all together each = λ place near e.
+pub whole_told : (own : OwnTiling) (entries : EntriesState) (told : Told) → entries ≡ series_in own
+    → own_together own ≡ own_whole own → ((piece : ℕ) → piece < length own.tiles → IsPieceTold own told piece)
+    → IsWholeTold entries told
+whole_told own entries told of together each = λ place near e.
     let s = series_in own in
-    let told = teammate.hold.told in
-    let drawn = teammate.pass.drawn in
-    let pieces = pieces_among desk.pieces drawn in
-    let made = pieces_make_it own desk drawn next all together each h.past_pieces in
+    let pieces = range_with_len 0 (length own.tiles) in
+    let all : All (IsPieceTold own told) pieces =
+    λ k d lt. (let below : k < length own.tiles = omega (arith, lt, length-range_with_len 0 (length own.tiles)) in
+    let same : get_or pieces k d ≡ k =
+    omega (arith, get_or-range_with_len 0 (length own.tiles) k d below) in
+    subst (IsPieceTold own told) (sym same) (each k below)) in
     let stands : get_or (whole_of s) place None ≡ Some near =
     subst (λ (t : EntriesState). get_or (whole_of t) place None ≡ Some near) of e in
     elim (cases_lt place (count_of s)) [
       | inl lt ↦ (let here : get_or (left_of s) place None ≡ Some near = sym (left_at s place lt) ∙ stands in
-          from_pieces own 0 place near (IsTold told place near) (IsPieceTold own told) pieces h.told
+          from_pieces own 0 place near (IsTold told place near) (IsPieceTold own told) pieces all
           (λ k is there. left_told own told k place near is there here)
-          (ap (λ v. slot_in v 0 place) made ∙ here))
+          (ap (λ v. slot_in v 0 place) together ∙ here))
       | inr le ↦ (let p = place - count_of s in
           let at : count_of s + p ≡ place = omega (arith, le) in
           let here : get_or (right_of s) p None ≡ Some near =
           sym (right_at s p) ∙ subst (λ n. get_or (whole_of s) n None ≡ Some near) (sym at) stands in
-          from_pieces own 1 p near (IsTold told place near) (IsPieceTold own told) pieces h.told
+          from_pieces own 1 p near (IsTold told place near) (IsPieceTold own told) pieces all
           (λ k is there. subst (λ n. IsTold told n near) at (right_told own told k p near is there here))
-          (ap (λ v. slot_in v 1 p) made ∙ here))
+          (ap (λ v. slot_in v 1 p) together ∙ here))
     ]

@@ -4,6 +4,7 @@ pub mod Teams
 pub mod Sharing
 pub mod SharingLaws
 pub mod Entries
+pub mod Telling
 pub mod Tellers
 pub mod TellerLaws
 pub mod EntryLaws

@@ -59,8 +59,8 @@ still_fits m a b pairs old new h s =
 
 -- pairs that give nothing
 none_told : (m : ℕ) (a b : Series) (pairs : ℕ → ℕ → Bool) (teller : TellerState)
-    → ((i j d : ℕ) → i < windows_of m a → j < windows_of m b → pairs i j ≡ true → distance m a i b j ≡ Some d
-    → keeps_row_told teller i j d × keeps_column_told teller j i d)
+    → ((i j d : ℕ) → i < windows_of m a → j < windows_of m b → pairs i j ≡ true
+    → distance m a i b j ≡ Some d → keeps_row_told teller i j d × keeps_column_told teller j i d)
     → AreTold m a b pairs teller teller
 none_told m a b pairs teller h = record {
   table = refl;
@@ -71,8 +71,8 @@ none_told m a b pairs teller h = record {
 }
 
 -- these pairs, and then those
-both_told : (m : ℕ) (a b : Series) (p q : ℕ → ℕ → Bool) (old mid new : TellerState) → AreTold m a b p old mid
-    → AreTold m a b q mid new → AreTold m a b (λ i j. p i j || q i j) old new
+both_told : (m : ℕ) (a b : Series) (p q : ℕ → ℕ → Bool) (old mid new : TellerState)
+    → AreTold m a b p old mid → AreTold m a b q mid new → AreTold m a b (λ i j. p i j || q i j) old new
 both_told m a b p q old mid new h k =
     let same : mid.series ≡ old.series = h.series in
     record {

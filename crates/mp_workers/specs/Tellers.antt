@@ -49,7 +49,8 @@ IsNoLater a b = nearer_of a b ≡ a
 abbrev pub IsTold : Told → ℕ → Near → Type 0
 IsTold [] place near = ⊥
 IsTold (fact ∷ rest) place near =
-    ((fact.0 ≡ place) × ((fact.1 ≤ no_word) × IsNoLater (slot_of_word fact.1) (Some near))) ⊎ IsTold rest place near
+    ((fact.0 ≡ place) × ((fact.1 ≤ no_word) × IsNoLater (slot_of_word fact.1) (Some near)))
+    ⊎ IsTold rest place near
 
 -- every window of the whole is told of
 abbrev pub IsWholeTold : EntriesState → Told → Type 0
@@ -93,10 +94,11 @@ pub record AreTold (m : ℕ) (a b : Series) (pairs : ℕ → ℕ → Bool) (old 
   pub table : new.table ≡ old.table
   pub series : new.series ≡ old.series
   pub more : (place : ℕ) (near : Near) → IsTold old.told place near → IsTold new.told place near
-  pub right : (i j d : ℕ) → i < windows_of m a → j < windows_of m b → pairs i j ≡ true → is_allowed m i j ≡ true
-      → distance m a i b j ≡ Some d → IsKnown new.told (whole_of old.series) (count_of old.series + i) j d
-  pub left : (i j d : ℕ) → i < windows_of m a → j < windows_of m b → pairs i j ≡ true → is_allowed m i j ≡ true
-      → distance m a i b j ≡ Some d → IsKnown new.told (whole_of old.series) j i d
+  pub right : (i j d : ℕ) → i < windows_of m a → j < windows_of m b → pairs i j ≡ true
+      → is_allowed m i j ≡ true → distance m a i b j ≡ Some d
+      → IsKnown new.told (whole_of old.series) (count_of old.series + i) j d
+  pub left : (i j d : ℕ) → i < windows_of m a → j < windows_of m b → pairs i j ≡ true
+      → is_allowed m i j ≡ true → distance m a i b j ≡ Some d → IsKnown new.told (whole_of old.series) j i d
 
 -- a column at a distance gives the row nothing
 abbrev pub keeps_row_told : TellerState → ℕ → ℕ → ℕ → Type 0

@@ -37,7 +37,7 @@ const PAIRS_FOR_A_WORKER: u64 = 262_144;
 const PARTS: u32 = 16;
 
 /// Distances below it fit a word, beside the start of a window.
-const MOST_TOLD: u64 = 70_368_744_177_663;
+pub const MOST_TOLD: u64 = 70_368_744_177_663;
 
 /// How many of the workers so many pairs of windows are worth, at least one. Where there are few pairs, another thread
 /// takes more time than it saves.

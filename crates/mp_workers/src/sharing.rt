@@ -1,6 +1,6 @@
 //! Workers that share what they find while they run the pieces of a kernel.
 
-ghost use Rattle.std.specs.Prelude.{◌≡◌, ℕ, ◌<◌, ◌≤◌, ◌++◌, List, All, length, IfOk};
+ghost use Rattle.std.specs.Prelude.{◌≡◌, ℕ, ◌<◌, ◌≤◌, List, All, length, IfOk};
 ghost use Rattle.std.specs.Thread.{IsSync, IsSend};
 ghost use Rattle.mp_partial.specs.Values.{Value, merged_below};
 ghost use Rattle.mp_workers.specs.Desks.{Drew, past};
@@ -123,8 +123,8 @@ fn share_one<P: Part, S: Sharing<Out = P>, G: Gate>(
     worker.share(desk, work, gate);
 }
 
-/// Has the workers of a team find their shares ahead of the pieces and then run pieces until none is left, side by side,
-/// each in a thread of its own. The first one then has the values of all pieces that they drew.
+/// Has the workers of a team find their shares ahead of the pieces and then run pieces until none is left, side by
+/// side, each in a thread of its own. The first one then has the values of all pieces that they drew.
 #[cycle(sharing)]
 fn share_team<R: Threads + Sync, P: Part, S: Sharing<Out = P>, G: Gate>(
     rt: &R,

@@ -125,11 +125,11 @@ impl<'t, 'a> Teller<'t, 'a> {
 }
 
 /// The way to offer windows of a series to each other that tells all workers of them.
-pub(crate) struct Telling<'t, 'a> {
+pub(crate) struct TellEachOther<'t, 'a> {
     teller: Teller<'t, 'a>,
 }
 
-impl<'t, 'a> Offers for Telling<'t, 'a> {
+impl<'t, 'a> Offers for TellEachOther<'t, 'a> {
     type Into = Teller<'t, 'a>;
 
     ghost least = { 1 };

@@ -1,7 +1,7 @@
 use Rattle.std.proofs.Common.{◌<◌, length, ap, arith}
 use Rattle.mp_workers.specs.Entries.{count_of, whole_of}
 use Rattle.mp_workers.proofs.Entering.{whole_count}
-use Rattle.mp_workers.proofs.Telling.{enters}
+use Rattle.mp_workers.proofs.Falling.{enters}
 use Rattle.mp_workers.proofs.entries.Entries.hold.Goals as goal
 
 pub load_new_seat-word-requires : goal.load_new_seat-word-requires

@@ -1,7 +1,7 @@
 use Rattle.std.proofs.Common.{ap, sym, ◌∙◌, arith}
 use Rattle.mp_workers.specs.Entries.{count_of}
 use Rattle.mp_workers.proofs.Entering.{whole_count}
-use Rattle.mp_workers.proofs.Telling.{joins}
+use Rattle.mp_workers.proofs.Falling.{joins}
 use Rattle.mp_workers.proofs.entries.Entries.join.Goals as goal
 
 pub join_seat-requires : goal.join_seat-requires

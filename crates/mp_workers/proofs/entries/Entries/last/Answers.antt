@@ -1,6 +1,6 @@
 use Rattle.std.proofs.Common.{◌<◌, length, sym, ap, subst, ◌∙◌, arith}
 use Rattle.mp_workers.specs.Entries.{EntriesState, whole_of}
-use Rattle.mp_workers.proofs.Telling.{allows_look}
+use Rattle.mp_workers.proofs.Falling.{allows_look}
 use Rattle.mp_workers.proofs.entries.Entries.last.Goals as goal
 
 pub load-requires : goal.load-requires

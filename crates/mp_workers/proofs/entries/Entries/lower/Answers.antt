@@ -1,7 +1,7 @@
 use Rattle.std.proofs.Common.{ap, ◌<◌, length, sym, subst, arith}
 use Rattle.std.specs.Prelude.{slice_index_or, None}
 use Rattle.mp_workers.specs.Entries.{EntriesState, IsWithin, whole_of}
-use Rattle.mp_workers.proofs.Telling.{allows_lower, enters}
+use Rattle.mp_workers.proofs.Falling.{allows_lower, enters}
 use Rattle.mp_workers.proofs.entries.Entries.lower.Goals as goal
 
 pub load_new_seat-found-requires : goal.load_new_seat-found-requires

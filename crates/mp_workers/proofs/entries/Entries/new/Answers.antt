@@ -1,6 +1,6 @@
 use Rattle.std.proofs.Common.{◌≡◌, ◌*◌, ℕ, length, sym, ap, subst, ◌∙◌, arith}
 use Rattle.std.specs.Prelude.{replicate}
-use Rattle.mp_workers.specs.Entries.{AreEntries, AreWithin, no_word, entries_of, whole_of}
+use Rattle.mp_workers.specs.Entries.{AreEntries, no_word, entries_of, whole_of}
 use Rattle.mp_workers.proofs.Entering.{opens, whole_count}
 use Rattle.mp_workers.proofs.entries.Entries.new.Goals as goal
 

@@ -1,7 +1,7 @@
 use Rattle.std.proofs.Common.{ap, sym, ◌∙◌, arith}
 use Rattle.mp_workers.specs.Entries.{count_of}
 use Rattle.mp_workers.proofs.Entering.{whole_count}
-use Rattle.mp_workers.proofs.Telling.{splits}
+use Rattle.mp_workers.proofs.Falling.{splits}
 use Rattle.mp_workers.proofs.entries.Entries.split.Goals as goal
 
 pub split_seat-requires : goal.split_seat-requires

@@ -1,7 +1,7 @@
 use Rattle.std.proofs.Common.{◌<◌, length, sym, ap, subst, arith}
 use Rattle.std.specs.Prelude.{slice_index_or, None}
 use Rattle.mp_workers.specs.Entries.{EntriesState, IsWithin, whole_of}
-use Rattle.mp_workers.proofs.Telling.{enters}
+use Rattle.mp_workers.proofs.Falling.{enters}
 use Rattle.mp_workers.proofs.tellers.Teller.find.Goals as goal
 
 pub load_new_seat-word-requires : goal.load_new_seat-word-requires

@@ -3,7 +3,7 @@ use Rattle.std.specs.Prelude.{slice_index_or, Some, None}
 use Rattle.mp_nums.specs.Near.{nearer_of}
 use Rattle.mp_nums.specs.NearLaws.{nearer_commutes}
 use Rattle.mp_workers.specs.Entries.{EntriesState, IsWithin, whole_of}
-use Rattle.mp_workers.proofs.Telling.{allows_look, allows_lower}
+use Rattle.mp_workers.proofs.Falling.{allows_look, allows_lower}
 use Rattle.mp_workers.proofs.tellers.Teller.tell.Goals as goal
 
 pub load-found-requires : goal.load-found-requires

@@ -6,7 +6,7 @@ use Rattle.mp_workers.specs.Entries.{EntriesState, count_of, whole_of}
 use Rattle.mp_workers.specs.Tellers.{IsNoLater}
 use Rattle.mp_workers.proofs.Entering.{whole_count}
 use Rattle.mp_workers.proofs.Knowing.{pair_left, pair_right}
-use Rattle.mp_workers.proofs.tellers.TellingOffers.offer.Goals as goal
+use Rattle.mp_workers.proofs.tellers.TellEachOtherOffers.offer.Goals as goal
 
 pub tell-requires-clause-place : goal.tell-requires-clause-place
 tell-requires-clause-place c =
