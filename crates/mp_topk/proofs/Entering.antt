@@ -1,5 +1,6 @@
 -- What the words of ranks keep, and what a worker has that takes from them.
-use Rattle.std.proofs.Common.{◌≡◌, ℕ, zero, suc, ◌+◌, ◌*◌, ◌/◌, ◌^◌, ◌<◌, ◌≤◌, inl, inr, min, List, [], ◌∷◌, length, get_or}
+use Rattle.std.proofs.Common.{◌≡◌, ℕ, zero, suc, ◌+◌, ◌*◌, ◌/◌, ◌^◌, ◌<◌, ◌≤◌, inl, inr, min, List, [], ◌∷◌, length}
+use Rattle.std.proofs.Common.{get_or}
 use Rattle.std.proofs.Common.{refl, sym, ap, subst, ◌∙◌, arith, get_or-set_same, get_or-set_other}
 use Rattle.std.specs.Prelude.{slice_index, slice_set, map, take, Option, Some, None, replicate}
 use Rattle.std.specs.Prelude.{Bool, false, ◌&&◌, ◌||◌, nat_le}
@@ -198,7 +199,7 @@ lesser_gives k list n word g h = elim (cases_lt n word) [
     other : (n word : ℕ) → word ≤ n → word ≡ min n word
     other n word le = omega (arith, le)
 
-lowered : (k : ℕ) (whole : List (List Near)) (words : List ℕ) (at word : ℕ) → GiveNone k whole words
+pub lowered : (k : ℕ) (whole : List (List Near)) (words : List ℕ) (at word : ℕ) → GiveNone k whole words
     → at < length words → GivesNone k (get_or whole (at / k) []) (slot_of_word word)
     → GiveNone k whole (set words at (min (slice_index words at) word))
 lowered k whole words at word h lt is = record {
@@ -348,7 +349,8 @@ piece_run k own old found new piece together lt is_old is_found more e =
     value_has_ranks k (either_way (has_pair 0 (get_or own.tiles n no_tile))) own.m own.samples in
     let is_whole = value_has_ranks k (is_allowed own.m) own.m own.samples in
     let within = subst (λ v. merged_ranks k (rank_value k own piece) v ≡ v) together
-    (piece_within (HasRanks k) no_ranks (merged_ranks k) (ranks_merge k) size (rank_value k own) (length own.tiles) piece
+    (piece_within (HasRanks k) no_ranks (merged_ranks k) (ranks_merge k) size (rank_value k own)
+    (length own.tiles) piece
     values lt) in
     one_more_run (HasRanks k) no_ranks (merged_ranks k) (ranks_merge k) size (ranks_whole k own) (map slots_of old)
     (map slots_of found) (rank_value k own piece) (map slots_of new) is_whole is_old is_found (values piece lt)

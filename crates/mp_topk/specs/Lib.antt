@@ -10,4 +10,6 @@ pub mod OfferLaws
 pub mod LastLaws
 pub mod Tiling
 pub mod TileLaws
+pub mod Words
+pub mod WordLaws
 pub mod Sharing

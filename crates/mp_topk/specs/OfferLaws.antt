@@ -5,6 +5,7 @@ use Rattle.std.proofs.Common.{arith, refl, sym, ap, ◌∙◌, inl, inr, subst, 
 use Rattle.std.proofs.lemmas.Bool.{cases_eq}
 use Rattle.std.proofs.lemmas.Bool.Decides.{nat_tests}
 use Rattle.std.proofs.lemmas.List.{get_or-set_same, get_or-set_other, length-set}
+use Rattle.std.proofs.lemmas.Bool.{or_cases}
 use Rattle.mp_nums.specs.declared.nearest.Near.{Near}
 use Rattle.mp_defs.specs.Series.{Series}
 use Rattle.mp_defs.specs.Distance.{distance}
@@ -132,10 +133,6 @@ pair_taken k i j d m a old few long order lt is = record {
 
 -- ---- tests
 
-either_true : (s t : Bool) → (s || t) ≡ true → (s ≡ true) ⊎ (t ≡ true)
-either_true true t e = inl refl
-either_true false t e = inr e
-
 either_none : (p : ℕ → ℕ → Bool) → ((i j : ℕ) → p i j ≡ false) → (i j : ℕ)
     → either_way p i j ≡ false
 either_none p none i j = ap (λ t. t || p j i) (none i j) ∙ none j i
@@ -259,7 +256,7 @@ ranks_limit k = record {
       let wide = same_windows m a b h.same in
       record {
         lists = taken_quiet k (either_way pairs) m a r.lists h.few h.places
-            (λ i j d lt lt' is dist. elim (either_true (pairs i j) (pairs j i) is) [
+            (λ i j d lt lt' is dist. elim (or_cases (pairs i j) (pairs j i) is) [
               | inl here ↦ (q i j d lt (omega (arith, lt', wide)) here (in_other m a b i j d h.same dist)).0
               | inr back ↦ (q j i d lt' (omega (arith, lt, wide)) back
                   (in_other m a b j i d h.same (symmetric m a j a i ∙ dist))).1

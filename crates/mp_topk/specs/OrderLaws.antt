@@ -90,7 +90,7 @@ from_by x y z ys false true f (inl e) = inr (inl e)
 from_by x y z ys false true f (inr h) = elim (f h) [ inl e ↦ inl e | inr k ↦ inr (inr k) ]
 from_by x y z ys false false f h = inr h
 
-stood_before : (x z : Near) (xs : List Near) → StandsIn z (put x xs) → (z ≡ x) ⊎ StandsIn z xs
+pub stood_before : (x z : Near) (xs : List Near) → StandsIn z (put x xs) → (z ≡ x) ⊎ StandsIn z xs
 unfolding StandsIn put
 stood_before x z [] h = h
 stood_before x z (y ∷ ys) h = from_by x y z ys (comes_before x y) (comes_before y x) (stood_before x z ys) h

@@ -20,8 +20,8 @@ use std::marker::Model;
 /// The series that ranks are of, and the length of a window.
 #[derive(Drop)]
 pub struct SeriesOfRanks<'a> {
-    samples: &'a [Sample],
-    m: u32,
+    pub(crate) samples: &'a [Sample],
+    pub(crate) m: u32,
 }
 
 impl<'a> Model for SeriesOfRanks<'a> {

@@ -17,6 +17,14 @@ use std::alloc::Global;
 /// In how many parts a tile with the most rows is cut for several workers, so that they stand at different rows.
 const PARTS: u32 = 16;
 
+/// In how many parts the rows of tiles are cut. One worker takes them whole.
+pub(crate) fn parts_for(workers: u32) -> u32
+    ensures least { 1 ≤ result }
+    ensures greatest { result ≤ PARTS }
+{
+    if workers == 1 { 1 } else { PARTS }
+}
+
 impl<'a, const K: usize> RankTiles<'a, K> {
     /// The coarse sums of the series, as the profile's tiles take them. None where they wouldn't pay.
     pub(crate) fn sums(&self, alloc: Global) -> Result<Option<Summed<'a>>, Memory>
@@ -43,20 +51,17 @@ impl<'a, const K: usize> RankTiles<'a, K> {
         OwnTiles::new(self.plan.grid.rows, self.plan.rounding.m, tile)
     }
 
-    /// In how many parts the rows of tiles are cut, and the entries of their series. One worker shares with nobody.
-    pub(crate) fn parts_and_entries(
+    /// The entries that several workers share. One worker shares with nobody.
+    pub(crate) fn entries_for(
         &self,
         alloc: Global,
         workers: u32,
-    ) -> Result<(u32, Option<RankEntries<'a, K>>), Memory>
-        ensures least { IfOk result (λ made. 1 ≤ made.0) }
-        ensures greatest { IfOk result (λ made. made.0 ≤ PARTS) }
-        ensures of_series { IfOk result (λ made. IfSome made.1 (λ e. e ≡ series_in self.now)) }
+    ) -> Result<Option<RankEntries<'a, K>>, Memory>
+        ensures { IfOk result (λ made. IfSome made (λ e. e ≡ series_in self.now)) }
     {
         if workers == 1 {
-            return Ok((1, None));
+            return Ok(None);
         }
-        let entries = RankEntries::new(alloc, self.samples(), self.window())?;
-        Ok((PARTS, Some(entries)))
+        Ok(Some(RankEntries::new(alloc, self.samples(), self.window())?))
     }
 }

@@ -236,3 +236,11 @@ fn ranks_in_coarse_sums(rt: HostRuntime) -> Result<(), Fail> {
     assert!(rt; samples.len() as u64 <= MAX_SAMPLES);
     expect_some(&rt, samples.as_slice(), 16)
 }
+
+/// Distances of samples that lie so far apart don't fit words.
+#[test]
+fn ranks_at_great_distances(rt: HostRuntime) -> Result<(), Fail> {
+    let samples = ties(rt.alloc(), 4_200, 2_000_000, 13)?;
+    assert!(rt; samples.len() as u64 <= MAX_SAMPLES);
+    expect_some(&rt, samples.as_slice(), 16)
+}

@@ -30,7 +30,8 @@ returns-clause-value g c =
       same = ap series_of (sym c.requires.same);
     } in
     let taken = (ranks_offer g.row.K).same grid.m (series_of grid.rows.now) (series_of grid.columns.now)
-    (in_block tile.first (tile.last + 1) tile.first_row (tile.last_row + 1)) (has_pair 0 tile) old c.scan_by_sums.new.into fits
+    (in_block tile.first (tile.last + 1) tile.first_row (tile.last_row + 1))
+    (has_pair 0 tile) old c.scan_by_sums.new.into fits
     c.scan_by_sums.ensures.scanned (λ i j _ _. block_is tile i j) in
     taken_value g.row.K (either_way (has_pair 0 tile)) grid.m (series_of grid.rows.now) old.lists
     c.scan_by_sums.new.into.lists places ranks taken.lists
