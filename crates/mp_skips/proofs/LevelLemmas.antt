@@ -1,8 +1,8 @@
 -- Sums of squared differences of rounded numbers, by parts and along a diagonal.
-use Rattle.std.proofs.Common.{◌≡◌, ℕ, ◌+◌, ◌-◌, ◌*◌, ◌^◌, ◌<◌, ◌≤◌, inl, inr, List, length, set, refl, sym, ap, ◌∙◌}
-use Rattle.std.proofs.Common.{arith, subst}
-use Rattle.std.proofs.Math.Nat.{add-mul}
-use Rattle.std.proofs.lemmas.Nat.{mul-le}
+use Rattle.std.proofs.Common.{◌≡◌, ℕ, ◌+◌, ◌-◌, ◌*◌, ◌%◌, ◌^◌, ◌<◌, ◌≤◌, inl, inr, List, length, set, refl, sym, ap}
+use Rattle.std.proofs.Common.{arith, subst, ◌∙◌}
+use Rattle.std.proofs.Math.Nat.{add-mul, mod-eq_of_lt, mul-add, mul_comm}
+use Rattle.std.proofs.lemmas.Nat.{mod-mul-add, mul-le}
 use Rattle.std.proofs.lemmas.Bool.{cases_lt, cases_eq}
 use Rattle.std.proofs.lemmas.List.{length-map, get_or-set_same, get_or-set_other}
 use Rattle.std.specs.Prelude.{Some}
@@ -111,6 +111,70 @@ narrow_small coarse i j lt =
           (narrow_gap coarse i j lt),
     )
 
+-- ---- differences that wrap
+
+wraps_back : (n g k : ℕ) → k + (g + g) ≡ n → g * g < n → ((g + k) * (g + k)) % n ≡ g * g
+wraps_back n g k all small =
+    let parts : (g + k) * (g + k) ≡ k * (k + (g + g)) + g * g =
+    omega (
+      arith,
+      add-mul g k (g + k),
+      mul-add g g k,
+      mul-add k g k,
+      mul-add k k (g + g),
+      mul-add k g g,
+      mul_comm g k,
+    ) in
+    ap (λ x. x % n) (parts ∙ ap (λ x. k * x + g * g) all) ∙ mod-mul-add k n (g * g) small
+
+-- modulo n their squares are those of how far both numbers are apart, where these are small
+wrapped_square : (n most a b d : ℕ) → a ≤ most → b ≤ most → most + most < n → most * most < n
+    → d ≡ (a + (n - b)) % n → (d * d) % n ≡ gap a b * gap a b
+wrapped_square n most a b d le le' twice square is = elim (cases_lt a b) [
+  | inl less ↦
+      let g = b - a in
+      let k = n - (g + g) in
+      let h : a + (n - b) ≡ g + k = omega (arith, less, le', twice) in
+      let value : d ≡ g + k = is ∙ mod-eq_of_lt (omega (arith, less, le', twice)) ∙ h in
+      ap (λ x. (x * x) % n) value
+      ∙ wraps_back n g k (omega (arith, le', twice))
+      (omega (arith, mul-le g g most most (omega (arith, le')) (omega (arith, le')), square))
+      ∙ ap (λ x. x * x) (omega (arith, less))
+  | inr no_less ↦
+      let g = a - b in
+      let h : a + (n - b) ≡ 1 * n + g = omega (arith, no_less, le', twice) in
+      let value : d ≡ g = is ∙ ap (λ x. x % n) h ∙ mod-mul-add 1 n g (omega (arith, le, twice)) in
+      ap (λ x. (x * x) % n) value
+      ∙ mod-eq_of_lt (omega (arith, mul-le g g most most (omega (arith, le)) (omega (arith, le)), square))
+      ∙ ap (λ x. x * x) (omega (arith, no_less))
+]
+
+-- of numbers that aren't rounded these are the squares
+unrounded : (coarse : Coarse) (i j : ℕ) → coarse.rows.units.step.slack ≡ 0
+    → gap (number_in coarse.rows.levels.now i) (number_in coarse.columns.levels.now j)
+    * gap (number_in coarse.rows.levels.now i) (number_in coarse.columns.levels.now j) ≡ square_at coarse i j
+unrounded coarse i j exact =
+    let apart : gap (number_in coarse.rows.levels.now i) (number_in coarse.columns.levels.now j)
+    ≡ steps_apart coarse i j = omega (arith, exact) in
+    ap (λ n. n * n) apart
+
+pub wrapped_is : (coarse : Coarse) (i j d : ℕ) → coarse.rows.units.step.slack ≡ 0
+    → d ≡ (number_in coarse.rows.levels.now i + (18446744073709551616 - number_in coarse.columns.levels.now j))
+    % 18446744073709551616 → (d * d) % 18446744073709551616 ≡ square_at coarse i j
+wrapped_is coarse i j d exact is =
+    wrapped_square 18446744073709551616 (2 ^ 24) (number_in coarse.rows.levels.now i)
+    (number_in coarse.columns.levels.now j) d (omega (arith, coarse.rows.lists.small_levels i))
+    (omega (arith, coarse.columns.lists.small_levels j)) (omega arith) (omega arith) is ∙ unrounded coarse i j exact
+
+pub narrow_wrapped_is : (coarse : Coarse) (i j d : ℕ)
+    → coarse.rows.units.width < 8192 * coarse.rows.units.step.size → coarse.rows.units.step.slack ≡ 0
+    → d ≡ (number_in coarse.rows.levels.now i + (4294967296 - number_in coarse.columns.levels.now j)) % 4294967296
+    → (d * d) % 4294967296 ≡ square_at coarse i j
+narrow_wrapped_is coarse i j d narrow exact is =
+    wrapped_square 4294967296 8192 (number_in coarse.rows.levels.now i) (number_in coarse.columns.levels.now j) d
+    (omega (arith, narrow_row coarse i narrow)) (omega (arith, narrow_column coarse j narrow)) (omega arith)
+    (omega arith) is ∙ unrounded coarse i j exact
+
 pub squares_small : (coarse : Coarse) (n i j : ℕ) → squares_in coarse n i j ≤ n * 2 ^ 48
 squares_small coarse n i j =
     total_bound (λ t. square_at coarse (i + t) (j + t)) (2 ^ 48) n (λ t. square_small coarse (i + t) (j + t))
@@ -171,6 +235,15 @@ part_more coarse i j behind place count sum part le is e =
     ≡ along f (place + count - behind) (i + behind) (j + behind) =
     ap (λ k. along f k (i + behind) (j + behind)) n in
     omega (arith, is, e, there, all, squares_joined f (place - behind) count (i + behind) (j + behind))
+
+-- with the samples behind the last step it is the whole sum
+pub whole_more : (coarse : Coarse) (i j behind place sum part : ℕ) → behind ≤ place → place ≤ coarse.plan.grid.m
+    → sum ≡ squares_in coarse (place - behind) (i + behind) (j + behind)
+    → part ≡ squares_in coarse (coarse.plan.grid.m - place) (i + place) (j + place)
+    → sum + part ≡ squares_in coarse (coarse.plan.grid.m - behind) (i + behind) (j + behind)
+whole_more coarse i j behind place sum part le within is e =
+    part_more coarse i j behind place (coarse.plan.grid.m - place) sum part le is e
+    ∙ ap (λ n. squares_in coarse n (i + behind) (j + behind)) (omega (arith, within))
 
 -- some of the squares tell that all are so much
 pub part_tells : (coarse : Coarse) (i j n m sum most : ℕ) → n ≤ m → sum ≡ squares_in coarse n i j → most ≤ sum

@@ -16,7 +16,8 @@ const STEP: usize = 32;
 const NARROW: u32 = 8_192;
 
 impl<'a> Coarse<'a> {
-    /// The square of how far a sample of the rows and one of the columns are apart at least.
+    /// The square of how far a sample of the rows and one of the columns are apart at least. Where nothing is rounded
+    /// it is that of their difference, whichever of them is the greater one.
     #[inline]
     fn square(&self, row: usize, column: usize) -> u64
         requires row { row < length self.now.rows.levels.now }
@@ -24,9 +25,15 @@ impl<'a> Coarse<'a> {
         ensures square { result ≡ square_at self.now row column }
         ensures small { result ≤ 2 ^ 48 }
     {
-        let gap = self.rows.levels[row].abs_diff(self.columns.levels[column]);
-        let beyond = u64::from(gap.saturating_sub(self.rows.units.step.slack));
-        beyond * beyond
+        let (one, other) = (self.rows.levels[row], self.columns.levels[column]);
+        let slack = self.rows.units.step.slack;
+        if slack == 0 {
+            let gap = u64::from(one).wrapping_sub(u64::from(other));
+            gap.wrapping_mul(gap)
+        } else {
+            let beyond = u64::from(one.abs_diff(other).saturating_sub(slack));
+            beyond * beyond
+        }
     }
 
     /// The sum of these squares of some successive samples.
@@ -62,9 +69,15 @@ impl<'a> Coarse<'a> {
         ensures square { result ≡ square_at self.now row column }
         ensures small { result ≤ 2 ^ 26 }
     {
-        let gap = self.rows.levels[row].abs_diff(self.columns.levels[column]);
-        let beyond = gap.saturating_sub(self.rows.units.step.slack);
-        beyond * beyond
+        let (one, other) = (self.rows.levels[row], self.columns.levels[column]);
+        let slack = self.rows.units.step.slack;
+        if slack == 0 {
+            let gap = one.wrapping_sub(other);
+            gap.wrapping_mul(gap)
+        } else {
+            let beyond = one.abs_diff(other).saturating_sub(slack);
+            beyond * beyond
+        }
     }
 
     /// The sum of these squares of no more samples than are compared at once.
@@ -119,15 +132,15 @@ impl<'a> Coarse<'a> {
     {
         let mut sum = 0;
         let mut place = behind;
-        while place < self.plan.grid.m {
-            let count = (self.plan.grid.m - place).min(STEP);
-            sum += self.part_squares(row + place, column + place, count);
-            place += count;
+        while place + STEP <= self.plan.grid.m {
+            sum += self.part_squares(row + place, column + place, STEP);
+            place += STEP;
             if sum >= most {
                 return None;
             }
         }
-        Some(sum)
+        sum += self.part_squares(row + place, column + place, self.plan.grid.m - place);
+        if sum >= most { None } else { Some(sum) }
     }
 
     /// The sum of a row and a column, from that behind their first `behind` samples.
