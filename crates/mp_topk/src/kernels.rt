@@ -4,7 +4,7 @@ ghost use Rattle.std.specs.Prelude.{◌≡◌, ◌≤◌, length, map};
 ghost use Rattle.mp_series.specs.declared.limits.TheConstants.{MAX_SAMPLES, MAX_WINDOW, MIN_WINDOW};
 ghost use Rattle.mp_defs.specs.Series.{series_of};
 ghost use Rattle.mp_results.specs.Ranks.{ranks_of};
-ghost use Rattle.mp_topk.specs.Ranking.{merged_ranks, slots_of};
+ghost use Rattle.mp_topk.specs.Ranking.{slots_of};
 
 use crate::compact_ranks::CompactRanks;
 use crate::near::NearRanks;
@@ -78,22 +78,6 @@ impl<'a, const K: usize> RankTiles<'a, K> {
         ensures least { 1 ≤ result }
     {
         self.plan.rounding.m
-    }
-
-    /// The tiles of the same windows of at most `tile` diagonals. It takes no memory.
-    pub(crate) fn wide(&self, tile: u32) -> RankTiles<'a, K>
-        requires least { 1 ≤ tile }
-        requires greatest { tile ≤ MAX_TILE }
-        ensures samples { result.samples ≡ self.now.samples }
-        ensures m { result.m ≡ self.now.m }
-        ensures few { length result.tiles ≤ MAX_TILES }
-        ensures together { ranks_together K result
-            ≡ map slots_of (ranks_of K self.now.m (series_of self.now.samples)) }
-    {
-        RankTiles {
-            plan: self.plan,
-            cut: cut_own(self.size(), excl(self.plan.rounding.m), tile),
-        }
     }
 
     /// The tiles of the windows that start close together, outside the exclusion zone, in so many bands of rows. It

@@ -1,6 +1,6 @@
 //! How each of two windows of a series is offered to the other's ranks.
 
-ghost use Rattle.std.specs.Prelude.{◌≡◌, ℕ, ◌≤◌, length, map, slice_index_or, All, []};
+ghost use Rattle.std.specs.Prelude.{ℕ, ◌≤◌, map, slice_index_or, All, []};
 ghost use Rattle.mp_defs.specs.Least.{near_at};
 ghost use Rattle.mp_sums.specs.Limits.{IsBeyond};
 ghost use Rattle.mp_topk.specs.Ranking.{AreRanked, those_in};

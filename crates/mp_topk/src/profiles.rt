@@ -13,7 +13,6 @@ use crate::compact_ranks::CompactRanks;
 use crate::kernels::RankTiles;
 use crate::ranks::MAX_RANKS;
 use crate::shared_ranks::SharedRanks;
-use crate::summed::parts_for;
 use crate::told::lists_told;
 use mp_cuts::{MAX_TILE, MAX_TILES};
 use mp_nums::{Memory, NearList, Sample};
@@ -23,7 +22,7 @@ use mp_series::{MAX_SAMPLES, MAX_WINDOW, MIN_WINDOW};
 use mp_skips::Summed;
 use mp_tiles::{TileParts, summed_tile};
 use mp_workers::{
-    MOST_TOLD, find_by_workers, run_all, run_one_after_another, run_sharing, workers_for,
+    MOST_TOLD, find_by_workers, parts_for, run_all, run_one_after_another, run_sharing, workers_for,
 };
 use std::alloc::Global;
 use std::thread::Threads;

@@ -14,17 +14,6 @@ use mp_skips::Summed;
 use mp_tiles::{MAX_TILE, MAX_TILES, OwnTiles};
 use std::alloc::Global;
 
-/// In how many parts a tile with the most rows is cut for several workers, so that they stand at different rows.
-const PARTS: u32 = 16;
-
-/// In how many parts the rows of tiles are cut. One worker takes them whole.
-pub(crate) fn parts_for(workers: u32) -> u32
-    ensures least { 1 ≤ result }
-    ensures greatest { result ≤ PARTS }
-{
-    if workers == 1 { 1 } else { PARTS }
-}
-
 impl<'a, const K: usize> RankTiles<'a, K> {
     /// The coarse sums of the series, as the profile's tiles take them. None where they wouldn't pay.
     pub(crate) fn sums(&self, alloc: Global) -> Result<Option<Summed<'a>>, Memory>

@@ -34,7 +34,7 @@ const PAIRS_FOR_A_WORKER: u64 = 262_144;
 
 /// In how many parts a tile with the most rows is cut for several workers, so that they stand at different rows: what
 /// one finds while another compares the same rows comes too late for it.
-const PARTS: u32 = 16;
+pub const PARTS: u32 = 16;
 
 /// Distances below it fit a word, beside the start of a window.
 pub const MOST_TOLD: u64 = 70_368_744_177_663;
@@ -86,7 +86,7 @@ fn both_sides<R: Threads + Sync, G: Gate>(
 }
 
 /// In how many parts the rows of tiles are cut. One worker takes them whole.
-fn parts_for(workers: u32) -> u32
+pub fn parts_for(workers: u32) -> u32
     ensures least { 1 ≤ result }
     ensures greatest { result ≤ PARTS }
 {

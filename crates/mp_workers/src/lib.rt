@@ -24,7 +24,7 @@ mod workers;
 pub use aside::run_aside;
 pub use begins::Begin;
 pub use desks::Desk;
-pub use joins::{MOST_TOLD, ab_join, self_join, workers_for};
+pub use joins::{MOST_TOLD, PARTS, ab_join, parts_for, self_join, workers_for};
 pub use laws::desk_gives_each_piece;
 pub use passes::Pass;
 pub use seeks::find_by_workers;
