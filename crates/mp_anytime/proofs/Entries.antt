@@ -18,7 +18,7 @@ use Rattle.mp_defs.specs.ColumnLaws.{columns_have_places}
 use Rattle.mp_partial.specs.Profiled.{Profiled}
 use Rattle.mp_partial.specs.Values.{Column, merged_column}
 use Rattle.mp_anytime.specs.Scanning.{AreEach, AreEarlier, AreLater}
-use Rattle.mp_anytime.specs.Bounds.{both_sides, has_number, kept_sides, numbered, numbered_column, numbered_slots}
+use Rattle.mp_anytime.specs.Bounds.{both_sides, kept_sides, numbered, numbered_column, numbered_slots}
 
 -- ---- of a profile
 
@@ -85,27 +85,28 @@ each_merged P a b same h g =
 
 -- ---- of slots with numbers
 
-numbered_slot : (P : Near → Type 0) (s : Option Near) → IfSome s P → IfSome (numbered s) P
-numbered_slot P None h = tt
-numbered_slot P (Some near) h = pick (has_number near)
+numbered_slot : (fits : Near → Bool) (P : Near → Type 0) (s : Option Near) → IfSome s P → IfSome (numbered fits s) P
+numbered_slot fits P None h = tt
+numbered_slot fits P (Some near) h = pick (fits near)
   where
     pick : (t : Bool) → IfSome (if t then Some near else None) P
     pick true = h
     pick false = tt
 
-pub each_numbered : (P : ℕ → Near → Type 0) (a : Column) → AreEach P a → AreEach P (numbered_slots a)
-each_numbered P a h =
-    let long = length-map a numbered in
+pub each_numbered : (fits : Near → Bool) (P : ℕ → Near → Type 0) (a : Column) → AreEach P a
+    → AreEach P (numbered_slots fits a)
+each_numbered fits P a h =
+    let long = length-map a (numbered fits) in
     record {
       each = λ k lt.
-          subst (λ s. IfSome s (P k)) (sym (get_or-map numbered a k None))
-          (numbered_slot (P k) (get_or a k None) (h.each k (omega (arith, lt, long))));
+          subst (λ s. IfSome s (P k)) (sym (get_or-map (numbered fits) a k None))
+          (numbered_slot fits (P k) (get_or a k None) (h.each k (omega (arith, lt, long))));
     }
 
 -- a slot takes nothing of what it has itself
-again : (s y : Option Near) → nearer_of s (nearer_of (numbered s) y) ≡ nearer_of s y
-again None y = ap (nearer_of None) (nearer_with_none y).0
-again (Some near) y = by_test (has_number near)
+again : (fits : Near → Bool) (s y : Option Near) → nearer_of s (nearer_of (numbered fits s) y) ≡ nearer_of s y
+again fits None y = ap (nearer_of None) (nearer_with_none y).0
+again fits (Some near) y = by_test (fits near)
   where
     by_test : (t : Bool)
         → nearer_of (Some near) (nearer_of (if t then Some near else None) y) ≡ nearer_of (Some near) y
@@ -113,23 +114,26 @@ again (Some near) y = by_test (has_number near)
         ∙ ap (λ s. nearer_of s y) (nearer_repeats (Some near))
     by_test false = ap (nearer_of (Some near)) (nearer_with_none y).0
 
-pub merged_again : (a x : Column) → merged_column a (merged_column (numbered_slots a) x) ≡ merged_column a x
-merged_again [] x = refl
-merged_again (s ∷ ss) [] = refl
-merged_again (s ∷ ss) (y ∷ ys) = cc (again s y, merged_again ss ys)
+pub merged_again : (fits : Near → Bool) (a x : Column)
+    → merged_column a (merged_column (numbered_slots fits a) x) ≡ merged_column a x
+merged_again fits [] x = refl
+merged_again fits (s ∷ ss) [] = refl
+merged_again fits (s ∷ ss) (y ∷ ys) = cc (again fits s y, merged_again fits ss ys)
 
 -- ---- both sides of what is kept
 
-numbered_is : (n : ℕ) (xs : Column) → length xs ≡ n → numbered_column n xs ≡ numbered_slots xs
-numbered_is n xs long =
-    let count = columns_have_places.count (λ k. numbered (get_or xs k None)) n in
-    ext_get_or None (numbered_column n xs) (numbered_slots xs) (count ∙ sym (length-map xs numbered ∙ long))
-    (λ k lt. columns_have_places.at_place (λ q. numbered (get_or xs q None)) n k (omega (arith, lt, count))
-    ∙ sym (get_or-map numbered xs k None))
+numbered_is : (fits : Near → Bool) (n : ℕ) (xs : Column) → length xs ≡ n
+    → numbered_column fits n xs ≡ numbered_slots fits xs
+numbered_is fits n xs long =
+    let count = columns_have_places.count (λ k. numbered fits (get_or xs k None)) n in
+    ext_get_or None (numbered_column fits n xs) (numbered_slots fits xs)
+    (count ∙ sym (length-map xs (numbered fits) ∙ long))
+    (λ k lt. columns_have_places.at_place (λ q. numbered fits (get_or xs q None)) n k (omega (arith, lt, count))
+    ∙ sym (get_or-map (numbered fits) xs k None))
 
-pub kept_is : (p : Profiled) → length p.left ≡ length p.all → length p.right ≡ length p.all
-    → kept_sides p ≡ both_sides (numbered_slots p.left) (numbered_slots p.right) 0
-kept_is p left right =
-    ap (λ (c : Column). both_sides c (numbered_column (length p.all) p.right) 0)
-    (numbered_is (length p.all) p.left left)
-    ∙ ap (λ (c : Column). both_sides (numbered_slots p.left) c 0) (numbered_is (length p.all) p.right right)
+pub kept_is : (fits : Near → Bool) (p : Profiled) → length p.left ≡ length p.all → length p.right ≡ length p.all
+    → kept_sides fits p ≡ both_sides (numbered_slots fits p.left) (numbered_slots fits p.right) 0
+kept_is fits p left right =
+    ap (λ (c : Column). both_sides c (numbered_column fits (length p.all) p.right) 0)
+    (numbered_is fits (length p.all) p.left left)
+    ∙ ap (λ (c : Column). both_sides (numbered_slots fits p.left) c 0) (numbered_is fits (length p.all) p.right right)

@@ -21,3 +21,5 @@ pub mod RowSums
 pub mod RowPairs
 pub mod Distinct
 pub mod Putting
+pub mod Told
+pub mod Blocks

@@ -74,6 +74,27 @@ lent_some items i xs lt e =
     let long = length-map items number_in in
     omega (arith, ap length e, length-take 1 (drop i (numbers_in items)), length-drop i (numbers_in items), long, lt)
 
+-- the same of successive ones
+pub lent_numbers : (items : List Sample) (i n k : ℕ) (xs : List ℤ) → xs ≡ take n (drop i (numbers_in items)) → k < n
+    → get_or xs k (pos 0) ≡ numbers_of (series_of items) (i + k)
+lent_numbers items i n k xs e lt =
+    ap (λ (l : List ℤ). get_or l k (pos 0)) e
+    ∙ get_or-take n (drop i (numbers_in items)) k (pos 0) lt ∙ get_or-drop i (numbers_in items) k (pos 0)
+    ∙ number_same items (i + k)
+
+pub lent_long : (items : List Sample) (i n : ℕ) (xs : List ℤ) → i + n ≤ length items
+    → xs ≡ take n (drop i (numbers_in items)) → length xs ≡ n
+lent_long items i n xs within e =
+    let long = length-map items number_in in
+    omega (
+      arith,
+      ap length e,
+      length-take n (drop i (numbers_in items)),
+      length-drop i (numbers_in items),
+      long,
+      within,
+    )
+
 -- the square of two numbers that were lent
 pub lent_square : (items : List Sample) (i j square : ℕ) (xs ys : List ℤ) (x y : ℤ) → i < length items
     → j < length items

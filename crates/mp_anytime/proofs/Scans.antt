@@ -7,8 +7,10 @@ use Rattle.std.specs.Int.{abs_diff}
 use Rattle.std.specs.List.Sorted.{IsPermutation}
 use Rattle.std.proofs.lemmas.List.Sorted.{list_any-IsPermutation}
 use Rattle.std.proofs.lemmas.Bool.Decides.{nat_tests}
+use Rattle.mp_nums.specs.declared.nearest.Near.{Near}
 use Rattle.mp_nums.specs.declared.samples.Sample.{Sample}
 use Rattle.mp_defs.specs.Series.{Series, series_of}
+use Rattle.mp_defs.specs.Window.{windows}
 use Rattle.mp_defs.specs.Profile.{windows_of}
 use Rattle.mp_partial.specs.Profiled.{Profiled}
 use Rattle.mp_defs.specs.SeriesLaws.{series_are_of_samples}
@@ -18,7 +20,7 @@ use Rattle.mp_tiles.specs.Among.{either_way}
 use Rattle.mp_tiles.specs.Scanning.{HasPlaces, IsScanned}
 use Rattle.mp_tiles.specs.OfferingLaws.{each_to_other}
 use Rattle.mp_anytime.specs.DiagonalLaws.{all_three, kept_have_places}
-use Rattle.mp_anytime.specs.Bounds.{Bounded, KeptPieces, columns_of, kept_sides}
+use Rattle.mp_anytime.specs.Bounds.{KeptPieces, columns_of, kept_sides}
 use Rattle.mp_anytime.specs.Diagonals.{Along, along_size, along_value}
 use Rattle.mp_anytime.specs.Scanning.{lie_along, lie_apart, starts_behind}
 use Rattle.mp_anytime.proofs.LazyLemmas.{pieces_together, three, value_by, value_same}
@@ -87,45 +89,51 @@ pieces_are along offsets m items count e f g all =
 -- ---- with what is kept
 
 -- what is kept, any number of times
-kept_over : (kept : Profiled) (k : ℕ) (ks : List ℕ)
-    → merged_over merged_columns (empty_columns 3 (length kept.all)) (λ _. columns_of (kept_sides kept)) (k ∷ ks)
-    ≡ columns_of (kept_sides kept)
-kept_over kept k [] =
-    (columns_merge 3).unit_last (length kept.all) (columns_of (kept_sides kept)) (kept_have_places kept)
-kept_over kept k (j ∷ js) =
-    ap (merged_columns (columns_of (kept_sides kept))) (kept_over kept j js)
-    ∙ (columns_merge 3).idempotent (length kept.all) (columns_of (kept_sides kept)) (kept_have_places kept)
+kept_over : (fits : Near → Bool) (kept : Profiled) (k : ℕ) (ks : List ℕ)
+    → merged_over merged_columns (empty_columns 3 (length kept.all)) (λ _. columns_of (kept_sides fits kept)) (k ∷ ks)
+    ≡ columns_of (kept_sides fits kept)
+kept_over fits kept k [] =
+    (columns_merge 3).unit_last (length kept.all) (columns_of (kept_sides fits kept)) (kept_have_places fits kept)
+kept_over fits kept k (j ∷ js) =
+    ap (merged_columns (columns_of (kept_sides fits kept))) (kept_over fits kept j js)
+    ∙ (columns_merge 3).idempotent (length kept.all) (columns_of (kept_sides fits kept)) (kept_have_places fits kept)
 
-kept_first : (kept : Profiled) (pieces : ℕ)
-    → (pieces ≡ 0 → columns_of (kept_sides kept) ≡ empty_columns 3 (length kept.all))
-    → merged_below merged_columns (empty_columns 3 (length kept.all)) (λ _. columns_of (kept_sides kept)) pieces
-    ≡ columns_of (kept_sides kept)
-kept_first kept zero nothing = sym (nothing refl)
-kept_first kept (suc n) nothing = kept_over kept 0 (range_with_len 1 n)
+kept_first : (fits : Near → Bool) (kept : Profiled) (pieces : ℕ)
+    → (pieces ≡ 0 → columns_of (kept_sides fits kept) ≡ empty_columns 3 (length kept.all))
+    → merged_below merged_columns (empty_columns 3 (length kept.all)) (λ _. columns_of (kept_sides fits kept)) pieces
+    ≡ columns_of (kept_sides fits kept)
+kept_first fits kept zero nothing = sym (nothing refl)
+kept_first fits kept (suc n) nothing = kept_over fits kept 0 (range_with_len 1 n)
 
 -- the pieces of both kernels
-pub both_are : (first : KeptPieces) (kept : Profiled) (along : Along) (offsets : List ℕ) (m : ℕ)
+pub both_are : (fits : Near → Bool) (first : KeptPieces) (kept : Profiled) (along : Along) (offsets : List ℕ) (m : ℕ)
     (items : List Sample)
-    (found : Value) → (first.pieces ≡ 0 → columns_of (kept_sides kept) ≡ empty_columns 3 (length kept.all))
+    (found : Value) → (first.pieces ≡ 0 → columns_of (kept_sides fits kept) ≡ empty_columns 3 (length kept.all))
     → first.profile ≡ kept → length kept.all ≡ along_size along
     → along.offsets ≡ offsets → along.m ≡ m → along.samples ≡ items
     → found ≡ merged_columns
     (merged_below merged_columns (empty_columns 3 (length first.profile.all))
-    (λ _. columns_of (kept_sides first.profile)) first.pieces)
+    (λ _. columns_of (kept_sides fits first.profile)) first.pieces)
     (merged_below merged_columns (empty_columns 3 (length first.profile.all)) (along_value along)
     (length along.offsets))
-    → found ≡ merged_columns (columns_of (kept_sides kept)) (value_by (lie_along offsets) m (series_of items))
-both_are first kept along offsets m items found nothing is size e f g h =
+    → found ≡ merged_columns (columns_of (kept_sides fits kept)) (value_by (lie_along offsets) m (series_of items))
+both_are fits first kept along offsets m items found nothing is size e f g h =
     let rest = merged_below merged_columns (empty_columns 3 (length first.profile.all)) (along_value along)
     (length along.offsets) in
     h ∙ ap (λ v. merged_columns v rest)
-    (kept_first first.profile first.pieces (subst (λ (p : Profiled). first.pieces ≡ 0
-    → columns_of (kept_sides p)
-    ≡ empty_columns 3 (length p.all)) (sym is) nothing) ∙ ap (λ (p : Profiled). columns_of (kept_sides p)) is)
-    ∙ ap (merged_columns (columns_of (kept_sides kept)))
+    (kept_first fits first.profile first.pieces (subst (λ (p : Profiled). first.pieces ≡ 0
+    → columns_of (kept_sides fits p)
+    ≡ empty_columns 3 (length p.all)) (sym is) nothing) ∙ ap (λ (p : Profiled). columns_of (kept_sides fits p)) is)
+    ∙ ap (merged_columns (columns_of (kept_sides fits kept)))
     (ap (λ w. merged_below merged_columns (empty_columns 3 w) (along_value along) (length along.offsets))
     (ap (λ (p : Profiled). length p.all) is ∙ size)
     ∙ pieces_are along offsets m items (length along.offsets) e f g refl)
+
+-- as many windows
+pub same_windows : (along : Along) (samples : List Sample) (m : ℕ) → along.samples ≡ samples → along.m ≡ m
+    → windows (length samples) m ≡ along_size along
+same_windows along samples m e f =
+    sym (ap (λ (xs : List Sample). windows (length xs) along.m) e ∙ ap (windows (length samples)) f)
 
 -- the pairs along them are the same in any order
 pub in_any_order : (offsets order : List ℕ) (m : ℕ) (a : Series) → IsPermutation offsets order
@@ -134,29 +142,32 @@ in_any_order offsets order m a moved =
     value_same (lie_along order) (lie_along offsets) m a
     (λ i j _ _. sym (list_any-IsPermutation (λ other. other == abs_diff i j) offsets order moved))
 
-pub found_in_order : {E : Type 0} (r : Result Bounded E) (kept : Profiled) (offsets order : List ℕ) (m : ℕ)
-    (items : List Sample) → IsPermutation offsets order
-    → IfOk r (λ found. columns_of found.profile
-    ≡ merged_columns (columns_of (kept_sides kept)) (value_by (lie_along order) m (series_of items)))
-    → IfOk r (λ found. columns_of found.profile
-    ≡ merged_columns (columns_of (kept_sides kept)) (value_by (lie_along offsets) m (series_of items)))
-found_in_order (Ok found) kept offsets order m items moved h =
-    h ∙ ap (merged_columns (columns_of (kept_sides kept))) (in_any_order offsets order m (series_of items) moved)
-found_in_order (Err e) kept offsets order m items moved h = tt
+pub found_same : (fits : Near → Bool) (found kept : Profiled) (offsets order : List ℕ) (m m' : ℕ)
+    (items items' : List Sample) → IsPermutation offsets order → m' ≡ m → items' ≡ items
+    → columns_of found
+    ≡ merged_columns (columns_of (kept_sides fits kept)) (value_by (lie_along order) m' (series_of items'))
+    → columns_of found
+    ≡ merged_columns (columns_of (kept_sides fits kept)) (value_by (lie_along offsets) m (series_of items))
+found_same fits found kept offsets order m m' items items' moved same_m same_items h =
+    h ∙ ap (merged_columns (columns_of (kept_sides fits kept)))
+    (ap (λ n. value_by (lie_along order) n (series_of items')) same_m
+    ∙ ap (λ (xs : List Sample). value_by (lie_along order) m (series_of xs)) same_items
+    ∙ in_any_order offsets order m (series_of items) moved)
 
-pub found_by : {E : Type 0} (r : Result Bounded E) (first : KeptPieces) (kept : Profiled) (along : Along)
+pub found_by : {E F : Type 0} (of : F → Profiled) (fits : Near → Bool) (r : Result F E) (first : KeptPieces)
+    (kept : Profiled) (along : Along)
     (offsets : List ℕ) (m : ℕ) (items : List Sample)
-    → (first.pieces ≡ 0 → columns_of (kept_sides kept) ≡ empty_columns 3 (length kept.all))
+    → (first.pieces ≡ 0 → columns_of (kept_sides fits kept) ≡ empty_columns 3 (length kept.all))
     → first.profile ≡ kept
     → length kept.all ≡ along_size along → along.offsets ≡ offsets → along.m ≡ m
     → along.samples ≡ items
-    → IfOk r (λ found. columns_of found.profile ≡ merged_columns
+    → IfOk r (λ found. columns_of (of found) ≡ merged_columns
     (merged_below merged_columns (empty_columns 3 (length first.profile.all))
-    (λ _. columns_of (kept_sides first.profile)) first.pieces)
+    (λ _. columns_of (kept_sides fits first.profile)) first.pieces)
     (merged_below merged_columns (empty_columns 3 (length first.profile.all)) (along_value along)
     (length along.offsets)))
-    → IfOk r (λ found. columns_of found.profile
-    ≡ merged_columns (columns_of (kept_sides kept)) (value_by (lie_along offsets) m (series_of items)))
-found_by (Ok found) first kept along offsets m items nothing is size e f g h =
-    both_are first kept along offsets m items (columns_of found.profile) nothing is size e f g h
-found_by (Err e) first kept along offsets m items nothing is size d f g h = tt
+    → IfOk r (λ found. columns_of (of found)
+    ≡ merged_columns (columns_of (kept_sides fits kept)) (value_by (lie_along offsets) m (series_of items)))
+found_by of fits (Ok found) first kept along offsets m items nothing is size e f g h =
+    both_are fits first kept along offsets m items (columns_of (of found)) nothing is size e f g h
+found_by of fits (Err e) first kept along offsets m items nothing is size d f g h = tt

@@ -216,6 +216,12 @@ pub copied_numbers : (i : ℕ) (xs ys : List ℤ) (z : ℤ) → i < length xs
 copied_numbers i xs ys z lt before e q below =
     set_at (λ j x. x ≡ get_or ys j (pos 0)) (pos 0) xs i z lt e q (λ ne. before q (omega (arith, below, ne)))
 
+pub copied_starts : (i : ℕ) (xs ys : List ℕ) → i < length xs
+    → ((q : ℕ) → q < i → get_or xs q 0 ≡ get_or ys q 0)
+    → (q : ℕ) → q < i + 1 → get_or (set xs i (get_or ys i 0)) q 0 ≡ get_or ys q 0
+copied_starts i xs ys lt before q below =
+    set_at (λ j x. x ≡ get_or ys j 0) 0 xs i (get_or ys i 0) lt refl q (λ ne. before q (omega (arith, below, ne)))
+
 -- bounds of no windows
 pub always_unit : (m shift n : ℕ) (slots : Column) (bounds : List ℤ) → slots ≡ empty_column n
     → bounds ≡ replicate n (pos 2147483647) → AreBounds m shift slots bounds

@@ -178,31 +178,32 @@ kept_places m items covered p h =
     ∙ series_are_of_samples.windows_are m items
 
 -- what was found is of both sides of what was kept and of the chosen diagonals
-abbrev pub IsFoundOf : ℕ → List Sample → List ℕ → Profiled → Profiled → Type 0
-IsFoundOf m items chosen old found =
-    columns_of found ≡ merged_columns (columns_of (both_sides (numbered_slots old.left) (numbered_slots old.right) 0))
+abbrev pub IsFoundOf : (Near → Bool) → ℕ → List Sample → List ℕ → Profiled → Profiled → Type 0
+IsFoundOf fits m items chosen old found =
+    columns_of found
+    ≡ merged_columns (columns_of (both_sides (numbered_slots fits old.left) (numbered_slots fits old.right) 0))
     (columns_value (profile (lie_along chosen) m (series_of items)))
 
-pub is_found : (m : ℕ) (items : List Sample) (chosen : List ℕ) (old found : Profiled)
+pub is_found : (fits : Near → Bool) (m : ℕ) (items : List Sample) (chosen : List ℕ) (old found : Profiled)
     → length old.left ≡ length old.all
     → length old.right ≡ length old.all
-    → columns_of found ≡ merged_columns (columns_of (kept_sides old))
-    (columns_value (profile (lie_along chosen) m (series_of items))) → IsFoundOf m items chosen old found
-is_found m items chosen old found left right e =
+    → columns_of found ≡ merged_columns (columns_of (kept_sides fits old))
+    (columns_value (profile (lie_along chosen) m (series_of items))) → IsFoundOf fits m items chosen old found
+is_found fits m items chosen old found left right e =
     e ∙ ap (λ (p : Profiled). merged_columns (columns_of p)
-    (columns_value (profile (lie_along chosen) m (series_of items)))) (kept_is old left right)
+    (columns_value (profile (lie_along chosen) m (series_of items)))) (kept_is fits old left right)
 
-pub found_places : (m : ℕ) (items : List Sample) (covered chosen : List ℕ) (old found : Profiled)
+pub found_places : (fits : Near → Bool) (m : ℕ) (items : List Sample) (covered chosen : List ℕ) (old found : Profiled)
     → IsAlongCovered m items covered old
-    → IsFoundOf m items chosen old found → length found.left ≡ windows_of m (series_of items)
-found_places m items covered chosen old found was e =
+    → IsFoundOf fits m items chosen old found → length found.left ≡ windows_of m (series_of items)
+found_places fits m items covered chosen old found was e =
     let a = series_of items in
     let p = profile (lie_along chosen) m a in
-    let kept : length (numbered_slots old.left) ≡ windows_of m a =
-    length-map old.left numbered ∙ ap length was.left
+    let kept : length (numbered_slots fits old.left) ≡ windows_of m a =
+    length-map old.left (numbered fits) ∙ ap length was.left
     ∙ columns_have_places.count (left_entry (is_allowed_along covered m) m a) (windows_of m a) in
     ap length (left_of _ _ _ _ _ _ e)
-    ∙ length-zip2 nearer_of (numbered_slots old.left) p.left
+    ∙ length-zip2 nearer_of (numbered_slots fits old.left) p.left
     (kept ∙ sym (columns_have_places.count (left_entry (lie_along chosen) m a) (windows_of m a)))
     ∙ kept
 
@@ -244,13 +245,14 @@ no_numbers [] e = refl
 no_numbers (x ∷ xs) e = absurd (omega (arith, e))
 
 -- then nothing is kept
-pub nothing_kept : (m : ℕ) (items : List Sample) (covered : List ℕ) (p : Profiled) → length covered ≡ 0
+pub nothing_kept : (fits : Near → Bool) (m : ℕ) (items : List Sample) (covered : List ℕ) (p : Profiled)
+    → length covered ≡ 0
     → IsAlongCovered m items covered p → length p.left ≡ length p.all → length p.right ≡ length p.all
-    → columns_of (kept_sides p) ≡ empty_columns 3 (length p.all)
-nothing_kept m items covered p none h left right =
-    ap columns_of (kept_is p left right)
+    → columns_of (kept_sides fits p) ≡ empty_columns 3 (length p.all)
+nothing_kept fits m items covered p none h left right =
+    ap columns_of (kept_is fits p left right)
     ∙ three _ _ _ _ _ _
-    (ap (λ (c : Column). merged_column c (numbered_slots p.right)) left_is
+    (ap (λ (c : Column). merged_column c (numbered_slots fits p.right)) left_is
     ∙ ap (merged_column (empty_column (length p.all))) right_is ∙ none_merged (length p.all))
     left_is right_is
   where
@@ -271,15 +273,15 @@ nothing_kept m items covered p none h left right =
     was = subst (λ ds. IsAlongCovered m items ds p) (no_numbers covered none) h
 
     numbered_none : (c : Column) → c ≡ empty_column w → length c ≡ length p.all
-        → numbered_slots c ≡ empty_column (length p.all)
+        → numbered_slots fits c ≡ empty_column (length p.all)
     numbered_none c is count =
-        ap numbered_slots is ∙ none_in numbered w refl
+        ap (numbered_slots fits) is ∙ none_in (numbered fits) w refl
         ∙ ap empty_column (sym (length-replicate {A = Option Near} w None) ∙ sym (ap length is) ∙ count)
 
-    left_is : numbered_slots p.left ≡ empty_column (length p.all)
+    left_is : numbered_slots fits p.left ≡ empty_column (length p.all)
     left_is = numbered_none p.left (was.left ∙ left_of _ _ _ _ _ _ empty) left
 
-    right_is : numbered_slots p.right ≡ empty_column (length p.all)
+    right_is : numbered_slots fits p.right ≡ empty_column (length p.all)
     right_is = numbered_none p.right (was.right ∙ right_of _ _ _ _ _ _ empty) right
 
 -- ---- both sides
@@ -297,61 +299,62 @@ all_entries m covered a all left right e f g =
 
 -- ---- what was found is taken over
 
-pub covers_more : (m w : ℕ) (items : List Sample) (covered chosen : List ℕ) (old found new : Profiled)
+pub covers_more : (fits : Near → Bool) (m w : ℕ) (items : List Sample) (covered chosen : List ℕ)
+    (old found new : Profiled)
     → All (IsDiagonal m w) covered → All (IsDiagonal m w) chosen → IsAlongCovered m items covered old
-    → IsFoundOf m items chosen old found
+    → IsFoundOf fits m items chosen old found
     → new.left ≡ merged_column old.left found.left → new.right ≡ merged_column old.right found.right
     → IsAlongCovered m items (covered ++ chosen) new
-covers_more m w items covered chosen old found new all all' was e l r =
+covers_more fits m w items covered chosen old found new all all' was e l r =
     let a = series_of items in
     let both = diagonals_both m w covered chosen all all' in
     let whole = along_both covered chosen m a in
     let p = profile (lie_along chosen) m a in
     record {
-      left = l ∙ ap (merged_column old.left) (left_of _ _ _ _ _ _ e) ∙ merged_again old.left p.left
+      left = l ∙ ap (merged_column old.left) (left_of _ _ _ _ _ _ e) ∙ merged_again fits old.left p.left
           ∙ ap (λ (c : Column). merged_column c p.left) (was.left ∙ left_along m w covered a all)
           ∙ sym (left_of _ _ _ _ _ _ whole)
           ∙ sym (left_along m w (covered ++ chosen) a both);
-      right = r ∙ ap (merged_column old.right) (right_of _ _ _ _ _ _ e) ∙ merged_again old.right p.right
+      right = r ∙ ap (merged_column old.right) (right_of _ _ _ _ _ _ e) ∙ merged_again fits old.right p.right
           ∙ ap (λ (c : Column). merged_column c p.right) (was.right ∙ right_along m w covered a all)
           ∙ sym (right_of _ _ _ _ _ _ whole)
           ∙ sym (right_along m w (covered ++ chosen) a both);
     }
 
 -- on which sides windows were found
-pub found_earlier : (m : ℕ) (items : List Sample) (covered chosen : List ℕ) (old found : Profiled)
+pub found_earlier : (fits : Near → Bool) (m : ℕ) (items : List Sample) (covered chosen : List ℕ) (old found : Profiled)
     → IsAlongCovered m items covered old
-    → IsFoundOf m items chosen old found → AreEarlier found.left
-found_earlier m items covered chosen old found was e =
+    → IsFoundOf fits m items chosen old found → AreEarlier found.left
+found_earlier fits m items covered chosen old found was e =
     let a = series_of items in
     let p = profile (lie_along chosen) m a in
     let kept : AreEarlier old.left =
     subst AreEarlier (sym was.left) (left_is_earlier (is_allowed_along covered m) m a) in
-    let long : length p.left ≡ length (numbered_slots old.left) =
+    let long : length p.left ≡ length (numbered_slots fits old.left) =
     columns_have_places.count (left_entry (lie_along chosen) m a) (windows_of m a)
-    ∙ sym (length-map old.left numbered ∙ ap length was.left
+    ∙ sym (length-map old.left (numbered fits) ∙ ap length was.left
     ∙ columns_have_places.count (left_entry (is_allowed_along covered m) m a) (windows_of m a)) in
     subst AreEarlier (sym (left_of _ _ _ _ _ _ e))
-    (each_merged (λ k near. near.index < k) (numbered_slots old.left) p.left long
-    (each_numbered (λ k near. near.index < k) old.left kept) (left_is_earlier (lie_along chosen) m a))
+    (each_merged (λ k near. near.index < k) (numbered_slots fits old.left) p.left long
+    (each_numbered fits (λ k near. near.index < k) old.left kept) (left_is_earlier (lie_along chosen) m a))
 
-pub found_later : (m : ℕ) (items : List Sample) (covered chosen : List ℕ) (old found : Profiled)
+pub found_later : (fits : Near → Bool) (m : ℕ) (items : List Sample) (covered chosen : List ℕ) (old found : Profiled)
     → IsAlongCovered m items covered old
-    → IsFoundOf m items chosen old found
+    → IsFoundOf fits m items chosen old found
     → AreLater (windows_of m (series_of items)) found.right
-found_later m items covered chosen old found was e =
+found_later fits m items covered chosen old found was e =
     let a = series_of items in
     let w = windows_of m a in
     let p = profile (lie_along chosen) m a in
     let kept : AreLater w old.right =
     subst (AreLater w) (sym was.right) (right_is_later (is_allowed_along covered m) m a) in
-    let long : length p.right ≡ length (numbered_slots old.right) =
+    let long : length p.right ≡ length (numbered_slots fits old.right) =
     columns_have_places.count (right_entry (lie_along chosen) m a) w
-    ∙ sym (length-map old.right numbered ∙ ap length was.right
+    ∙ sym (length-map old.right (numbered fits) ∙ ap length was.right
     ∙ columns_have_places.count (right_entry (is_allowed_along covered m) m a) w) in
     subst (AreLater w) (sym (right_of _ _ _ _ _ _ e))
-    (each_merged (λ k near. (k < near.index) × (near.index < w)) (numbered_slots old.right) p.right long
-    (each_numbered (λ k near. (k < near.index) × (near.index < w)) old.right kept)
+    (each_merged (λ k near. (k < near.index) × (near.index < w)) (numbered_slots fits old.right) p.right long
+    (each_numbered fits (λ k near. (k < near.index) × (near.index < w)) old.right kept)
     (right_is_later (lie_along chosen) m a))
 
 pub both_ways : (t : Bool) → t ≡ true → t ≡ false → ⊥

@@ -46,13 +46,17 @@ pub record IsSmall (near : Near) : Type 0 where
 abbrev pub has_number : Near → Bool
 has_number near = nat_lt near.index MAX_SAMPLES && nat_lt near.dist.0 (2 ^ 110 - 1)
 
--- a slot whose window has one, or none
-abbrev pub numbered : Option Near → Option Near
-numbered None = None
-numbered (Some near) = if has_number near then Some near else None
+-- a window has a residue of 31 bits for its distance
+abbrev pub has_residue : Near → Bool
+has_residue near = nat_lt near.index MAX_SAMPLES && nat_lt near.dist.0 (2 ^ 31)
 
-abbrev pub numbered_slots : Column → Column
-numbered_slots slots = map numbered slots
+-- a slot whose window fits, or none
+abbrev pub numbered : (Near → Bool) → Option Near → Option Near
+numbered fits None = None
+numbered fits (Some near) = if fits near then Some near else None
+
+abbrev pub numbered_slots : (Near → Bool) → Column → Column
+numbered_slots fits slots = map (numbered fits) slots
 
 -- what was found on one side, the bounds that its windows keep to, and in how much memory
 pub record OneSided : Type 0 where
@@ -89,13 +93,13 @@ pub record AreTaken (plan : Plan) (pairs : ℕ → ℕ → Bool) (old new : Boun
   pub same_shift : new.shift ≡ old.shift
 
 -- the first n of them
-abbrev pub numbered_column : ℕ → Column → Column
-numbered_column n slots = column (λ k. numbered (slice_index_or slots k None)) n
+abbrev pub numbered_column : (Near → Bool) → ℕ → Column → Column
+numbered_column fits n slots = column (λ k. numbered fits (slice_index_or slots k None)) n
 
--- both sides of what is kept, as far as its windows have numbers
-abbrev pub kept_sides : Profiled → Profiled
-kept_sides kept =
-    both_sides (numbered_column (length kept.all) kept.left) (numbered_column (length kept.all) kept.right) 0
+-- both sides of what is kept, as far as its windows fit
+abbrev pub kept_sides : (Near → Bool) → Profiled → Profiled
+kept_sides fits kept =
+    both_sides (numbered_column fits (length kept.all) kept.left) (numbered_column fits (length kept.all) kept.right) 0
 
 -- the same once for each of so many pieces
 pub record KeptPieces : Type 0 where

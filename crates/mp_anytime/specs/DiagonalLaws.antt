@@ -3,6 +3,7 @@ use Rattle.std.proofs.Common.{◌≡◌, ℕ, zero, suc, List, [], ◌∷◌, le
 use Rattle.std.specs.Prelude.{All, None, slice_index_or}
 use Rattle.std.proofs.lemmas.Simd.{length-zip2}
 use Rattle.mp_nums.specs.Near.{nearer_of}
+use Rattle.mp_nums.specs.declared.nearest.Near.{Near}
 use Rattle.mp_nums.specs.declared.samples.Sample.{Sample}
 use Rattle.mp_defs.specs.Series.{series_of}
 use Rattle.mp_defs.specs.Window.{windows}
@@ -34,15 +35,16 @@ columns_have_places may m samples =
           (columns.columns_have_places.count (right_entry may m a) (windows_of m a) ∙ same);
     }
 
-pub kept_have_places : (kept : Profiled) → HasColumns 3 (length kept.all) (columns_of (kept_sides kept))
-kept_have_places kept =
+pub kept_have_places : (fits : Near → Bool) (kept : Profiled)
+    → HasColumns 3 (length kept.all) (columns_of (kept_sides fits kept))
+kept_have_places fits kept =
     let n = length kept.all in
-    let left = columns.columns_have_places.count (λ k. numbered (slice_index_or kept.left k None)) n in
-    let right = columns.columns_have_places.count (λ k. numbered (slice_index_or kept.right k None)) n in
+    let left = columns.columns_have_places.count (λ k. numbered fits (slice_index_or kept.left k None)) n in
+    let right = columns.columns_have_places.count (λ k. numbered fits (slice_index_or kept.right k None)) n in
     record {
       columns = refl;
-      places = all_three (λ column. length column ≡ n) (kept_sides kept).all (kept_sides kept).left
-          (kept_sides kept).right
-          (length-zip2 nearer_of (kept_sides kept).left (kept_sides kept).right (left ∙ sym right) ∙ left)
+      places = all_three (λ column. length column ≡ n) (kept_sides fits kept).all (kept_sides fits kept).left
+          (kept_sides fits kept).right
+          (length-zip2 nearer_of (kept_sides fits kept).left (kept_sides fits kept).right (left ∙ sym right) ∙ left)
           left right;
     }

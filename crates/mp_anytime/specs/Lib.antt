@@ -2,6 +2,8 @@ pub mod Scanning
 pub mod Rounded
 pub mod Bounds
 pub mod Bits
+pub mod Told
+pub mod AnyFound
 pub mod Waiting
 pub mod Sums
 pub mod Kept

@@ -15,6 +15,7 @@ ghost use Rattle.mp_results.specs.Reversal.{numbers};
 ghost use Rattle.mp_partial.specs.Values.{merged_columns};
 ghost use Rattle.mp_tiles.specs.Among.{columns_value};
 ghost use Rattle.mp_tiles.specs.Scanning.{IsScanned};
+ghost use Rattle.mp_anytime.specs.AnyFound.{fits_of, found_of};
 ghost use Rattle.mp_anytime.specs.Bounds.{columns_of, kept_sides};
 ghost use Rattle.mp_anytime.specs.Kept.{IsDiagonal, IsExtended, IsGrown, IsListed, IsOf, IsWaiting, OnlyReads};
 ghost use Rattle.mp_anytime.specs.Kept.{is_last_pair, room_of, without_last};
@@ -22,8 +23,8 @@ ghost use Rattle.mp_anytime.specs.Limits.{AreLimits};
 ghost use Rattle.mp_anytime.specs.Offers.{IsReady, IsRow};
 ghost use Rattle.mp_anytime.specs.Sums.{HavePlaces, LieClose, room_of as sums_room};
 
+use crate::any_found::AnyFound;
 use crate::extending::{extend_each, sum_of};
-use crate::found::Found;
 use crate::limits::{GREATEST, find_limits};
 use crate::moving::move_sums;
 use crate::offers::{Row, offer_row};
@@ -334,7 +335,7 @@ impl Coverage {
     }
 
     /// Covers the diagonals, of whose pairs, and of those that were covered before, this was found.
-    pub(crate) fn cover(&mut self, samples: &mut Samples, m: u32, chosen: &[u64], found: &Found)
+    pub(crate) fn cover(&mut self, samples: &mut Samples, m: u32, chosen: &[u64], found: &AnyFound)
         requires shortest { MIN_WINDOW ≤ m }
         requires longest { m ≤ MAX_WINDOW }
         requires few { length samples.old.items ≤ max_samples }
@@ -346,7 +347,8 @@ impl Coverage {
         requires left { length (uncovered m (windows_in (length samples.old.items) m)
             (self.old.covered.items ++ chosen.now)) + length chosen.now
             ≡ length (uncovered m (windows_in (length samples.old.items) m) self.old.covered.items) }
-        requires found { columns_of found.now.profile ≡ merged_columns (columns_of (kept_sides self.old.profile))
+        requires found { columns_of (found_of found.now)
+            ≡ merged_columns (columns_of (kept_sides (fits_of found.now) self.old.profile))
             (columns_value (profile (lie_along chosen.now) m (series_of samples.old.items))) }
         ensures is_of { IsOf m samples.old.items self.new }
         ensures covered { self.new.covered.items ≡ self.old.covered.items ++ chosen.now }

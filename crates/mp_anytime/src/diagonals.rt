@@ -1,6 +1,6 @@
 //! Diagonals as the pieces of a kernel.
 
-ghost use Rattle.std.specs.Prelude.{◌≡◌, ◌≤◌, [], ◌∷◌, length, All, IfOk};
+ghost use Rattle.std.specs.Prelude.{◌≡◌, ◌≤◌, length, true, All, IfOk};
 ghost use Rattle.std.specs.List.Sorted.{IsPermutation};
 ghost use Rattle.mp_defs.specs.Limits.{max_samples};
 ghost use Rattle.mp_defs.specs.Series.{series_of};
@@ -11,16 +11,20 @@ ghost use Rattle.mp_partial.specs.declared.limits.TheConstants.{MAX_PIECES, MAX_
 ghost use Rattle.mp_tiles.specs.Among.{columns_value};
 ghost use Rattle.mp_anytime.specs.Scanning.{AreFree, lie_along};
 ghost use Rattle.mp_anytime.specs.Kept.{IsDiagonal, IsOf};
-ghost use Rattle.mp_anytime.specs.Bounds.{columns_of, kept_sides};
-ghost use Rattle.mp_partial.specs.Values.{merged_columns};
+ghost use Rattle.mp_anytime.specs.AnyFound.{fits_of, found_of};
+ghost use Rattle.mp_anytime.specs.Bounds.{columns_of, has_number, has_residue, kept_sides};
+ghost use Rattle.mp_partial.specs.Values.{empty_columns, merged_columns};
 
+use crate::any_found::AnyFound;
 use crate::coverage::Coverage;
 use crate::found::Found;
 use crate::kept::Kept;
+use crate::residue_found::ResidueFound;
+use crate::residue_kernels::{ResidueDiagonals, ResidueKept};
 use crate::rounded::{Lists, Rounded};
 use mp_nums::{Memory, Sample};
 use mp_outside::Gate;
-use mp_partial::{Kernel, Part};
+use mp_partial::{Kernel, Part, Profile};
 use mp_scans::Plan;
 use mp_series::{Samples, windows};
 use mp_sums::Grid;
@@ -152,6 +156,69 @@ fn beginners(covered: &[u64], workers: u32) -> u64
     }
 }
 
+/// What the pairs of windows on the diagonals have together, with what is kept of others, where residues tell the
+/// distances. As many workers begin with what is kept as are said.
+fn found_by_residues<R: Threads + Sync, G: Gate>(
+    rt: &R,
+    alloc: Global,
+    rounded: Rounded,
+    kept: &Profile,
+    offsets: &[u64],
+    beginners: u64,
+    workers: u32,
+    gate: &G,
+) -> Result<ResidueFound, Memory>
+    requires exact { rounded.plan.is_exact ≡ true }
+    requires diagonals { All (IsDiagonal rounded.plan.grid.m
+        (windows_in (length rounded.plan.grid.rows.now) rounded.plan.grid.m)) offsets.now }
+    requires few { length offsets.now ≤ MAX_PIECES }
+    requires beginners { beginners ≤ MAX_WORKERS }
+    requires none { beginners ≡ 0 → columns_of (kept_sides has_residue kept.now)
+        ≡ empty_columns 3 (length kept.now.all) }
+    requires places { length kept.now.all
+        ≡ windows_in (length rounded.plan.grid.rows.now) rounded.plan.grid.m }
+    requires some { 1 ≤ workers }
+    requires workers { workers ≤ MAX_WORKERS }
+    ensures { IfOk result (λ found. columns_of found ≡ merged_columns (columns_of (kept_sides has_residue kept.now))
+        (columns_value (profile (lie_along offsets.now) rounded.entry.plan.grid.m
+        (series_of rounded.entry.plan.grid.rows.now)))) }
+{
+    let first = ResidueKept::new(kept, beginners);
+    let diagonals = ResidueDiagonals::new(rounded, offsets);
+    run_one_after_another(rt, alloc, &first, &diagonals, workers, gate)
+}
+
+/// The same by distances.
+fn found_by_distances<R: Threads + Sync, G: Gate>(
+    rt: &R,
+    alloc: Global,
+    rounded: Rounded,
+    kept: &Profile,
+    offsets: &[u64],
+    beginners: u64,
+    workers: u32,
+    gate: &G,
+) -> Result<Found, Memory>
+    requires diagonals { All (IsDiagonal rounded.plan.grid.m
+        (windows_in (length rounded.plan.grid.rows.now) rounded.plan.grid.m)) offsets.now }
+    requires few { length offsets.now ≤ MAX_PIECES }
+    requires beginners { beginners ≤ MAX_WORKERS }
+    requires none { beginners ≡ 0 → columns_of (kept_sides has_number kept.now)
+        ≡ empty_columns 3 (length kept.now.all) }
+    requires places { length kept.now.all
+        ≡ windows_in (length rounded.plan.grid.rows.now) rounded.plan.grid.m }
+    requires some { 1 ≤ workers }
+    requires workers { workers ≤ MAX_WORKERS }
+    ensures { IfOk result (λ found. columns_of found.profile
+        ≡ merged_columns (columns_of (kept_sides has_number kept.now))
+        (columns_value (profile (lie_along offsets.now) rounded.entry.plan.grid.m
+        (series_of rounded.entry.plan.grid.rows.now)))) }
+{
+    let first = Kept::new(kept, rounded.plan.rounding, beginners);
+    let diagonals = Diagonals::new(rounded, offsets);
+    run_one_after_another(rt, alloc, &first, &diagonals, workers, gate)
+}
+
 /// What the pairs of windows on the diagonals have together, with what is kept of others, found by so many workers. A
 /// few pairs are left to fewer.
 pub(crate) fn found_along<R: Threads + Sync, G: Gate>(
@@ -163,7 +230,7 @@ pub(crate) fn found_along<R: Threads + Sync, G: Gate>(
     offsets: &[u64],
     workers: u32,
     gate: &G,
-) -> Result<Found, Memory>
+) -> Result<AnyFound, Memory>
     requires shortest { 1 ≤ m }
     requires longest { m ≤ MAX_WINDOW }
     requires few { length offsets.now ≤ MAX_PIECES }
@@ -171,22 +238,27 @@ pub(crate) fn found_along<R: Threads + Sync, G: Gate>(
     requires some { 1 ≤ workers }
     requires workers { workers ≤ MAX_WORKERS }
     requires is_of { IsOf m samples.old.items kept.now }
-    ensures found { IfOk result (λ found. columns_of found.profile
-        ≡ merged_columns (columns_of (kept_sides kept.now.profile))
+    ensures found { IfOk result (λ found. columns_of (found_of found)
+        ≡ merged_columns (columns_of (kept_sides (fits_of found) kept.now.profile))
         (columns_value (profile (lie_along offsets.now) m (series_of samples.old.items)))) }
     ensures few { IfOk result (λ _. length samples.old.items ≤ max_samples) }
     ensures items { samples.new.items ≡ samples.old.items }
     ensures spare { samples.new.spare ≡ samples.old.spare }
     ensures reads_rise { samples.old.reads ≤ samples.new.reads }
 {
-    let _windows = kept.profile.len();
+    let windows = kept.profile.len();
     let free = free_windows(alloc, samples, m)?;
     let plan = own_plan(samples.lend(), m);
     let lists = Lists::of(alloc, &plan, free)?;
     let order = walked(alloc, offsets)?;
-    let diagonals = Diagonals::new(lists.rounded(), order.as_slice());
-    let workers = workers_for(diagonals.pieces().saturating_mul(diagonals.size()), workers);
+    let order = order.as_slice();
+    let workers = workers_for(windows.saturating_mul(order.len() as u64), workers);
     let count = beginners(kept.covered.as_slice(), workers);
-    let first = Kept::new(&kept.profile, plan.rounding, count);
-    run_one_after_another(rt, alloc, &first, &diagonals, workers, gate)
+    let (rounded, profile) = (lists.rounded(), &kept.profile);
+    if plan.is_exact {
+        let found = found_by_residues(rt, alloc, rounded, profile, order, count, workers, gate)?;
+        return Ok(AnyFound::ByResidue(found));
+    }
+    let found = found_by_distances(rt, alloc, rounded, profile, order, count, workers, gate)?;
+    Ok(AnyFound::ByDistance(found))
 }

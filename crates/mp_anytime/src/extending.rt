@@ -1,10 +1,10 @@
 //! The last pair of each covered diagonal, and the pair that one window more brings.
 
-ghost use Rattle.std.specs.Prelude.{◌≡◌, ◌+◌, ◌-◌, ◌*◌, ◌<◌, ◌≤◌, length, All};
+ghost use Rattle.std.specs.Prelude.{ℕ, pos, slice_index_or, ◌≡◌, ◌+◌, ◌-◌, ◌*◌, ◌<◌, ◌≤◌, length, All};
 ghost use Rattle.mp_defs.specs.Limits.{max_samples};
-ghost use Rattle.mp_defs.specs.Series.{series_of};
+ghost use Rattle.mp_defs.specs.Series.{Series, series_of};
 ghost use Rattle.mp_series.specs.declared.limits.TheConstants.{MAX_WINDOW};
-ghost use Rattle.mp_sums.specs.Sums.{greatest_square};
+ghost use Rattle.mp_sums.specs.Sums.{greatest_square, numbers_of};
 ghost use Rattle.mp_scans.specs.Offering.{only};
 ghost use Rattle.mp_tiles.specs.Scanning.{HasPlaces, IsScanned};
 ghost use Rattle.mp_anytime.specs.Kept.{AreDistinct, AreSums, IsDiagonal, IsSumAt, OnlyReads, is_last_pair};
@@ -13,7 +13,7 @@ ghost use Rattle.mp_anytime.specs.Sums.{HavePlaces, room_of};
 
 use crate::pairs::offer_pair;
 use crate::sums::Sums;
-use mp_nums::Sq;
+use mp_nums::{Sq, Whole};
 use mp_partial::Profile;
 use mp_series::Samples;
 use mp_sums::square;
@@ -31,6 +31,22 @@ fn square_between(samples: &mut Samples, i: u64, j: u64) -> u128
     square(first[0], second[0])
 }
 
+/// The sum of the squared differences of numbers at the same places.
+fn sum_between(first: &[Whole], second: &[Whole]) -> u128
+    requires same { length second.now ≡ length first.now }
+    requires few { length first.now ≤ MAX_WINDOW }
+    ensures { (a : Series) (i j : ℕ)
+        → ((k : ℕ) → k < length first.now → slice_index_or first.now k (pos 0) ≡ numbers_of a (i + k))
+        → ((k : ℕ) → k < length first.now → slice_index_or second.now k (pos 0) ≡ numbers_of a (j + k))
+        → IsSumAt (length first.now) a i j result }
+{
+    let mut sum = 0;
+    for k in 0..first.len() {
+        sum += square(first[k], second[k]);
+    }
+    sum
+}
+
 /// The sum of windows `i` and `j`.
 pub(crate) fn sum_of(samples: &mut Samples, m: u32, i: u64, j: u64) -> u128
     requires width { m ≤ MAX_WINDOW }
@@ -40,11 +56,8 @@ pub(crate) fn sum_of(samples: &mut Samples, m: u32, i: u64, j: u64) -> u128
     ensures sum { IsSumAt m (series_of samples.old.items) i j result }
     ensures read { OnlyReads (2 * m) samples.old samples.new }
 {
-    let mut sum = 0;
-    for k in 0..u64::from(m) {
-        sum += square_between(samples, i + k, j + k);
-    }
-    sum
+    let (first, second) = samples.parts(i, j, u64::from(m));
+    sum_between(first, second)
 }
 
 /// The sum of windows `i` and `j`, from that of the windows before them.

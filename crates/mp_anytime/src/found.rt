@@ -11,7 +11,7 @@ ghost use Rattle.mp_scans.specs.Offering.{only};
 ghost use Rattle.mp_tiles.specs.Scanning.{HasPlaces, IsScanned};
 ghost use Rattle.mp_anytime.specs.Scanning.{AreEarlier, AreLater, IsPairTaken, is_pair_from, starts_behind};
 ghost use Rattle.mp_anytime.specs.Rounded.{core_in, series_in, whole_in};
-ghost use Rattle.mp_anytime.specs.Bounds.{AreTaken, IsFor, IsQuiet, columns_of, kept_sides};
+ghost use Rattle.mp_anytime.specs.Bounds.{AreTaken, IsFor, IsQuiet, columns_of, has_number, kept_sides};
 ghost use Rattle.mp_scans.specs.Exacts.{IsExact};
 ghost use Rattle.mp_scans.specs.Lanes.{AreLanes};
 ghost use Rattle.mp_series.specs.declared.limits.TheConstants.{MAX_SAMPLES};
@@ -344,7 +344,7 @@ impl Found {
     fn take_sides(&mut self, profile: &Profile)
         requires places { length profile.now.all ≡ length self.old.profile.all }
         ensures value { columns_of self.new.profile
-            ≡ merged_columns (columns_of self.old.profile) (columns_of (kept_sides profile.now)) }
+            ≡ merged_columns (columns_of self.old.profile) (columns_of (kept_sides has_number profile.now)) }
         ensures places { length self.new.profile.all ≡ length self.old.profile.all }
         ensures is_value { HasColumns 3 (length self.new.profile.all) (columns_of self.new.profile) }
         ensures room { self.new.profile.room ≡ self.old.profile.room }
@@ -360,7 +360,7 @@ impl Found {
     pub(crate) fn take_profile(&mut self, profile: &Profile, rounding: &Rounding)
         requires places { length profile.now.all ≡ length self.old.profile.all }
         ensures value { columns_of self.new.profile
-            ≡ merged_columns (columns_of self.old.profile) (columns_of (kept_sides profile.now)) }
+            ≡ merged_columns (columns_of self.old.profile) (columns_of (kept_sides has_number profile.now)) }
         ensures places { length self.new.profile.all ≡ length self.old.profile.all }
         ensures is_value { HasColumns 3 (length self.new.profile.all) (columns_of self.new.profile) }
         ensures room { self.new.profile.room ≡ self.old.profile.room }

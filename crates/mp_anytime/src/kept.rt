@@ -42,7 +42,7 @@ impl<'a> Kept<'a> {
 
 impl<'a> Kernel for Kept<'a> {
     ghost use Rattle.std.specs.Prelude.{length};
-    ghost use Rattle.mp_anytime.specs.Bounds.{columns_of, kept_sides};
+    ghost use Rattle.mp_anytime.specs.Bounds.{columns_of, has_number, kept_sides};
     ghost use Rattle.mp_anytime.specs.DiagonalLaws.{kept_have_places};
 
     type Out = Found;
@@ -51,9 +51,9 @@ impl<'a> Kernel for Kept<'a> {
 
     ghost pieces_of = { λ kept. kept.pieces };
 
-    ghost value_of = { λ kept _. columns_of (kept_sides kept.profile) };
+    ghost value_of = { λ kept _. columns_of (kept_sides has_number kept.profile) };
 
-    ghost has_values = { λ kept _ _. kept_have_places kept.profile };
+    ghost has_values = { λ kept _ _. kept_have_places has_number kept.profile };
 
     fn size(&self) -> u64 {
         self.profile.len()

@@ -5,6 +5,7 @@
 //! of the windows that were compared so far, as in SCRIMP, but over a set of pairs that is known.
 #![tactic(auto)]
 
+mod any_found;
 mod bits;
 mod bounds;
 mod coverage;
@@ -18,6 +19,9 @@ mod limits;
 mod moving;
 mod offers;
 mod pairs;
+mod residue_found;
+mod residue_kernels;
+mod residue_sides;
 mod reversals;
 mod rounded;
 mod sides;

@@ -71,7 +71,7 @@ pub(crate) fn offer_pair(into: &mut Profile, i: u64, j: u64, both_free: bool, di
 
 /// Offers a window an earlier one, where there is one.
 #[inline]
-fn offer_left(into: &mut Profile, place: u64, slot: Slot)
+pub(crate) fn offer_left(into: &mut Profile, place: u64, slot: Slot)
     requires within { place < length into.old.all }
     requires earlier { IfSome slot (λ near. near.index < place) }
     ensures left { into.new.left ≡ taken into.old.left place slot }
@@ -86,7 +86,7 @@ fn offer_left(into: &mut Profile, place: u64, slot: Slot)
 
 /// Offers a window a later one, where there is one.
 #[inline]
-fn offer_right(into: &mut Profile, place: u64, slot: Slot)
+pub(crate) fn offer_right(into: &mut Profile, place: u64, slot: Slot)
     requires within { place < length into.old.all }
     requires later { IfSome slot (λ near. (place < near.index) × (near.index < length into.old.all)) }
     ensures right { into.new.right ≡ taken into.old.right place slot }

@@ -1,9 +1,11 @@
 //! A series in rounded samples, whose residues tell of most pairs of windows that they give nothing.
 
 ghost use Rattle.std.specs.Prelude.{◌≡◌, ℕ, ◌+◌, ◌-◌, ◌^◌, ◌<◌, ◌≤◌, length, IfOk};
-ghost use Rattle.std.specs.Prelude.{IsSome, Some, ℤ, pos, ◌+ℤ◌};
+ghost use Rattle.std.specs.Prelude.{IsSome, Some, ℤ, pos, ◌+ℤ◌, true, false, ◌&&◌, if◌then◌else◌, slice_index_or, min};
 ghost use Rattle.std.specs.Int.{int_wrap, w32};
+ghost use Rattle.mp_sums.specs.declared.residues.TheConstants.{ALWAYS};
 ghost use Rattle.mp_sums.specs.Grids.{distance_in};
+ghost use Rattle.mp_sums.specs.Sums.{square_sum};
 ghost use Rattle.mp_sums.specs.Residues.{AreChanges, AreNumbers, item, moved, residue as residue_of};
 ghost use Rattle.mp_anytime.specs.Scanning.{AreFree};
 ghost use Rattle.mp_scans.specs.Exacts.{IsExact};
@@ -11,7 +13,7 @@ ghost use Rattle.mp_anytime.specs.Rounded.{AreRounded, core_in, rounded_in, seri
 
 use mp_nums::Memory;
 use mp_scans::{Exact, Plan, exact_distance};
-use mp_sums::{Change, ZERO, fill_changes, first_residue, next_residue, sum_of};
+use mp_sums::{ALWAYS, Change, ZERO, fill_changes, first_residue, next_residue, sum_of};
 use std::alloc::Global;
 
 /// How many successive pairs of a diagonal are told at once that they give nothing.
@@ -67,8 +69,11 @@ pub(crate) struct Rounded<'a> {
     numbers: &'a [i32],
     /// Whether no sample of a window is missing.
     pub(crate) free: &'a [bool],
+    /// Whether no sample is missing at all.
+    is_whole: bool,
     windows: Changes<'a>,
     cores: Changes<'a>,
+    ghost whole: { is_whole ≡ true → (k : ℕ) → k < length free.now → slice_index_or free.now k false ≡ true },
     ghost own: { plan.grid.columns.now ≡ plan.grid.rows.now },
     ghost lists: { AreRounded plan.grid.m plan.rounding.shift plan.grid.rows.now numbers.now free.now
         windows.differences.now windows.sums.now cores.differences.now cores.sums.now },
@@ -88,18 +93,36 @@ fn fill_steps(rows: &Changes, columns: &Changes, steps: &mut [i32])
     }
 }
 
-/// Puts in place of each step the residue from which it goes on, where the first one goes on from this.
-fn add_up(first: i32, steps: &mut [i32])
+/// Puts the greatest residue in place of that of each pair whose row or column isn't free.
+#[inline]
+fn keep_free(rows: &[bool], columns: &[bool], residues: &mut [i32])
+    requires rows { length rows.now ≡ length residues.old }
+    requires columns { length columns.now ≡ length residues.old }
+    ensures residues { (k : ℕ) → k < length residues.new → item residues.new k
+        ≡ (if slice_index_or rows.now k false && slice_index_or columns.now k false then item residues.old k
+        else ALWAYS) }
+    ensures places { length residues.new ≡ length residues.old }
+{
+    for k in 0..residues.len() {
+        if rows[k] & columns[k] {
+            continue;
+        }
+        residues[k] = ALWAYS;
+    }
+}
+
+/// Finds the residue from which each step goes on, where the first one goes on from this.
+fn add_up(first: i32, steps: &[i32], residues: &mut [i32])
+    requires places { length residues.old ≡ length steps.now }
     ensures residues { (r : ℕ → ℤ) → first ≡ r 0
-        → ((k : ℕ) → k < length steps.old → int_wrap w32 (r k +ℤ item steps.old k) ≡ r (k + 1))
-        → (k : ℕ) → k < length steps.new → item steps.new k ≡ r k }
-    ensures places { length steps.new ≡ length steps.old }
+        → ((k : ℕ) → k < length steps.now → int_wrap w32 (r k +ℤ item steps.now k) ≡ r (k + 1))
+        → (k : ℕ) → k < length residues.new → item residues.new k ≡ r k }
+    ensures places { length residues.new ≡ length residues.old }
 {
     let mut residue = first;
     for k in 0..steps.len() {
-        let next = residue.wrapping_add(steps[k]);
-        steps[k] = residue;
-        residue = next;
+        residues[k] = residue;
+        residue = residue.wrapping_add(steps[k]);
     }
 }
 
@@ -157,18 +180,36 @@ impl<'a> Rounded<'a> {
         next_residue(residue, self.windows.at(row), self.windows.at(row + offset))
     }
 
+    /// The residue of the samples of a row and of the column so far behind it that stand before their core.
+    #[inline]
+    fn first_of(&self, row: usize, offset: usize) -> i32
+        requires { row + offset < length self.now.free.now }
+        ensures { result ≡ residue_of (square_sum (min self.now.plan.grid.m BEHIND)
+            (rounded_in self.now.plan.rounding.shift (series_in self.now.plan)) row
+            (rounded_in self.now.plan.rounding.shift (series_in self.now.plan)) (row + offset)) }
+    {
+        let (column, m) = (row + offset, self.plan.grid.m);
+        if m < BEHIND {
+            first_residue(
+                &self.numbers[row..row + m],
+                &self.numbers[column..column + m],
+            )
+        } else {
+            first_residue(
+                &self.numbers[row..row + BEHIND],
+                &self.numbers[column..column + BEHIND],
+            )
+        }
+    }
+
     /// The residue of a row and of the column so far behind it, from that of the core of their block.
     fn whole_of(&self, row: usize, offset: usize, core: i32) -> i32
         requires within { row + offset < length self.now.free.now }
         requires core { core ≡ residue_of (core_in self.now.plan row (row + offset)) }
         ensures { result ≡ residue_of (whole_in self.now.plan row (row + offset)) }
     {
-        let (column, count) = (row + offset, self.plan.grid.m.min(BEHIND));
-        let behind = first_residue(
-            &self.numbers[row..row + count],
-            &self.numbers[column..column + count],
-        );
-        behind.wrapping_add(core.wrapping_sub(ZERO))
+        self.first_of(row, offset)
+            .wrapping_add(core.wrapping_sub(ZERO))
     }
 
     /// The residues of a block's rows, each with the column so far behind it, from that of its core.
@@ -184,8 +225,30 @@ impl<'a> Rounded<'a> {
             self.windows.of_block(row),
             self.windows.of_block(row + offset),
         );
-        fill_steps(&rows, &columns, residues);
-        add_up(self.whole_of(row, offset, core), residues);
+        let mut steps = [0; BLOCK];
+        fill_steps(&rows, &columns, &mut steps);
+        add_up(self.whole_of(row, offset, core), &steps, residues);
+    }
+
+    /// Puts the greatest residue in place of that of each pair of successive rows, each with the column so far behind
+    /// it, where a sample is missing.
+    #[inline]
+    pub(crate) fn leave_out(&self, row: usize, offset: usize, residues: &mut [i32])
+        requires within { row + offset + length residues.old ≤ length self.now.free.now }
+        ensures residues { (k : ℕ) → k < length residues.new → item residues.new k ≡
+            (if slice_index_or self.now.free.now (row + k) false
+            && slice_index_or self.now.free.now (row + k + offset) false then item residues.old k else ALWAYS) }
+        ensures places { length residues.new ≡ length residues.old }
+    {
+        if self.is_whole {
+            return;
+        }
+        let (column, count) = (row + offset, residues.len());
+        keep_free(
+            &self.free[row..row + count],
+            &self.free[column..column + count],
+            residues,
+        );
     }
 
     /// The distance of a row and a column that lack no sample, which have this residue, from what is known of their
@@ -212,6 +275,17 @@ impl<'a> Rounded<'a> {
             exact_distance(&self.plan.grid, exact, row, column)
         }
     }
+}
+
+/// Whether all marks are set.
+fn are_all(marks: &[bool]) -> bool
+    ensures { result ≡ true → (k : ℕ) → k < length marks.now → slice_index_or marks.now k false ≡ true }
+{
+    let mut all = true;
+    for k in 0..marks.len() {
+        all = marks[k] & all;
+    }
+    all
 }
 
 /// A series with itself in rounded samples, and the memory that these take: some 20 bytes for each sample.
@@ -307,6 +381,7 @@ impl<'a> Lists<'a> {
             plan: self.plan,
             numbers: self.numbers.as_slice(),
             free: self.free.as_slice(),
+            is_whole: are_all(self.free.as_slice()),
             windows,
             cores,
         }

@@ -202,7 +202,7 @@ impl Side {
     fn offer_slot(&mut self, rounding: &Rounding, place: usize, slot: &Slot)
         requires place { place < length self.old.slots }
         requires bounds { AreBounds rounding.now.m rounding.now.shift self.old.slots self.old.bounds }
-        ensures slots { self.new.slots ≡ taken self.old.slots place (numbered slot.now) }
+        ensures slots { self.new.slots ≡ taken self.old.slots place (numbered has_number slot.now) }
         ensures bounds { AreBounds rounding.now.m rounding.now.shift self.new.slots self.new.bounds }
         ensures room { self.new.room ≡ self.old.room }
     {
@@ -217,7 +217,7 @@ impl Side {
     pub(crate) fn offer_column(&mut self, rounding: &Rounding, column: &[Slot])
         requires places { length column.now ≡ length self.old.slots }
         requires bounds { AreBounds rounding.now.m rounding.now.shift self.old.slots self.old.bounds }
-        ensures slots { self.new.slots ≡ merged_column self.old.slots (numbered_slots column.now) }
+        ensures slots { self.new.slots ≡ merged_column self.old.slots (numbered_slots has_number column.now) }
         ensures bounds { AreBounds rounding.now.m rounding.now.shift self.new.slots self.new.bounds }
         ensures room { self.new.room ≡ self.old.room }
     {

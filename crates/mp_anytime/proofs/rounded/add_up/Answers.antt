@@ -1,37 +1,41 @@
 use Rattle.std.proofs.Common.{◌+◌, ◌^◌, ◌<◌, ◌∙◌, ap, arith, length, length-set, rules, w32, to_z}
-use Rattle.std.proofs.Common.{FitsSigned, ℤ, pos, ◌+ℤ◌}
+use Rattle.std.proofs.Common.{FitsSigned, ℤ, ◌+ℤ◌}
 use Rattle.std.specs.Int.{int_wrap}
 use Rattle.std.proofs.lemmas.Int.{to_z-of_z, wrapping_add_onto}
-use Rattle.std.proofs.lemmas.List.{get_or-set_other}
 use Rattle.mp_sums.specs.Residues.{item}
-use Rattle.mp_anytime.proofs.Moves.{behind, set_next}
+use Rattle.mp_anytime.proofs.Moves.{set_next}
 use Rattle.mp_anytime.proofs.rounded.add_up.Goals as goal
 
 pub loop-k-preserved : goal.loop-k-preserved
 loop-k-preserved c =
     let before = c.loop-k.invariant in
     let k = c.loop-k.k in
-    let old = c.args.steps.now in
-    let steps = c.loop-k.steps in
+    let steps = c.args.steps.now in
+    let residues = c.loop-k.residues in
     let bits = c.loop-k.residue-bits in
     let fits : FitsSigned w32 (item steps k) = search rules in
     let small : bits < 2 ^ 32 = search rules in
-    let lt : k < length steps = omega (arith, before.places, c.loop-k-test.true) in
+    let there : k < length steps = omega (arith, c.loop-k-test.true, c.loop-k.auto.k-end) in
+    let lt : k < length residues = omega (arith, there, before.places, c.requires) in
     record {
-      places = length-set steps k (to_z w32 bits) ∙ before.places;
-      left = λ q le. get_or-set_other steps k q (to_z w32 bits) (pos 0) (behind k q le)
-          ∙ before.left q (omega (arith, le));
+      places = length-set residues k (to_z w32 bits) ∙ before.places;
       done = λ r first each.
           let so_far = before.done r first each in (
             wrapping_add_onto w32 bits (item steps k) small fits
                 ∙ ap (λ z. int_wrap w32 (z +ℤ item steps k)) so_far.0
-                ∙ ap (λ z. int_wrap w32 (r k +ℤ z)) (before.left k (omega arith))
-                ∙ each k (omega (arith, lt, before.places)),
-            set_next steps k (to_z w32 bits) r lt so_far.1 so_far.0,
+                ∙ each k there,
+            set_next residues k (to_z w32 bits) r lt so_far.1 so_far.0,
           );
     }
 
 pub returns-clause-residues : goal.returns-clause-residues
 returns-clause-residues c = λ r first each k lt.
     (c.loop-k.invariant.done r (to_z-of_z w32 c.args.first c.ranges.first ∙ first) each).1 k
-    (omega (arith, lt, c.loop-k.invariant.places, c.loop-k-test.false, c.loop-k.auto.k-end))
+    (omega (
+      arith,
+      lt,
+      c.loop-k.invariant.places,
+      c.requires,
+      c.loop-k-test.false,
+      c.loop-k.auto.k-end,
+    ))

@@ -1,13 +1,12 @@
-use Rattle.std.proofs.Common.{◌≡◌, ℕ, ◌+◌, ◌<◌, ◌≤◌, length, ℤ, ◌+ℤ◌, w32}
+use Rattle.std.proofs.Common.{◌≡◌, ℕ, ◌+◌, ◌<◌, length, ℤ, ◌+ℤ◌, w32}
 use Rattle.std.specs.Int.{int_wrap}
 use Rattle.mp_sums.specs.Residues.{item}
 use Rattle.mp_anytime.proofs.rounded.add_up.Given as goal
 
 abbrev pub invariant-loop-k : goal.invariant-loop-k
 invariant-loop-k l = record {
-  places : length l.steps ≡ length l.initial.steps;
-  left : (q : ℕ) → l.k ≤ q → item l.steps q ≡ item l.initial.steps q;
+  places : length l.residues ≡ length l.initial.residues;
   done : (r : ℕ → ℤ) → l.first ≡ r 0
-      → ((q : ℕ) → q < length l.initial.steps → int_wrap w32 (r q +ℤ item l.initial.steps q) ≡ r (q + 1))
-      → (l.residue ≡ r l.k) × ((q : ℕ) → q < l.k → item l.steps q ≡ r q);
+      → ((q : ℕ) → q < length l.steps → int_wrap w32 (r q +ℤ item l.steps q) ≡ r (q + 1))
+      → (l.residue ≡ r l.k) × ((q : ℕ) → q < l.k → item l.residues q ≡ r q);
 }

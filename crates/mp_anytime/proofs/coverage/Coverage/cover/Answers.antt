@@ -5,6 +5,7 @@ use Rattle.mp_defs.specs.Series.{series_of}
 use Rattle.mp_defs.specs.Profile.{windows_of}
 use Rattle.mp_defs.specs.SeriesLaws.{series_are_of_samples}
 use Rattle.mp_defs.specs.Window.{windows}
+use Rattle.mp_anytime.specs.AnyFound.{fits_of, found_of}
 use Rattle.mp_anytime.specs.Waiting.{IsCounted}
 use Rattle.mp_anytime.specs.Kept.{IsAlongCovered}
 use Rattle.mp_anytime.proofs.Counting.{counted_behind}
@@ -19,9 +20,10 @@ put_into-requires c =
     let items = c.args.samples.now.items in
     let old = c.args.self.now in
     let chosen = c.args.chosen.now in
-    let found = c.args.found.now.profile in
+    let found = found_of c.args.found.now in
+    let fits = fits_of c.args.found.now in
     let was = c.requires.is_of.profile in
-    let is = is_found m items chosen old.profile found (sym c.len-windows.ensures.left ∙ c.len-windows.ensures.all)
+    let is = is_found fits m items chosen old.profile found (sym c.len-windows.ensures.left ∙ c.len-windows.ensures.all)
     (sym c.len-windows.ensures.right ∙ c.len-windows.ensures.all) c.requires.found in
     let count : length old.profile.all ≡ windows_of m (series_of items) =
     omega (
@@ -32,10 +34,10 @@ put_into-requires c =
       series_are_of_samples.windows_are m items,
     ) in
     record {
-      places = count ∙ sym (found_places m items old.covered.items chosen old.profile found was is);
-      left = found_earlier m items old.covered.items chosen old.profile found was is;
+      places = count ∙ sym (found_places fits m items old.covered.items chosen old.profile found was is);
+      left = found_earlier fits m items old.covered.items chosen old.profile found was is;
       right = subst (λ w. AreLater w found.right) (sym count)
-          (found_later m items old.covered.items chosen old.profile found was is);
+          (found_later fits m items old.covered.items chosen old.profile found was is);
     }
 
 pub returns-clause-is_of : goal.returns-clause-is_of
@@ -44,8 +46,9 @@ returns-clause-is_of c =
     let items = c.args.samples.now.items in
     let old = c.args.self.now in
     let chosen = c.args.chosen.now in
-    let found = c.args.found.now.profile in
-    let is = is_found m items chosen old.profile found (sym c.len-windows.ensures.left ∙ c.len-windows.ensures.all)
+    let found = found_of c.args.found.now in
+    let fits = fits_of c.args.found.now in
+    let is = is_found fits m items chosen old.profile found (sym c.len-windows.ensures.left ∙ c.len-windows.ensures.all)
     (sym c.len-windows.ensures.right ∙ c.len-windows.ensures.all) c.requires.found in
     let covered : c.loop-diagonal.self.covered.items ≡ old.covered.items ++ chosen =
     c.loop-diagonal.invariant.covered
@@ -57,7 +60,7 @@ returns-clause-is_of c =
           c.requires.is_of.counted);
       profile = subst (λ ds. IsAlongCovered m items ds c.loop-diagonal.self.profile) (sym covered)
           (subst (IsAlongCovered m items (old.covered.items ++ chosen)) (sym c.loop-diagonal.invariant.profile)
-          (covers_more m (windows (length items) m) items old.covered.items chosen old.profile found
+          (covers_more fits m (windows (length items) m) items old.covered.items chosen old.profile found
           c.put_into.new.profile c.requires.is_of.listed.diagonals c.requires.diagonals c.requires.is_of.profile
           is c.put_into.ensures.left c.put_into.ensures.right));
       limits = λ known. absurd (both_ways c.loop-diagonal.self.are_limits_known known c.loop-diagonal.invariant.known);

@@ -1,7 +1,7 @@
 use Rattle.std.proofs.Common.{◌∙◌, ap, length, sym}
 use Rattle.mp_partial.specs.Profiled.{Profiled}
 use Rattle.mp_partial.specs.Values.{merged_columns}
-use Rattle.mp_anytime.specs.Bounds.{columns_of, kept_sides}
+use Rattle.mp_anytime.specs.Bounds.{has_number, columns_of, kept_sides}
 use Rattle.mp_anytime.proofs.found.Found.take_profile.Goals as goal
 
 pub take_sides-requires : goal.take_sides-requires
@@ -12,7 +12,7 @@ take_sides-requires c = record {
 pub returns-clause-value : goal.returns-clause-value
 returns-clause-value c =
     c.take_sides.ensures.value
-    ∙ ap (λ (p : Profiled). merged_columns (columns_of p) (columns_of (kept_sides c.args.profile.now)))
+    ∙ ap (λ (p : Profiled). merged_columns (columns_of p) (columns_of (kept_sides has_number c.args.profile.now)))
     c.round_by.ensures.profile
 
 pub returns-clause-places : goal.returns-clause-places

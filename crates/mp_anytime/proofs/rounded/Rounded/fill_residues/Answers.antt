@@ -14,7 +14,7 @@ returns-clause-residues c = λ k lt.
     let offset = c.args.offset in
     let x = rounded_in plan.rounding.shift (series_in plan) in
     let r : ℕ → ℤ = λ q. residue (whole_in plan (row + q) (row + q + offset)) in
-    let places : length c.fill_steps.new.steps ≡ 32 = c.fill_steps.ensures.places ∙ c.requires.places in
+    let places : length c.fill_steps.new.steps ≡ 32 = c.fill_steps.ensures.places in
     let fits : FitsSigned w32 c.whole_of.result = search rules in
     let rows = c.of_block-rows in
     let columns = c.of_block-columns in
@@ -28,4 +28,4 @@ returns-clause-residues c = λ k lt.
     (rows.ensures.differences q (omega (arith, here, places))) (rows.ensures.sums q (omega (arith, here, places)))
     (columns.ensures.differences q (omega (arith, here, places)))
     (columns.ensures.sums q (omega (arith, here, places))) (c.fill_steps.ensures.steps q here))
-    k (omega (arith, lt, c.add_up.ensures.places, places))
+    k (omega (arith, lt, c.add_up.ensures.places, c.requires.places))

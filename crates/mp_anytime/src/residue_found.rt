@@ -1,0 +1,321 @@
+//! What was found along some diagonals of a series whose residues tell the distances.
+
+ghost use Rattle.std.specs.Prelude.{◌≡◌, ℕ, ◌+◌, ◌-◌, ◌*◌, ◌<◌, ◌≤◌, length, true, false};
+ghost use Rattle.std.specs.Prelude.{slice_index_or, None};
+ghost use Rattle.mp_sums.specs.Residues.{item, residue as residue_of};
+ghost use Rattle.mp_partial.specs.Values.{HasColumns, empty_columns, merged_column, merged_columns};
+ghost use Rattle.mp_partial.specs.MergeLaws.{columns_merge};
+ghost use Rattle.mp_tiles.specs.Scanning.{HasPlaces, IsScanned};
+ghost use Rattle.mp_anytime.specs.Scanning.{AreEarlier, AreLater, is_pair_from, starts_behind};
+ghost use Rattle.mp_anytime.specs.Rounded.{core_in, series_in, whole_in};
+ghost use Rattle.mp_anytime.specs.Bounds.{AreTaken, IsQuiet, columns_of, has_residue, kept_sides};
+ghost use Rattle.mp_anytime.specs.Told.{bounded_by};
+
+use crate::pairs::{offer_left, offer_right};
+use crate::residue_sides::ResidueSide;
+use crate::rounded::{BLOCK, Rounded};
+use mp_nums::Memory;
+use mp_partial::{Part, Profile};
+use mp_sums::passes;
+use std::alloc::Global;
+use std::marker::Model;
+
+/// A block of a diagonal, by how many come before it, and the residue of its core.
+#[derive(Clone, Copy)]
+struct Core {
+    block: usize,
+    residue: i32,
+}
+
+/// What was found on both sides of each window among the pairs on some diagonals, where residues tell the distances.
+/// Whole blocks of pairs are taken at once. A window takes 16 bytes.
+#[derive(Debug, Drop)]
+pub(crate) struct ResidueFound {
+    /// Of each window, as a column, the nearest of those that start earlier.
+    left: ResidueSide,
+    /// Of each window, as a row, the nearest of those that start later.
+    right: ResidueSide,
+}
+
+impl Model for ResidueFound {
+    ghost use Rattle.std.specs.Prelude.{◌≡◌, length};
+    ghost use Rattle.mp_partial.specs.Profiled.{Profiled};
+    ghost use Rattle.mp_anytime.specs.Bounds.{both_sides};
+
+    ghost Value = { Profiled };
+
+    ghost view = { λ found. both_sides found.left found.right 0 };
+
+    ghost invariant = { λ found. length found.right ≡ length found.left };
+}
+
+/// Offers each window an earlier one, where a side has one for it.
+fn offer_earlier(into: &mut Profile, side: &ResidueSide)
+    requires places { length side.now ≡ length into.old.all }
+    requires earlier { AreEarlier side.now }
+    ensures left { into.new.left ≡ merged_column into.old.left side.now }
+    ensures right { into.new.right ≡ into.old.right }
+    ensures spare { into.new.spare ≡ into.old.spare }
+    ensures places { length into.new.all ≡ length into.old.all }
+{
+    let _windows = into.len();
+    for place in 0..side.len() {
+        offer_left(into, place as u64, side.slot(place));
+    }
+}
+
+/// Offers each window a later one, where a side has one for it.
+fn offer_later(into: &mut Profile, side: &ResidueSide)
+    requires places { length side.now ≡ length into.old.all }
+    requires later { AreLater (length into.old.all) side.now }
+    ensures right { into.new.right ≡ merged_column into.old.right side.now }
+    ensures left { into.new.left ≡ into.old.left }
+    ensures spare { into.new.spare ≡ into.old.spare }
+    ensures places { length into.new.all ≡ length into.old.all }
+{
+    let _windows = into.len();
+    for place in 0..side.len() {
+        offer_right(into, place as u64, side.slot(place));
+    }
+}
+
+impl ResidueFound {
+    /// Takes successive pairs of a diagonal, which have these residues. Where a sample is missing, the greatest residue
+    /// is put in place of a pair's.
+    #[inline]
+    fn take_residues(&mut self, rounded: &Rounded, row: usize, offset: usize, residues: &mut [i32])
+        requires apart { 1 ≤ offset }
+        requires within { row + offset + length residues.old ≤ length rounded.now.free.now }
+        requires residues { (k : ℕ) → k < length residues.old
+            → item residues.old k ≡ residue_of (whole_in rounded.now.plan (row + k) (row + k + offset)) }
+        requires exact { rounded.now.plan.is_exact ≡ true }
+        requires places { HasPlaces (length rounded.now.free.now) self.old }
+        ensures { AreTaken rounded.now.plan (is_pair_from offset row (row + length residues.old))
+            (bounded_by rounded.now.plan self.old) (bounded_by rounded.now.plan self.new) }
+    {
+        let _windows = self.left.len();
+        rounded.leave_out(row, offset, residues);
+        self.right.take_lanes(row, residues, (row + offset) as u32);
+        self.left.take_lanes(row + offset, residues, row as u32);
+    }
+
+    /// Finds the greatest residues of a block's rows and columns anew, since these may be lower now.
+    fn refresh(&mut self, row: usize, column: usize)
+        requires row { row + BLOCK ≤ length self.old.right }
+        requires column { column + BLOCK ≤ length self.old.left }
+        ensures { self.new ≡ self.old }
+    {
+        self.right.refresh_from(row);
+        self.left.refresh_from(column);
+    }
+
+    /// Takes the pairs of a block, whose core has this residue.
+    fn take_each(&mut self, rounded: &Rounded, row: usize, offset: usize, residue: i32)
+        requires apart { 1 ≤ offset }
+        requires within { row + offset + BLOCK ≤ length rounded.now.free.now }
+        requires residue { residue ≡ residue_of (core_in rounded.now.plan row (row + offset)) }
+        requires exact { rounded.now.plan.is_exact ≡ true }
+        requires places { HasPlaces (length rounded.now.free.now) self.old }
+        ensures { AreTaken rounded.now.plan (is_pair_from offset row (row + BLOCK))
+            (bounded_by rounded.now.plan self.old) (bounded_by rounded.now.plan self.new) }
+    {
+        let mut residues = [0; BLOCK];
+        rounded.fill_residues(row, offset, residue, &mut residues);
+        self.take_residues(rounded, row, offset, &mut residues);
+        self.refresh(row, row + offset);
+    }
+
+    /// Whether the pairs of successive rows and columns may give something, of which each has a core of this residue.
+    #[inline]
+    fn may_give(&self, row: usize, column: usize, residue: i32) -> bool
+        requires row { row + BLOCK ≤ length self.now.right }
+        requires column { column + BLOCK ≤ length self.now.left }
+        ensures rows { result ≡ false → (m k : ℕ) → k < BLOCK
+            → IsQuiet m 0 (slice_index_or self.now.right (row + k) None) residue }
+        ensures columns { result ≡ false → (m k : ℕ) → k < BLOCK
+            → IsQuiet m 0 (slice_index_or self.now.left (column + k) None) residue }
+        ensures lesser { self.now.all ≡ merged_column self.now.left self.now.right }
+    {
+        passes(
+            residue,
+            self.right.greatest_from(row),
+            self.left.greatest_from(column),
+        )
+    }
+
+    /// The first of a diagonal's blocks from one on whose pairs may give something, or the end of them all. Apart from
+    /// what a block's pairs are taken by, this is a short loop.
+    #[inline]
+    fn next_near(&self, rounded: &Rounded, offset: usize, blocks: usize, from: Core) -> Core
+        requires apart { 1 ≤ offset }
+        requires within { BLOCK * blocks + offset ≤ length rounded.now.free.now }
+        requires order { from.block ≤ blocks }
+        requires residue { from.residue
+            ≡ residue_of (core_in rounded.now.plan (BLOCK * from.block) (BLOCK * from.block + offset)) }
+        requires exact { rounded.now.plan.is_exact ≡ true }
+        requires places { HasPlaces (length rounded.now.free.now) self.now }
+        ensures behind { from.block ≤ result.block }
+        ensures within { result.block ≤ blocks }
+        ensures residue { result.residue
+            ≡ residue_of (core_in rounded.now.plan (BLOCK * result.block) (BLOCK * result.block + offset)) }
+        ensures passed { AreTaken rounded.now.plan (is_pair_from offset (BLOCK * from.block) (BLOCK * result.block))
+            (bounded_by rounded.now.plan self.now) (bounded_by rounded.now.plan self.now) }
+    {
+        let Core {
+            mut block,
+            mut residue,
+        } = from;
+        while block < blocks {
+            let row = BLOCK * block;
+            if self.may_give(row, row + offset, residue) {
+                break;
+            }
+            residue = rounded.next_core(row, offset, residue);
+            block += 1;
+        }
+        Core { block, residue }
+    }
+
+    /// Takes the pairs of as many blocks as a diagonal has.
+    fn take_blocks(&mut self, rounded: &Rounded, offset: usize, blocks: usize)
+        requires apart { 1 ≤ offset }
+        requires behind { offset < length rounded.now.free.now }
+        requires within { BLOCK * blocks + offset ≤ length rounded.now.free.now }
+        requires exact { rounded.now.plan.is_exact ≡ true }
+        requires places { HasPlaces (length rounded.now.free.now) self.old }
+        ensures { AreTaken rounded.now.plan (is_pair_from offset 0 (BLOCK * blocks))
+            (bounded_by rounded.now.plan self.old) (bounded_by rounded.now.plan self.new) }
+    {
+        let first = Core {
+            block: 0,
+            residue: rounded.first_core(offset),
+        };
+        let mut near = self.next_near(rounded, offset, blocks, first);
+        while near.block < blocks {
+            let row = BLOCK * near.block;
+            self.take_each(rounded, row, offset, near.residue);
+            let next = Core {
+                block: near.block + 1,
+                residue: rounded.next_core(row, offset, near.residue),
+            };
+            near = self.next_near(rounded, offset, blocks, next);
+        }
+    }
+
+    /// Takes so many successive pairs of a diagonal, one by one.
+    fn take_pairs(&mut self, rounded: &Rounded, row: usize, offset: usize, count: usize)
+        requires apart { 1 ≤ offset }
+        requires some { 1 ≤ count }
+        requires within { row + offset + count ≤ length rounded.now.free.now }
+        requires exact { rounded.now.plan.is_exact ≡ true }
+        requires places { HasPlaces (length rounded.now.free.now) self.old }
+        ensures { AreTaken rounded.now.plan (is_pair_from offset row (row + count))
+            (bounded_by rounded.now.plan self.old) (bounded_by rounded.now.plan self.new) }
+    {
+        let mut residue = rounded.whole(row, offset);
+        for k in 0..count {
+            self.take_residues(rounded, row + k, offset, &mut [residue]);
+            residue = rounded.next_whole(row + k, offset, residue);
+        }
+    }
+
+    /// Takes the pairs of a diagonal from a row on.
+    fn take_rest(&mut self, rounded: &Rounded, row: usize, offset: usize)
+        requires apart { 1 ≤ offset }
+        requires within { row + offset ≤ length rounded.now.free.now }
+        requires exact { rounded.now.plan.is_exact ≡ true }
+        requires places { HasPlaces (length rounded.now.free.now) self.old }
+        ensures { AreTaken rounded.now.plan (is_pair_from offset row (length rounded.now.free.now - offset))
+            (bounded_by rounded.now.plan self.old) (bounded_by rounded.now.plan self.new) }
+    {
+        let end = rounded.free.len() - offset;
+        if row < end {
+            self.take_pairs(rounded, row, offset, end - row);
+        }
+    }
+
+    /// Takes the pairs of windows that start so far apart.
+    pub(crate) fn take_along(&mut self, rounded: &Rounded, offset: usize)
+        requires apart { 1 ≤ offset }
+        requires within { offset < length rounded.now.free.now }
+        requires exact { rounded.now.plan.is_exact ≡ true }
+        requires places { HasPlaces (length rounded.now.free.now) self.old }
+        ensures { IsScanned (starts_behind offset) rounded.now.plan.grid.m (series_in rounded.now.plan) self.old
+            self.new }
+    {
+        let blocks = (rounded.free.len() - offset) / BLOCK;
+        self.take_blocks(rounded, offset, blocks);
+        self.take_rest(rounded, BLOCK * blocks, offset);
+    }
+
+    /// Merges both sides of a profile of the same windows into what was found, as far as their distances have residues.
+    pub(crate) fn take_profile(&mut self, profile: &Profile)
+        requires places { length profile.now.all ≡ length self.old.all }
+        ensures value { columns_of self.new
+            ≡ merged_columns (columns_of self.old) (columns_of (kept_sides has_residue profile.now)) }
+        ensures places { length self.new.all ≡ length self.old.all }
+        ensures is_value { HasColumns 3 (length self.new.all) (columns_of self.new) }
+        ensures room { self.new.room ≡ self.old.room }
+    {
+        let _windows = profile.len();
+        self.right.offer_column(profile.right());
+        self.left.offer_column(profile.left());
+        self.right.refresh();
+        self.left.refresh();
+    }
+
+    /// Merges what was found into a profile of the same windows.
+    pub(crate) fn put_into(&self, profile: &mut Profile)
+        requires places { length profile.old.all ≡ length self.now.left }
+        requires left { AreEarlier self.now.left }
+        requires right { AreLater (length profile.old.all) self.now.right }
+        ensures left { profile.new.left ≡ merged_column profile.old.left self.now.left }
+        ensures right { profile.new.right ≡ merged_column profile.old.right self.now.right }
+        ensures spare { profile.new.spare ≡ profile.old.spare }
+    {
+        offer_earlier(profile, &self.left);
+        offer_later(profile, &self.right);
+    }
+}
+
+impl Part for ResidueFound {
+    ghost value = { columns_of };
+
+    ghost size_of = { λ found. length found.all };
+
+    ghost room_of = { λ found. found.room };
+
+    ghost is_value = { HasColumns 3 };
+
+    ghost unit_of = { empty_columns 3 };
+
+    ghost merged = { merged_columns };
+
+    ghost laws = { columns_merge 3 };
+
+    fn unit(alloc: Global, size: u64) -> Result<Self, Memory> {
+        Ok(ResidueFound {
+            left: ResidueSide::none_found(alloc, size)?,
+            right: ResidueSide::none_found(alloc, size)?,
+        })
+    }
+
+    fn size(&self) -> u64 {
+        self.left.len() as u64
+    }
+
+    fn clear(&mut self) {
+        self.left.clear();
+        self.right.clear();
+    }
+
+    fn merge(&mut self, other: &Self) {
+        self.left.merge(&other.left);
+        self.right.merge(&other.right);
+    }
+
+    fn take_over(&mut self, other: &Self) {
+        self.left.copy_from(&other.left);
+        self.right.copy_from(&other.right);
+    }
+}
