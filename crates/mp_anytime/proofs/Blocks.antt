@@ -22,7 +22,7 @@ use Rattle.mp_sums.specs.declared.residues.TheConstants.{ALWAYS}
 use Rattle.mp_tiles.specs.OfferingLaws.{each_to_other}
 use Rattle.mp_tiles.specs.Scanning.{HasPlaces, IsScanned, taken}
 use Rattle.mp_anytime.specs.Bounds.{AreTaken, IsFor, both_sides}
-use Rattle.mp_anytime.specs.declared.rounded.Rounded.{Rounded}
+use Rattle.mp_anytime.specs.declared.narrow.Narrow.{Narrow}
 use Rattle.mp_anytime.specs.Rounded.{rounded_sum, series_in, whole_in}
 use Rattle.mp_anytime.specs.Scanning.{AreFree, is_pair_from}
 use Rattle.mp_anytime.specs.Told.{IsTold, bounded_by, lanes_taken, slot_at, slot_by, told}
@@ -53,10 +53,10 @@ pub placed : (plan : Plan) (w : ℕ) (found : Profiled) → w ≡ windows_of pla
     → HasPlaces w found → HasPlaces (windows_of plan.grid.m (series_in plan)) found
 placed plan w found count h = subst (λ n. HasPlaces n found) count h
 
-pub for_these : (rounded : Rounded) (found : Profiled) → HasPlaces (length rounded.free.now) found
-    → IsFor rounded.plan (bounded_by rounded.plan found)
-for_these rounded found h =
-    sides_for rounded.plan found (placed rounded.plan (length rounded.free.now) found rounded.lists.marks.places h)
+pub for_these : (narrow : Narrow) (found : Profiled) → HasPlaces (length narrow.free.now) found
+    → IsFor narrow.plan (bounded_by narrow.plan found)
+for_these narrow found h =
+    sides_for narrow.plan found (placed narrow.plan (length narrow.free.now) found narrow.lists.marks.places h)
 
 -- as many as there were
 pub still_placed : (plan : Plan) (w : ℕ) (pairs : ℕ → ℕ → Bool) (old new : Profiled)

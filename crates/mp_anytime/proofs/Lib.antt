@@ -8,6 +8,7 @@ pub mod Appending
 pub mod Distances
 pub mod Greatest
 pub mod Moves
+pub mod NarrowLemmas
 pub mod Free
 pub mod Lanes
 pub mod Quiet

@@ -268,14 +268,15 @@ quiet_pair plan row column r found is order lt here right left lesser = record {
         subst (λ n. IsQuiet n plan.rounding.shift slot r) is.m_is
         (subst (λ n. IsQuiet found.m n slot r) is.shift_is q)
 
--- a block
-pub quiet_block : (plan : Plan) (row offset : ℕ) (r : ℤ) (found : Bounded) → IsFor plan found → 1 ≤ offset
-    → r ≡ residue (core_in plan row (row + offset))
-    → ((k : ℕ) → k < 32 → IsQuiet found.m found.shift (get_or found.profile.right (row + k) None) r)
-    → ((k : ℕ) → k < 32 → IsQuiet found.m found.shift (get_or found.profile.left (row + offset + k) None) r)
+-- successive pairs of a diagonal, each by the residue of a part of its sum
+quiet_parts : (plan : Plan) (row offset : ℕ) (part : ℕ → ℕ) (r : ℕ → ℤ) (found : Bounded) → IsFor plan found
+    → 1 ≤ offset → ((k : ℕ) → k < 32 → part k ≤ whole_in plan (row + k) (row + offset + k))
+    → ((k : ℕ) → k < 32 → r k ≡ residue (part k))
+    → ((k : ℕ) → k < 32 → IsQuiet found.m found.shift (get_or found.profile.right (row + k) None) (r k))
+    → ((k : ℕ) → k < 32 → IsQuiet found.m found.shift (get_or found.profile.left (row + offset + k) None) (r k))
     → found.profile.all ≡ merged_column found.profile.left found.profile.right
     → AreTaken plan (is_pair_from offset row (row + 32)) found found
-quiet_block plan row offset r found is apart here right left lesser = record {
+quiet_parts plan row offset part r found is apart within here right left lesser = record {
   scanned = quiet_pairs (is_pair_from offset row (row + 32)) plan.grid.m a found.profile is.places lesser
       (λ i j e. let at = is_from offset row (row + 32) i j e in omega (arith, at.column, apart))
       (λ i j d e there.
@@ -284,17 +285,15 @@ quiet_block plan row offset r found is apart here right left lesser = record {
       let lt : k < 32 = omega (arith, at.before, at.behind) in
       let i_is : row + k ≡ i = omega (arith, at.behind) in
       let j_is : row + offset + k ≡ j = omega (arith, at.behind, at.column) in
-      let part : core_in plan row (row + offset) ≤ rounded_sum plan.grid.m plan.rounding.shift a i j =
-      subst (λ q. core_in plan row (row + offset) ≤ rounded_sum plan.grid.m plan.rounding.shift a i q) j_is
-      (subst (λ q. core_in plan row (row + offset)
-      ≤ rounded_sum plan.grid.m plan.rounding.shift a q (row + offset + k)) i_is
-      (core_within plan.grid.m plan.rounding.shift a row (row + offset) k lt)) in (
+      let less : part k ≤ whole_in plan i j =
+      subst (λ q. part k ≤ whole_in plan i q) j_is
+      (subst (λ q. part k ≤ whole_in plan q (row + offset + k)) i_is (within k lt)) in (
         subst (λ q. Covers (get_or found.profile.right q None) j d) i_is
-            ((quiet_by (get_or found.profile.right (row + k) None) (right k lt)).nothing a i j d
-            (core_in plan row (row + offset)) j there part here),
+            ((quiet_by (get_or found.profile.right (row + k) None) (r k) (right k lt)).nothing a i j d
+            (part k) j there less (here k lt)),
         subst (λ q. Covers (get_or found.profile.left q None) i d) j_is
-            ((quiet_by (get_or found.profile.left (row + offset + k) None) (left k lt)).nothing a i j d
-            (core_in plan row (row + offset)) i there part here),
+            ((quiet_by (get_or found.profile.left (row + offset + k) None) (r k) (left k lt)).nothing a i j d
+            (part k) i there less (here k lt)),
       ));
   same_m = refl;
   same_shift = refl;
@@ -303,11 +302,35 @@ quiet_block plan row offset r found is apart here right left lesser = record {
     a : Series
     a = series_in plan
 
-    quiet_by : (slot : Option Near) → IsQuiet found.m found.shift slot r
+    quiet_by : (slot : Option Near) (r : ℤ) → IsQuiet found.m found.shift slot r
         → IsQuiet plan.grid.m plan.rounding.shift slot r
-    quiet_by slot q =
+    quiet_by slot r q =
         subst (λ n. IsQuiet n plan.rounding.shift slot r) is.m_is
         (subst (λ n. IsQuiet found.m n slot r) is.shift_is q)
+
+-- a block, by the residue of its core
+pub quiet_block : (plan : Plan) (row offset : ℕ) (r : ℤ) (found : Bounded) → IsFor plan found → 1 ≤ offset
+    → r ≡ residue (core_in plan row (row + offset))
+    → ((k : ℕ) → k < 32 → IsQuiet found.m found.shift (get_or found.profile.right (row + k) None) r)
+    → ((k : ℕ) → k < 32 → IsQuiet found.m found.shift (get_or found.profile.left (row + offset + k) None) r)
+    → found.profile.all ≡ merged_column found.profile.left found.profile.right
+    → AreTaken plan (is_pair_from offset row (row + 32)) found found
+quiet_block plan row offset r found is apart here right left lesser =
+    quiet_parts plan row offset (λ _. core_in plan row (row + offset)) (λ _. r) found is apart
+    (λ k lt. core_within plan.grid.m plan.rounding.shift (series_in plan) row (row + offset) k lt) (λ _ _. here) right
+    left lesser
+
+-- the same by the residues of its pairs
+pub quiet_lanes : (plan : Plan) (row offset : ℕ) (rs : List ℤ) (found : Bounded) → IsFor plan found → 1 ≤ offset
+    → ((k : ℕ) → k < 32 → item rs k ≡ residue (whole_in plan (row + k) (row + k + offset)))
+    → ((k : ℕ) → k < 32 → IsQuiet found.m found.shift (get_or found.profile.right (row + k) None) (item rs k))
+    → ((k : ℕ) → k < 32 → IsQuiet found.m found.shift (get_or found.profile.left (row + offset + k) None) (item rs k))
+    → found.profile.all ≡ merged_column found.profile.left found.profile.right
+    → AreTaken plan (is_pair_from offset row (row + 32)) found found
+quiet_lanes plan row offset rs found is apart are right left lesser =
+    quiet_parts plan row offset (λ k. whole_in plan (row + k) (row + offset + k)) (item rs) found is apart
+    (λ k lt. omega arith) (λ k lt. are k lt ∙ ap (λ q. residue (whole_in plan (row + k) q)) (omega arith)) right left
+    lesser
 
 some_same : (x y : ℕ) → Some x ≡ Some y → x ≡ y
 some_same x y e = cc

@@ -1,5 +1,6 @@
 pub mod Scanning
 pub mod Rounded
+pub mod Narrow
 pub mod Bounds
 pub mod Bits
 pub mod Told

@@ -80,6 +80,18 @@ fn comes_before(residue: i32, start: u32, nearest: i32, known: u32) -> bool
     (residue < nearest) | ((residue == nearest) & (start < known))
 }
 
+/// Whether one of some residues is at most the bound at its place.
+fn are_reached(bounds: &[i32], residues: &[i32]) -> bool
+    requires { length bounds.now ≡ length residues.now }
+    ensures { result ≡ false → (k : ℕ) → k < length residues.now → item bounds.now k <ℤ item residues.now k }
+{
+    let mut some = false;
+    for k in 0..residues.len() {
+        some = (residues[k] <= bounds[k]) | some;
+    }
+    some
+}
+
 /// Takes a window and its residue, if it comes before the nearest one at a place.
 #[inline]
 fn take_at(windows: &mut [i32], starts: &mut [u32], place: usize, residue: i32, start: u32)
@@ -172,6 +184,17 @@ impl Bounds {
     {
         let blocks = self.blocks.as_slice();
         blocks[place / BLOCK].max(blocks[(place + BLOCK - 1) / BLOCK])
+    }
+
+    /// Whether one of some residues is at most the bound of its window, from a place on.
+    #[inline]
+    pub(crate) fn are_reached_from(&self, place: usize, residues: &[i32]) -> bool
+        requires { place + length residues.now ≤ length self.now }
+        ensures { result ≡ false → (k : ℕ) → k < length residues.now
+            → item self.now (place + k) <ℤ item residues.now k }
+    {
+        let windows = self.windows.as_slice();
+        are_reached(&windows[place..place + residues.len()], residues)
     }
 
     /// Puts a bound in place of another.

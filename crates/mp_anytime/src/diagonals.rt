@@ -19,6 +19,7 @@ use crate::any_found::AnyFound;
 use crate::coverage::Coverage;
 use crate::found::Found;
 use crate::kept::Kept;
+use crate::narrow::{Narrow, NarrowList, lie_near};
 use crate::residue_found::ResidueFound;
 use crate::residue_kernels::{ResidueDiagonals, ResidueKept};
 use crate::rounded::{Lists, Rounded};
@@ -42,6 +43,7 @@ pub(crate) struct Diagonals<'a> {
 }
 
 impl<'a> Model for Diagonals<'a> {
+    ghost use Rattle.std.specs.Prelude.{length};
     ghost use Rattle.mp_anytime.specs.Diagonals.{Along, IsAlong};
 
     ghost Value = { Along };
@@ -52,7 +54,7 @@ impl<'a> Model for Diagonals<'a> {
       offsets = d.offsets.now;
     } };
 
-    ghost invariant = { λ d. IsAlong d.rounded d.offsets.now };
+    ghost invariant = { λ d. IsAlong (length d.rounded.free.now) d.offsets.now };
 }
 
 impl<'a> Diagonals<'a> {
@@ -99,12 +101,15 @@ impl<'a> Kernel for Diagonals<'a> {
     }
 }
 
-/// For each window whether it is free.
+/// For each window whether it is free. Where no sample is missing, all are.
 fn free_windows(alloc: Global, samples: &Samples, m: u32) -> Result<Vec<bool>, Memory>
     requires { 1 ≤ m }
     ensures { IfOk result (λ free. AreFree m (series_of samples.now.items) free.items) }
 {
     let count = windows(samples.len(), m);
+    if samples.free(0, samples.len() as u32) {
+        return Ok(vec![in alloc; true; count as usize]?);
+    }
     let mut free = Vec::with_capacity(alloc, count as usize)?;
     for i in 0..count {
         free.push(samples.free(i, m))?;
@@ -161,30 +166,29 @@ fn beginners(covered: &[u64], workers: u32) -> u64
 fn found_by_residues<R: Threads + Sync, G: Gate>(
     rt: &R,
     alloc: Global,
-    rounded: Rounded,
+    narrow: Narrow,
     kept: &Profile,
     offsets: &[u64],
     beginners: u64,
     workers: u32,
     gate: &G,
 ) -> Result<ResidueFound, Memory>
-    requires exact { rounded.plan.is_exact ≡ true }
-    requires diagonals { All (IsDiagonal rounded.plan.grid.m
-        (windows_in (length rounded.plan.grid.rows.now) rounded.plan.grid.m)) offsets.now }
+    requires diagonals { All (IsDiagonal narrow.plan.grid.m
+        (windows_in (length narrow.plan.grid.rows.now) narrow.plan.grid.m)) offsets.now }
     requires few { length offsets.now ≤ MAX_PIECES }
     requires beginners { beginners ≤ MAX_WORKERS }
     requires none { beginners ≡ 0 → columns_of (kept_sides has_residue kept.now)
         ≡ empty_columns 3 (length kept.now.all) }
     requires places { length kept.now.all
-        ≡ windows_in (length rounded.plan.grid.rows.now) rounded.plan.grid.m }
+        ≡ windows_in (length narrow.plan.grid.rows.now) narrow.plan.grid.m }
     requires some { 1 ≤ workers }
     requires workers { workers ≤ MAX_WORKERS }
     ensures { IfOk result (λ found. columns_of found ≡ merged_columns (columns_of (kept_sides has_residue kept.now))
-        (columns_value (profile (lie_along offsets.now) rounded.entry.plan.grid.m
-        (series_of rounded.entry.plan.grid.rows.now)))) }
+        (columns_value (profile (lie_along offsets.now) narrow.entry.plan.grid.m
+        (series_of narrow.entry.plan.grid.rows.now)))) }
 {
     let first = ResidueKept::new(kept, beginners);
-    let diagonals = ResidueDiagonals::new(rounded, offsets);
+    let diagonals = ResidueDiagonals::new(narrow, offsets);
     run_one_after_another(rt, alloc, &first, &diagonals, workers, gate)
 }
 
@@ -249,16 +253,19 @@ pub(crate) fn found_along<R: Threads + Sync, G: Gate>(
     let windows = kept.profile.len();
     let free = free_windows(alloc, samples, m)?;
     let plan = own_plan(samples.lend(), m);
-    let lists = Lists::of(alloc, &plan, free)?;
     let order = walked(alloc, offsets)?;
     let order = order.as_slice();
     let workers = workers_for(windows.saturating_mul(order.len() as u64), workers);
     let count = beginners(kept.covered.as_slice(), workers);
-    let (rounded, profile) = (lists.rounded(), &kept.profile);
-    if plan.is_exact {
-        let found = found_by_residues(rt, alloc, rounded, profile, order, count, workers, gate)?;
+    let profile = &kept.profile;
+    if plan.is_exact & lie_near(plan.grid.rows) {
+        let list = NarrowList::of(alloc, &plan, free)?;
+        let narrow = list.narrow();
+        let found = found_by_residues(rt, alloc, narrow, profile, order, count, workers, gate)?;
         return Ok(AnyFound::ByResidue(found));
     }
+    let lists = Lists::of(alloc, &plan, free)?;
+    let rounded = lists.rounded();
     let found = found_by_distances(rt, alloc, rounded, profile, order, count, workers, gate)?;
     Ok(AnyFound::ByDistance(found))
 }

@@ -1,6 +1,6 @@
 //! A profile in parts.
 
-ghost use Rattle.std.specs.Prelude.{◌≡◌, ℕ, ◌+◌, ◌*◌, ◌<◌, ◌≤◌, ◌↔◌, [], ◌∷◌};
+ghost use Rattle.std.specs.Prelude.{◌≡◌, ◌+◌, ◌*◌, ◌<◌, ◌≤◌, ◌↔◌, [], ◌∷◌};
 ghost use Rattle.std.specs.Prelude.{◌++◌, length};
 ghost use Rattle.std.specs.Prelude.{IsOk, IsErrOf, IsTrue, IfOk, OnOk, OnErr};
 ghost use Rattle.mp_defs.specs.Limits.{max_samples};

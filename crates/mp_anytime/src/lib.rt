@@ -17,6 +17,7 @@ mod laws;
 mod lazy;
 mod limits;
 mod moving;
+mod narrow;
 mod offers;
 mod pairs;
 mod residue_found;

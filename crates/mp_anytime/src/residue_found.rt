@@ -1,6 +1,6 @@
 //! What was found along some diagonals of a series whose residues tell the distances.
 
-ghost use Rattle.std.specs.Prelude.{◌≡◌, ℕ, ◌+◌, ◌-◌, ◌*◌, ◌<◌, ◌≤◌, length, true, false};
+ghost use Rattle.std.specs.Prelude.{◌≡◌, ℕ, ◌+◌, ◌-◌, ◌*◌, ◌<◌, ◌≤◌, length, false};
 ghost use Rattle.std.specs.Prelude.{slice_index_or, None};
 ghost use Rattle.mp_sums.specs.Residues.{item, residue as residue_of};
 ghost use Rattle.mp_partial.specs.Values.{HasColumns, empty_columns, merged_column, merged_columns};
@@ -11,20 +11,43 @@ ghost use Rattle.mp_anytime.specs.Rounded.{core_in, series_in, whole_in};
 ghost use Rattle.mp_anytime.specs.Bounds.{AreTaken, IsQuiet, columns_of, has_residue, kept_sides};
 ghost use Rattle.mp_anytime.specs.Told.{bounded_by};
 
+use crate::narrow::Narrow;
 use crate::pairs::{offer_left, offer_right};
 use crate::residue_sides::ResidueSide;
-use crate::rounded::{BLOCK, Rounded};
+use crate::rounded::BLOCK;
 use mp_nums::Memory;
 use mp_partial::{Part, Profile};
 use mp_sums::passes;
 use std::alloc::Global;
 use std::marker::Model;
 
-/// A block of a diagonal, by how many come before it, and the residue of its core.
+/// A block of a diagonal, by how many come before it, and the residue of its core, where the diagonal has it.
 #[derive(Clone, Copy)]
 struct Core {
     block: usize,
     residue: i32,
+}
+
+impl Core {
+    /// The next block, and the residue of its core, where there are more blocks.
+    #[inline]
+    fn next(self, narrow: &Narrow, offset: usize, blocks: usize) -> Core
+        requires within { BLOCK * blocks + offset ≤ length narrow.now.free.now }
+        requires there { self.block < blocks }
+        requires residue { self.residue
+            ≡ residue_of (core_in narrow.now.plan (BLOCK * self.block) (BLOCK * self.block + offset)) }
+        ensures next { result.block ≡ self.block + 1 }
+        ensures residue { result.block < blocks → result.residue
+            ≡ residue_of (core_in narrow.now.plan (BLOCK * result.block) (BLOCK * result.block + offset)) }
+    {
+        let block = self.block + 1;
+        let residue = if block < blocks {
+            narrow.next_core(BLOCK * self.block, offset, self.residue)
+        } else {
+            self.residue
+        };
+        Core { block, residue }
+    }
 }
 
 /// What was found on both sides of each window among the pairs on some diagonals, where residues tell the distances.
@@ -83,18 +106,17 @@ impl ResidueFound {
     /// Takes successive pairs of a diagonal, which have these residues. Where a sample is missing, the greatest residue
     /// is put in place of a pair's.
     #[inline]
-    fn take_residues(&mut self, rounded: &Rounded, row: usize, offset: usize, residues: &mut [i32])
+    fn take_residues(&mut self, narrow: &Narrow, row: usize, offset: usize, residues: &mut [i32])
         requires apart { 1 ≤ offset }
-        requires within { row + offset + length residues.old ≤ length rounded.now.free.now }
+        requires within { row + offset + length residues.old ≤ length narrow.now.free.now }
         requires residues { (k : ℕ) → k < length residues.old
-            → item residues.old k ≡ residue_of (whole_in rounded.now.plan (row + k) (row + k + offset)) }
-        requires exact { rounded.now.plan.is_exact ≡ true }
-        requires places { HasPlaces (length rounded.now.free.now) self.old }
-        ensures { AreTaken rounded.now.plan (is_pair_from offset row (row + length residues.old))
-            (bounded_by rounded.now.plan self.old) (bounded_by rounded.now.plan self.new) }
+            → item residues.old k ≡ residue_of (whole_in narrow.now.plan (row + k) (row + k + offset)) }
+        requires places { HasPlaces (length narrow.now.free.now) self.old }
+        ensures { AreTaken narrow.now.plan (is_pair_from offset row (row + length residues.old))
+            (bounded_by narrow.now.plan self.old) (bounded_by narrow.now.plan self.new) }
     {
         let _windows = self.left.len();
-        rounded.leave_out(row, offset, residues);
+        narrow.leave_out(row, offset, residues);
         self.right.take_lanes(row, residues, (row + offset) as u32);
         self.left.take_lanes(row + offset, residues, row as u32);
     }
@@ -109,20 +131,36 @@ impl ResidueFound {
         self.left.refresh_from(column);
     }
 
+    /// Whether one of a block's pairs may give something, which have these residues.
+    #[inline]
+    fn may_give_some(&self, row: usize, column: usize, residues: &[i32]) -> bool
+        requires places { length residues.now ≡ BLOCK }
+        requires row { row + BLOCK ≤ length self.now.right }
+        requires column { column + BLOCK ≤ length self.now.left }
+        ensures rows { result ≡ false → (m k : ℕ) → k < BLOCK
+            → IsQuiet m 0 (slice_index_or self.now.right (row + k) None) (item residues.now k) }
+        ensures columns { result ≡ false → (m k : ℕ) → k < BLOCK
+            → IsQuiet m 0 (slice_index_or self.now.left (column + k) None) (item residues.now k) }
+        ensures lesser { self.now.all ≡ merged_column self.now.left self.now.right }
+    {
+        self.right.may_take(row, residues) | self.left.may_take(column, residues)
+    }
+
     /// Takes the pairs of a block, whose core has this residue.
-    fn take_each(&mut self, rounded: &Rounded, row: usize, offset: usize, residue: i32)
+    fn take_each(&mut self, narrow: &Narrow, row: usize, offset: usize, residue: i32)
         requires apart { 1 ≤ offset }
-        requires within { row + offset + BLOCK ≤ length rounded.now.free.now }
-        requires residue { residue ≡ residue_of (core_in rounded.now.plan row (row + offset)) }
-        requires exact { rounded.now.plan.is_exact ≡ true }
-        requires places { HasPlaces (length rounded.now.free.now) self.old }
-        ensures { AreTaken rounded.now.plan (is_pair_from offset row (row + BLOCK))
-            (bounded_by rounded.now.plan self.old) (bounded_by rounded.now.plan self.new) }
+        requires within { row + offset + BLOCK ≤ length narrow.now.free.now }
+        requires residue { residue ≡ residue_of (core_in narrow.now.plan row (row + offset)) }
+        requires places { HasPlaces (length narrow.now.free.now) self.old }
+        ensures { AreTaken narrow.now.plan (is_pair_from offset row (row + BLOCK))
+            (bounded_by narrow.now.plan self.old) (bounded_by narrow.now.plan self.new) }
     {
         let mut residues = [0; BLOCK];
-        rounded.fill_residues(row, offset, residue, &mut residues);
-        self.take_residues(rounded, row, offset, &mut residues);
-        self.refresh(row, row + offset);
+        narrow.fill_residues(row, offset, residue, &mut residues);
+        if self.may_give_some(row, row + offset, &residues) {
+            self.take_residues(narrow, row, offset, &mut residues);
+            self.refresh(row, row + offset);
+        }
     }
 
     /// Whether the pairs of successive rows and columns may give something, of which each has a core of this residue.
@@ -143,109 +181,96 @@ impl ResidueFound {
         )
     }
 
-    /// The first of a diagonal's blocks from one on whose pairs may give something, or the end of them all. Apart from
-    /// what a block's pairs are taken by, this is a short loop.
+    /// The first of a diagonal's blocks from one on whose pairs may give something, or the end of them all. Few
+    /// numbers are needed for that, so that this is a short loop.
     #[inline]
-    fn next_near(&self, rounded: &Rounded, offset: usize, blocks: usize, from: Core) -> Core
+    fn next_near(&self, narrow: &Narrow, offset: usize, blocks: usize, from: Core) -> Core
         requires apart { 1 ≤ offset }
-        requires within { BLOCK * blocks + offset ≤ length rounded.now.free.now }
+        requires within { BLOCK * blocks + offset ≤ length narrow.now.free.now }
         requires order { from.block ≤ blocks }
-        requires residue { from.residue
-            ≡ residue_of (core_in rounded.now.plan (BLOCK * from.block) (BLOCK * from.block + offset)) }
-        requires exact { rounded.now.plan.is_exact ≡ true }
-        requires places { HasPlaces (length rounded.now.free.now) self.now }
+        requires residue { from.block < blocks → from.residue
+            ≡ residue_of (core_in narrow.now.plan (BLOCK * from.block) (BLOCK * from.block + offset)) }
+        requires places { HasPlaces (length narrow.now.free.now) self.now }
         ensures behind { from.block ≤ result.block }
         ensures within { result.block ≤ blocks }
-        ensures residue { result.residue
-            ≡ residue_of (core_in rounded.now.plan (BLOCK * result.block) (BLOCK * result.block + offset)) }
-        ensures passed { AreTaken rounded.now.plan (is_pair_from offset (BLOCK * from.block) (BLOCK * result.block))
-            (bounded_by rounded.now.plan self.now) (bounded_by rounded.now.plan self.now) }
+        ensures residue { result.block < blocks → result.residue
+            ≡ residue_of (core_in narrow.now.plan (BLOCK * result.block) (BLOCK * result.block + offset)) }
+        ensures passed { AreTaken narrow.now.plan (is_pair_from offset (BLOCK * from.block) (BLOCK * result.block))
+            (bounded_by narrow.now.plan self.now) (bounded_by narrow.now.plan self.now) }
     {
-        let Core {
-            mut block,
-            mut residue,
-        } = from;
-        while block < blocks {
-            let row = BLOCK * block;
-            if self.may_give(row, row + offset, residue) {
+        let mut near = from;
+        while near.block < blocks {
+            let row = BLOCK * near.block;
+            if self.may_give(row, row + offset, near.residue) {
                 break;
             }
-            residue = rounded.next_core(row, offset, residue);
-            block += 1;
+            near = near.next(narrow, offset, blocks);
         }
-        Core { block, residue }
+        near
     }
 
     /// Takes the pairs of as many blocks as a diagonal has.
-    fn take_blocks(&mut self, rounded: &Rounded, offset: usize, blocks: usize)
+    fn take_blocks(&mut self, narrow: &Narrow, offset: usize, blocks: usize)
         requires apart { 1 ≤ offset }
-        requires behind { offset < length rounded.now.free.now }
-        requires within { BLOCK * blocks + offset ≤ length rounded.now.free.now }
-        requires exact { rounded.now.plan.is_exact ≡ true }
-        requires places { HasPlaces (length rounded.now.free.now) self.old }
-        ensures { AreTaken rounded.now.plan (is_pair_from offset 0 (BLOCK * blocks))
-            (bounded_by rounded.now.plan self.old) (bounded_by rounded.now.plan self.new) }
+        requires behind { offset < length narrow.now.free.now }
+        requires within { BLOCK * blocks + offset ≤ length narrow.now.free.now }
+        requires places { HasPlaces (length narrow.now.free.now) self.old }
+        ensures { AreTaken narrow.now.plan (is_pair_from offset 0 (BLOCK * blocks))
+            (bounded_by narrow.now.plan self.old) (bounded_by narrow.now.plan self.new) }
     {
         let first = Core {
             block: 0,
-            residue: rounded.first_core(offset),
+            residue: narrow.first_core(offset),
         };
-        let mut near = self.next_near(rounded, offset, blocks, first);
+        let mut near = self.next_near(narrow, offset, blocks, first);
         while near.block < blocks {
-            let row = BLOCK * near.block;
-            self.take_each(rounded, row, offset, near.residue);
-            let next = Core {
-                block: near.block + 1,
-                residue: rounded.next_core(row, offset, near.residue),
-            };
-            near = self.next_near(rounded, offset, blocks, next);
+            self.take_each(narrow, BLOCK * near.block, offset, near.residue);
+            near = self.next_near(narrow, offset, blocks, near.next(narrow, offset, blocks));
         }
     }
 
     /// Takes so many successive pairs of a diagonal, one by one.
-    fn take_pairs(&mut self, rounded: &Rounded, row: usize, offset: usize, count: usize)
+    fn take_pairs(&mut self, narrow: &Narrow, row: usize, offset: usize, count: usize)
         requires apart { 1 ≤ offset }
         requires some { 1 ≤ count }
-        requires within { row + offset + count ≤ length rounded.now.free.now }
-        requires exact { rounded.now.plan.is_exact ≡ true }
-        requires places { HasPlaces (length rounded.now.free.now) self.old }
-        ensures { AreTaken rounded.now.plan (is_pair_from offset row (row + count))
-            (bounded_by rounded.now.plan self.old) (bounded_by rounded.now.plan self.new) }
+        requires within { row + offset + count ≤ length narrow.now.free.now }
+        requires places { HasPlaces (length narrow.now.free.now) self.old }
+        ensures { AreTaken narrow.now.plan (is_pair_from offset row (row + count))
+            (bounded_by narrow.now.plan self.old) (bounded_by narrow.now.plan self.new) }
     {
-        let mut residue = rounded.whole(row, offset);
-        for k in 0..count {
-            self.take_residues(rounded, row + k, offset, &mut [residue]);
-            residue = rounded.next_whole(row + k, offset, residue);
+        let mut residue = narrow.whole(row, offset);
+        self.take_residues(narrow, row, offset, &mut [residue]);
+        for k in 1..count {
+            residue = narrow.next_whole(row + k - 1, offset, residue);
+            self.take_residues(narrow, row + k, offset, &mut [residue]);
         }
     }
 
     /// Takes the pairs of a diagonal from a row on.
-    fn take_rest(&mut self, rounded: &Rounded, row: usize, offset: usize)
+    fn take_rest(&mut self, narrow: &Narrow, row: usize, offset: usize)
         requires apart { 1 ≤ offset }
-        requires within { row + offset ≤ length rounded.now.free.now }
-        requires exact { rounded.now.plan.is_exact ≡ true }
-        requires places { HasPlaces (length rounded.now.free.now) self.old }
-        ensures { AreTaken rounded.now.plan (is_pair_from offset row (length rounded.now.free.now - offset))
-            (bounded_by rounded.now.plan self.old) (bounded_by rounded.now.plan self.new) }
+        requires within { row + offset ≤ length narrow.now.free.now }
+        requires places { HasPlaces (length narrow.now.free.now) self.old }
+        ensures { AreTaken narrow.now.plan (is_pair_from offset row (length narrow.now.free.now - offset))
+            (bounded_by narrow.now.plan self.old) (bounded_by narrow.now.plan self.new) }
     {
-        let end = rounded.free.len() - offset;
+        let end = narrow.free.len() - offset;
         if row < end {
-            self.take_pairs(rounded, row, offset, end - row);
+            self.take_pairs(narrow, row, offset, end - row);
         }
     }
 
     /// Takes the pairs of windows that start so far apart.
-    pub(crate) fn take_along(&mut self, rounded: &Rounded, offset: usize)
+    pub(crate) fn take_along(&mut self, narrow: &Narrow, offset: usize)
         requires apart { 1 ≤ offset }
-        requires within { offset < length rounded.now.free.now }
-        requires exact { rounded.now.plan.is_exact ≡ true }
-        requires places { HasPlaces (length rounded.now.free.now) self.old }
-        ensures { IsScanned (starts_behind offset) rounded.now.plan.grid.m (series_in rounded.now.plan) self.old
+        requires within { offset < length narrow.now.free.now }
+        requires places { HasPlaces (length narrow.now.free.now) self.old }
+        ensures { IsScanned (starts_behind offset) narrow.now.plan.grid.m (series_in narrow.now.plan) self.old
             self.new }
     {
-        let blocks = (rounded.free.len() - offset) / BLOCK;
-        self.take_blocks(rounded, offset, blocks);
-        self.take_rest(rounded, BLOCK * blocks, offset);
+        let blocks = (narrow.free.len() - offset) / BLOCK;
+        self.take_blocks(narrow, offset, blocks);
+        self.take_rest(narrow, BLOCK * blocks, offset);
     }
 
     /// Merges both sides of a profile of the same windows into what was found, as far as their distances have residues.

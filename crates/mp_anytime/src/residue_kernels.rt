@@ -1,11 +1,11 @@
 //! Diagonals of a series whose residues tell the distances, and a profile of before, as the pieces of kernels.
 
-ghost use Rattle.std.specs.Prelude.{◌≡◌, length, All, true};
+ghost use Rattle.std.specs.Prelude.{◌≡◌, length, All};
 ghost use Rattle.mp_defs.specs.Window.{windows as windows_in};
 ghost use Rattle.mp_anytime.specs.Kept.{IsDiagonal};
 
+use crate::narrow::Narrow;
 use crate::residue_found::ResidueFound;
-use crate::rounded::Rounded;
 use mp_partial::{Kernel, Part, Profile};
 use std::marker::Model;
 
@@ -13,36 +13,35 @@ use std::marker::Model;
 #[derive(Drop)]
 pub(crate) struct ResidueDiagonals<'a> {
     /// The windows, each a row and a column.
-    rounded: Rounded<'a>,
+    narrow: Narrow<'a>,
     offsets: &'a [u64],
 }
 
 impl<'a> Model for ResidueDiagonals<'a> {
-    ghost use Rattle.std.specs.Prelude.{◌≡◌, true};
+    ghost use Rattle.std.specs.Prelude.{length};
     ghost use Rattle.mp_anytime.specs.Diagonals.{Along, IsAlong};
 
     ghost Value = { Along };
 
     ghost view = { λ d. record {
-      samples = d.rounded.plan.grid.rows.now;
-      m = d.rounded.plan.grid.m;
+      samples = d.narrow.plan.grid.rows.now;
+      m = d.narrow.plan.grid.m;
       offsets = d.offsets.now;
     } };
 
-    ghost invariant = { λ d. IsAlong d.rounded d.offsets.now × (d.rounded.plan.is_exact ≡ true) };
+    ghost invariant = { λ d. IsAlong (length d.narrow.free.now) d.offsets.now };
 }
 
 impl<'a> ResidueDiagonals<'a> {
     /// The diagonals on which windows of a series start so far apart.
-    pub(crate) fn new(rounded: Rounded<'a>, offsets: &'a [u64]) -> ResidueDiagonals<'a>
-        requires diagonals { All (IsDiagonal rounded.plan.grid.m
-            (windows_in (length rounded.plan.grid.rows.now) rounded.plan.grid.m)) offsets.now }
-        requires exact { rounded.plan.is_exact ≡ true }
-        ensures samples { result.samples ≡ rounded.entry.plan.grid.rows.now }
-        ensures m { result.m ≡ rounded.entry.plan.grid.m }
+    pub(crate) fn new(narrow: Narrow<'a>, offsets: &'a [u64]) -> ResidueDiagonals<'a>
+        requires { All (IsDiagonal narrow.plan.grid.m
+            (windows_in (length narrow.plan.grid.rows.now) narrow.plan.grid.m)) offsets.now }
+        ensures samples { result.samples ≡ narrow.entry.plan.grid.rows.now }
+        ensures m { result.m ≡ narrow.entry.plan.grid.m }
         ensures offsets { result.offsets ≡ offsets.now }
     {
-        ResidueDiagonals { rounded, offsets }
+        ResidueDiagonals { narrow, offsets }
     }
 }
 
@@ -64,7 +63,7 @@ impl<'a> Kernel for ResidueDiagonals<'a> {
         columns_have_places (lie_apart (slice_index along.offsets piece)) along.m along.samples };
 
     fn size(&self) -> u64 {
-        self.rounded.free.len() as u64
+        self.narrow.free.len() as u64
     }
 
     fn pieces(&self) -> u64 {
@@ -73,7 +72,7 @@ impl<'a> Kernel for ResidueDiagonals<'a> {
 
     fn run(&self, piece: u64, into: &mut ResidueFound) {
         let _windows = into.size();
-        into.take_along(&self.rounded, self.offsets[piece as usize] as usize);
+        into.take_along(&self.narrow, self.offsets[piece as usize] as usize);
     }
 }
 

@@ -1,9 +1,9 @@
 //! The nearest windows on one side, where residues tell the distances.
 
-ghost use Rattle.std.specs.Prelude.{◌≡◌, ℕ, ◌+◌, ◌<◌, ◌≤◌, length, slice_index_or, None, IfOk, ℤ, ◌<ℤ◌};
+ghost use Rattle.std.specs.Prelude.{◌≡◌, ℕ, ◌+◌, ◌<◌, ◌≤◌, length, slice_index_or, None, IfOk, ℤ, ◌<ℤ◌, false};
 ghost use Rattle.mp_series.specs.declared.limits.TheConstants.{MAX_SAMPLES};
 ghost use Rattle.mp_partial.specs.Values.{empty_column, merged_column};
-ghost use Rattle.mp_sums.specs.Residues.{residue as residue_by};
+ghost use Rattle.mp_sums.specs.Residues.{item, residue as residue_by};
 ghost use Rattle.mp_tiles.specs.Scanning.{taken};
 ghost use Rattle.mp_anytime.specs.Bounds.{IsQuiet, has_residue as has_residue_by, numbered, numbered_slots};
 ghost use Rattle.mp_anytime.specs.Told.{AreTold, lanes_by, lanes_taken, slot_by};
@@ -132,6 +132,16 @@ impl ResidueSide {
             → IsQuiet m 0 (slice_index_or self.now (place + k) None) r }
     {
         self.residues.greatest_from(place)
+    }
+
+    /// Whether pairs of these residues may give one of successive windows something, from a place on.
+    #[inline]
+    pub(crate) fn may_take(&self, place: usize, residues: &[i32]) -> bool
+        requires { place + length residues.now ≤ length self.now }
+        ensures { result ≡ false → (m k : ℕ) → k < length residues.now
+            → IsQuiet m 0 (slice_index_or self.now (place + k) None) (item residues.now k) }
+    {
+        self.residues.are_reached_from(place, residues)
     }
 
     /// Offers windows that start one behind another to successive places, by the residues of the pairs.

@@ -1,9 +1,8 @@
 //! A series in rounded samples, whose residues tell of most pairs of windows that they give nothing.
 
 ghost use Rattle.std.specs.Prelude.{◌≡◌, ℕ, ◌+◌, ◌-◌, ◌^◌, ◌<◌, ◌≤◌, length, IfOk};
-ghost use Rattle.std.specs.Prelude.{IsSome, Some, ℤ, pos, ◌+ℤ◌, true, false, ◌&&◌, if◌then◌else◌, slice_index_or, min};
+ghost use Rattle.std.specs.Prelude.{IsSome, Some, ℤ, pos, ◌+ℤ◌, min};
 ghost use Rattle.std.specs.Int.{int_wrap, w32};
-ghost use Rattle.mp_sums.specs.declared.residues.TheConstants.{ALWAYS};
 ghost use Rattle.mp_sums.specs.Grids.{distance_in};
 ghost use Rattle.mp_sums.specs.Sums.{square_sum};
 ghost use Rattle.mp_sums.specs.Residues.{AreChanges, AreNumbers, item, moved, residue as residue_of};
@@ -13,14 +12,14 @@ ghost use Rattle.mp_anytime.specs.Rounded.{AreRounded, core_in, rounded_in, seri
 
 use mp_nums::Memory;
 use mp_scans::{Exact, Plan, exact_distance};
-use mp_sums::{ALWAYS, Change, ZERO, fill_changes, first_residue, next_residue, sum_of};
+use mp_sums::{Change, ZERO, fill_changes, first_residue, next_residue, sum_of};
 use std::alloc::Global;
 
 /// How many successive pairs of a diagonal are told at once that they give nothing.
 pub(crate) const BLOCK: usize = 32;
 
 /// How many samples of a block's first windows its last ones don't have.
-const BEHIND: usize = BLOCK - 1;
+pub(crate) const BEHIND: usize = BLOCK - 1;
 
 /// What comes in and what goes where successive windows move on by one: their differences, and their sums.
 #[derive(Clone, Copy)]
@@ -69,11 +68,8 @@ pub(crate) struct Rounded<'a> {
     numbers: &'a [i32],
     /// Whether no sample of a window is missing.
     pub(crate) free: &'a [bool],
-    /// Whether no sample is missing at all.
-    is_whole: bool,
     windows: Changes<'a>,
     cores: Changes<'a>,
-    ghost whole: { is_whole ≡ true → (k : ℕ) → k < length free.now → slice_index_or free.now k false ≡ true },
     ghost own: { plan.grid.columns.now ≡ plan.grid.rows.now },
     ghost lists: { AreRounded plan.grid.m plan.rounding.shift plan.grid.rows.now numbers.now free.now
         windows.differences.now windows.sums.now cores.differences.now cores.sums.now },
@@ -93,29 +89,11 @@ fn fill_steps(rows: &Changes, columns: &Changes, steps: &mut [i32])
     }
 }
 
-/// Puts the greatest residue in place of that of each pair whose row or column isn't free.
-#[inline]
-fn keep_free(rows: &[bool], columns: &[bool], residues: &mut [i32])
-    requires rows { length rows.now ≡ length residues.old }
-    requires columns { length columns.now ≡ length residues.old }
-    ensures residues { (k : ℕ) → k < length residues.new → item residues.new k
-        ≡ (if slice_index_or rows.now k false && slice_index_or columns.now k false then item residues.old k
-        else ALWAYS) }
-    ensures places { length residues.new ≡ length residues.old }
-{
-    for k in 0..residues.len() {
-        if rows[k] & columns[k] {
-            continue;
-        }
-        residues[k] = ALWAYS;
-    }
-}
-
 /// Finds the residue from which each step goes on, where the first one goes on from this.
-fn add_up(first: i32, steps: &[i32], residues: &mut [i32])
+pub(crate) fn add_up(first: i32, steps: &[i32], residues: &mut [i32])
     requires places { length residues.old ≡ length steps.now }
     ensures residues { (r : ℕ → ℤ) → first ≡ r 0
-        → ((k : ℕ) → k < length steps.now → int_wrap w32 (r k +ℤ item steps.now k) ≡ r (k + 1))
+        → ((k : ℕ) → k + 1 < length steps.now → int_wrap w32 (r k +ℤ item steps.now k) ≡ r (k + 1))
         → (k : ℕ) → k < length residues.new → item residues.new k ≡ r k }
     ensures places { length residues.new ≡ length residues.old }
 {
@@ -230,27 +208,6 @@ impl<'a> Rounded<'a> {
         add_up(self.whole_of(row, offset, core), &steps, residues);
     }
 
-    /// Puts the greatest residue in place of that of each pair of successive rows, each with the column so far behind
-    /// it, where a sample is missing.
-    #[inline]
-    pub(crate) fn leave_out(&self, row: usize, offset: usize, residues: &mut [i32])
-        requires within { row + offset + length residues.old ≤ length self.now.free.now }
-        ensures residues { (k : ℕ) → k < length residues.new → item residues.new k ≡
-            (if slice_index_or self.now.free.now (row + k) false
-            && slice_index_or self.now.free.now (row + k + offset) false then item residues.old k else ALWAYS) }
-        ensures places { length residues.new ≡ length residues.old }
-    {
-        if self.is_whole {
-            return;
-        }
-        let (column, count) = (row + offset, residues.len());
-        keep_free(
-            &self.free[row..row + count],
-            &self.free[column..column + count],
-            residues,
-        );
-    }
-
     /// The distance of a row and a column that lack no sample, which have this residue, from what is known of their
     /// diagonal.
     pub(crate) fn distance(
@@ -275,17 +232,6 @@ impl<'a> Rounded<'a> {
             exact_distance(&self.plan.grid, exact, row, column)
         }
     }
-}
-
-/// Whether all marks are set.
-fn are_all(marks: &[bool]) -> bool
-    ensures { result ≡ true → (k : ℕ) → k < length marks.now → slice_index_or marks.now k false ≡ true }
-{
-    let mut all = true;
-    for k in 0..marks.len() {
-        all = marks[k] & all;
-    }
-    all
 }
 
 /// A series with itself in rounded samples, and the memory that these take: some 20 bytes for each sample.
@@ -381,7 +327,6 @@ impl<'a> Lists<'a> {
             plan: self.plan,
             numbers: self.numbers.as_slice(),
             free: self.free.as_slice(),
-            is_whole: are_all(self.free.as_slice()),
             windows,
             cores,
         }

@@ -14,14 +14,14 @@ run_one_after_another-requires-clause-second g c = λ _ _.
 
 pub run_one_after_another-requires-clause-same_size : goal.run_one_after_another-requires-clause-same_size
 run_one_after_another-requires-clause-same_size g c = λ _ _.
-    let plan = c.args.rounded.plan in
+    let plan = c.args.narrow.plan in
     ap (λ (p : Profiled). length p.all) c.new-first.ensures.profile ∙ c.requires.places
     ∙ same_windows c.new-diagonals.result plan.grid.rows.now plan.grid.m c.new-diagonals.ensures.samples
     c.new-diagonals.ensures.m
 
 pub returns : goal.returns
 returns g c =
-    let plan = c.args.rounded.plan in
+    let plan = c.args.narrow.plan in
     found_by (λ (p : Profiled). p) has_residue c.run_one_after_another.result c.new-first.result c.args.kept.now
     c.new-diagonals.result c.args.offsets.now plan.grid.m plan.grid.rows.now
     (λ nobody. c.requires.none (sym c.new-first.ensures.pieces ∙ nobody)) c.new-first.ensures.profile

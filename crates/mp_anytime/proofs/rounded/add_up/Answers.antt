@@ -21,10 +21,11 @@ loop-k-preserved c =
       places = length-set residues k (to_z w32 bits) ∙ before.places;
       done = λ r first each.
           let so_far = before.done r first each in (
-            wrapping_add_onto w32 bits (item steps k) small fits
-                ∙ ap (λ z. int_wrap w32 (z +ℤ item steps k)) so_far.0
-                ∙ each k there,
-            set_next residues k (to_z w32 bits) r lt so_far.1 so_far.0,
+            λ next.
+                wrapping_add_onto w32 bits (item steps k) small fits
+                ∙ ap (λ z. int_wrap w32 (z +ℤ item steps k)) (so_far.0 there)
+                ∙ each k next,
+            set_next residues k (to_z w32 bits) r lt so_far.1 (so_far.0 there),
           );
     }
 

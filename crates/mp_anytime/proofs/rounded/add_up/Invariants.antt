@@ -7,6 +7,6 @@ abbrev pub invariant-loop-k : goal.invariant-loop-k
 invariant-loop-k l = record {
   places : length l.residues ≡ length l.initial.residues;
   done : (r : ℕ → ℤ) → l.first ≡ r 0
-      → ((q : ℕ) → q < length l.steps → int_wrap w32 (r q +ℤ item l.steps q) ≡ r (q + 1))
-      → (l.residue ≡ r l.k) × ((q : ℕ) → q < l.k → item l.residues q ≡ r q);
+      → ((q : ℕ) → q + 1 < length l.steps → int_wrap w32 (r q +ℤ item l.steps q) ≡ r (q + 1))
+      → (l.k < length l.steps → l.residue ≡ r l.k) × ((q : ℕ) → q < l.k → item l.residues q ≡ r q);
 }

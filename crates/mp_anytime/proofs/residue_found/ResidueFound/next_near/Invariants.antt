@@ -1,4 +1,4 @@
-use Rattle.std.proofs.Common.{◌≡◌, ◌+◌, ◌-◌, ◌*◌, ◌≤◌}
+use Rattle.std.proofs.Common.{◌≡◌, ◌+◌, ◌-◌, ◌*◌, ◌<◌, ◌≤◌}
 use Rattle.mp_sums.specs.Residues.{residue}
 use Rattle.mp_anytime.specs.Scanning.{is_pair_from}
 use Rattle.mp_anytime.specs.Rounded.{core_in}
@@ -6,14 +6,15 @@ use Rattle.mp_anytime.specs.Bounds.{AreTaken}
 use Rattle.mp_anytime.specs.Told.{bounded_by}
 use Rattle.mp_anytime.proofs.residue_found.ResidueFound.next_near.Given as goal
 
-abbrev pub invariant-loop-block : goal.invariant-loop-block
-invariant-loop-block l = record {
-  behind : l.fn.from.block ≤ l.block;
-  within : l.block ≤ l.blocks;
-  residue : l.residue ≡ residue (core_in l.rounded.plan (32 * l.block) (32 * l.block + l.offset));
-  passed : AreTaken l.rounded.plan (is_pair_from l.offset (32 * l.fn.from.block) (32 * l.block))
-      (bounded_by l.rounded.plan l.self) (bounded_by l.rounded.plan l.self);
+abbrev pub invariant-loop-near : goal.invariant-loop-near
+invariant-loop-near l = record {
+  behind : l.fn.from.block ≤ l.near.block;
+  within : l.near.block ≤ l.blocks;
+  residue : l.near.block < l.blocks
+      → l.near.residue ≡ residue (core_in l.narrow.plan (32 * l.near.block) (32 * l.near.block + l.offset));
+  passed : AreTaken l.narrow.plan (is_pair_from l.offset (32 * l.fn.from.block) (32 * l.near.block))
+      (bounded_by l.narrow.plan l.self) (bounded_by l.narrow.plan l.self);
 }
 
-abbrev pub decreases-loop-block : goal.decreases-loop-block
-decreases-loop-block l = l.blocks - l.block
+abbrev pub decreases-loop-near : goal.decreases-loop-near
+decreases-loop-near l = l.blocks - l.near.block

@@ -11,22 +11,22 @@ use Rattle.mp_anytime.proofs.residue_found.ResidueFound.take_residues.Goals as g
 
 pub take_lanes-requires-clause-told : goal.take_lanes-requires-clause-told
 take_lanes-requires-clause-told c =
-    let rounded = c.args.rounded.now in
+    let narrow = c.args.narrow.now in
     record {
-      each = λ k lt. (left_out_known rounded.plan rounded.free.now c.args.row c.args.offset c.args.residues.now
+      each = λ k lt. (left_out_known narrow.plan narrow.free.now c.args.row c.args.offset c.args.residues.now
           c.leave_out.new.residues
-          c.requires.exact rounded.own rounded.lists.marks c.requires.apart c.requires.within c.requires.residues
+          narrow.lists.exact narrow.lists.own narrow.lists.marks c.requires.apart c.requires.within c.requires.residues
           c.leave_out.ensures.places c.leave_out.ensures.residues k
           (omega (arith, lt, c.leave_out.ensures.places))).0;
     }
 
 pub take_lanes-requires-2-clause-told : goal.take_lanes-requires-2-clause-told
 take_lanes-requires-2-clause-told c =
-    let rounded = c.args.rounded.now in
+    let narrow = c.args.narrow.now in
     record {
-      each = λ k lt. (left_out_known rounded.plan rounded.free.now c.args.row c.args.offset c.args.residues.now
+      each = λ k lt. (left_out_known narrow.plan narrow.free.now c.args.row c.args.offset c.args.residues.now
           c.leave_out.new.residues
-          c.requires.exact rounded.own rounded.lists.marks c.requires.apart c.requires.within c.requires.residues
+          narrow.lists.exact narrow.lists.own narrow.lists.marks c.requires.apart c.requires.within c.requires.residues
           c.leave_out.ensures.places c.leave_out.ensures.residues k
           (omega (arith, lt, c.leave_out.ensures.places))).0;
     }
@@ -42,8 +42,8 @@ invariant_of-self c =
 
 pub returns : goal.returns
 returns c =
-    let rounded = c.args.rounded.now in
-    let plan = rounded.plan in
+    let narrow = c.args.narrow.now in
+    let plan = narrow.plan in
     let row = c.args.row in
     let offset = c.args.offset in
     let left = c.self.inside.left in
@@ -52,7 +52,7 @@ returns c =
     let n = length c.args.residues.now in
     let later = lanes_by residues (row + offset) in
     let earlier = lanes_by residues row in
-    let count : length rounded.free.now ≡ windows_of plan.grid.m (series_in plan) = rounded.lists.marks.places in
+    let count : length narrow.free.now ≡ windows_of plan.grid.m (series_in plan) = narrow.lists.marks.places in
     let sides : AreSides plan left right = record {
       left_long = ap (λ (p : Profiled). length p.left) c.self.view_is ∙ c.requires.places.sides.left ∙ count;
       right_long = ap (λ (p : Profiled). length p.right) c.self.view_is ∙ c.requires.places.sides.right ∙ count;
@@ -71,7 +71,7 @@ returns c =
     (bounded_by plan (both_sides (lanes_taken left (row + offset) earlier n) r 0))) new_right
     (block_known plan offset row n left right later earlier c.requires.apart
     (omega (arith, c.requires.within, count)) sides
-    (λ k lt. (left_out_known rounded.plan rounded.free.now c.args.row c.args.offset c.args.residues.now
+    (λ k lt. (left_out_known narrow.plan narrow.free.now c.args.row c.args.offset c.args.residues.now
     c.leave_out.new.residues
-    c.requires.exact rounded.own rounded.lists.marks c.requires.apart c.requires.within c.requires.residues
+    narrow.lists.exact narrow.lists.own narrow.lists.marks c.requires.apart c.requires.within c.requires.residues
     c.leave_out.ensures.places c.leave_out.ensures.residues k lt).1))))

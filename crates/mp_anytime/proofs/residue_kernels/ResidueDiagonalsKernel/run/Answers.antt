@@ -9,24 +9,24 @@ use Rattle.mp_anytime.proofs.residue_kernels.ResidueDiagonalsKernel.run.Goals as
 
 pub take_along-requires-clause-places : goal.take_along-requires-clause-places
 take_along-requires-clause-places c =
-    let plan = c.self.inside.rounded.plan in
+    let plan = c.self.inside.narrow.plan in
     let own : Along = record { samples = plan.grid.rows.now; m = plan.grid.m; offsets = c.self.inside.offsets.now } in
     let sized = c.size-windows.ensures in
-    subst (λ w. HasPlaces w c.args.into.now) (sym c.self.inside.rounded.lists.marks.places)
+    subst (λ w. HasPlaces w c.args.into.now) (sym c.self.inside.narrow.lists.marks.places)
     (part_places own c.args.self.now c.args.into.now c.self.view_is c.requires.size
     (sym sized.size ∙ sym (sized.is_value.places 1 [] (omega arith)))
     (sym sized.size ∙ sym (sized.is_value.places 2 [] (omega arith))))
 
 pub returns-clause-value : goal.returns-clause-value
 returns-clause-value c =
-    let plan = c.self.inside.rounded.plan in
+    let plan = c.self.inside.narrow.plan in
     let own : Along = record { samples = plan.grid.rows.now; m = plan.grid.m; offsets = c.self.inside.offsets.now } in
     piece_taken own c.args.self.now c.args.piece _ c.args.into.now c.take_along.new.self c.self.view_is
     refl c.take_along.ensures
 
 pub returns-clause-size : goal.returns-clause-size
 returns-clause-size c =
-    let plan = c.self.inside.rounded.plan in
+    let plan = c.self.inside.narrow.plan in
     let own : Along = record { samples = plan.grid.rows.now; m = plan.grid.m; offsets = c.self.inside.offsets.now } in
     let sized = c.size-windows.ensures in
     let old = part_places own c.args.self.now c.args.into.now c.self.view_is c.requires.size
@@ -38,7 +38,7 @@ returns-clause-size c =
 
 pub returns-clause-is_value : goal.returns-clause-is_value
 returns-clause-is_value c =
-    let plan = c.self.inside.rounded.plan in
+    let plan = c.self.inside.narrow.plan in
     let own : Along = record { samples = plan.grid.rows.now; m = plan.grid.m; offsets = c.self.inside.offsets.now } in
     let sized = c.size-windows.ensures in
     let old = part_places own c.args.self.now c.args.into.now c.self.view_is c.requires.size

@@ -27,5 +27,5 @@ returns-clause-residues c = λ k lt.
     (omega (arith, here, places, c.requires.within, own.lists.all_windows))
     (rows.ensures.differences q (omega (arith, here, places))) (rows.ensures.sums q (omega (arith, here, places)))
     (columns.ensures.differences q (omega (arith, here, places)))
-    (columns.ensures.sums q (omega (arith, here, places))) (c.fill_steps.ensures.steps q here))
+    (columns.ensures.sums q (omega (arith, here, places))) (c.fill_steps.ensures.steps q (omega (arith, here))))
     k (omega (arith, lt, c.add_up.ensures.places, c.requires.places))

@@ -5,7 +5,7 @@ use Rattle.std.proofs.lemmas.List.{get_or-set_other}
 use Rattle.mp_sums.specs.Residues.{item}
 use Rattle.mp_sums.specs.declared.residues.TheConstants.{ALWAYS}
 use Rattle.mp_anytime.proofs.Moves.{behind, each_next}
-use Rattle.mp_anytime.proofs.rounded.keep_free.Goals as goal
+use Rattle.mp_anytime.proofs.narrow.keep_free.Goals as goal
 
 by_test : (t : Bool) (x y : ℤ) → t ≡ true → x ≡ (if t then x else y)
 by_test true x y e = refl

@@ -4,7 +4,7 @@ use Rattle.std.specs.Prelude.{◌&&◌, if◌then◌else◌}
 use Rattle.std.proofs.lemmas.List.{get_or-drop, get_or-take}
 use Rattle.mp_sums.specs.Residues.{item}
 use Rattle.mp_sums.specs.declared.residues.TheConstants.{ALWAYS}
-use Rattle.mp_anytime.proofs.rounded.Rounded.leave_out.Goals as goal
+use Rattle.mp_anytime.proofs.narrow.Narrow.leave_out.Goals as goal
 
 by_both : (s t : Bool) (x y : ℤ) → s ≡ true → t ≡ true → x ≡ (if s && t then x else y)
 by_both true true x y e f = refl

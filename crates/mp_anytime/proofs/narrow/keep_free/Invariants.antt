@@ -2,7 +2,7 @@ use Rattle.std.proofs.Common.{◌≡◌, ℕ, ◌<◌, ◌≤◌, length, get_or
 use Rattle.std.specs.Prelude.{◌&&◌, if◌then◌else◌}
 use Rattle.mp_sums.specs.Residues.{item}
 use Rattle.mp_sums.specs.declared.residues.TheConstants.{ALWAYS}
-use Rattle.mp_anytime.proofs.rounded.keep_free.Given as goal
+use Rattle.mp_anytime.proofs.narrow.keep_free.Given as goal
 
 abbrev pub invariant-loop-k : goal.invariant-loop-k
 invariant-loop-k l = record {

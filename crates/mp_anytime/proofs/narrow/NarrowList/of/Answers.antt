@@ -1,0 +1,19 @@
+use Rattle.std.proofs.Common.{arith, length}
+use Rattle.mp_anytime.specs.Rounded.{series_in}
+use Rattle.mp_anytime.proofs.NarrowLemmas.{unrounded_narrow}
+use Rattle.mp_anytime.proofs.narrow.NarrowList.of.Goals as goal
+
+pub invariant_of-result : goal.invariant_of-result
+invariant_of-result c =
+    let plan = c.args.plan.now in
+    let numbers = c.in_ok-numbers.numbers.items in
+    record {
+      lists = record {
+        exact = c.requires.exact;
+        own = c.requires.own;
+        marks = c.requires.free;
+        narrow = unrounded_narrow plan.rounding.shift (series_in plan) (length plan.grid.rows.now) numbers
+            (plan.exact c.requires.exact).unrounded c.requires.near c.in_ok-numbers.ensures.numbers;
+        all_numbers = omega (arith, c.in_ok-numbers.ensures.places);
+      };
+    }
