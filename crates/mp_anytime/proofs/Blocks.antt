@@ -13,7 +13,7 @@ use Rattle.mp_defs.specs.Profile.{windows_of}
 use Rattle.mp_defs.specs.SeriesLaws.{series_are_of_samples}
 use Rattle.mp_defs.specs.Window.{windows}
 use Rattle.mp_partial.specs.Profiled.{Profiled}
-use Rattle.mp_partial.specs.Values.{Column}
+use Rattle.mp_partial.specs.Values.{Column, merged_column}
 use Rattle.mp_scans.specs.Offering.{only}
 use Rattle.mp_scans.specs.declared.plans.Plan.{Plan}
 use Rattle.mp_sums.specs.Residues.{item, residue}
@@ -21,13 +21,14 @@ use Rattle.mp_sums.specs.ResidueLaws.{residues_tell, small_residue}
 use Rattle.mp_sums.specs.declared.residues.TheConstants.{ALWAYS}
 use Rattle.mp_tiles.specs.OfferingLaws.{each_to_other}
 use Rattle.mp_tiles.specs.Scanning.{HasPlaces, IsScanned, taken}
-use Rattle.mp_anytime.specs.Bounds.{AreTaken, IsFor, both_sides}
+use Rattle.mp_anytime.specs.Bounds.{AreTaken, IsFor, both_sides, Bounded}
 use Rattle.mp_anytime.specs.declared.narrow.Narrow.{Narrow}
 use Rattle.mp_anytime.specs.Rounded.{rounded_sum, series_in, whole_in}
 use Rattle.mp_anytime.specs.Scanning.{AreFree, is_pair_from}
+use Rattle.mp_anytime.specs.Narrow.{HaveFree}
 use Rattle.mp_anytime.specs.Told.{IsTold, bounded_by, lanes_taken, slot_at, slot_by, told}
 use Rattle.mp_anytime.proofs.Free.{in_one, no_distance, some_distance}
-use Rattle.mp_anytime.proofs.Quiet.{none_taken, one_taken, still_for, taken_on}
+use Rattle.mp_anytime.proofs.Quiet.{is_from, none_taken, one_taken, quiet_pairs, still_for, taken_on}
 use Rattle.mp_anytime.proofs.SlotLemmas.{both_long, sides_offered}
 use Rattle.mp_anytime.proofs.Told.{told_is}
 
@@ -218,24 +219,56 @@ residue_known plan free i j r exact own frees order lt is =
       ),
     )
 
--- the same of successive pairs, where the greatest residues were put in place of some
-pub left_out_known : (plan : Plan) (free : List Bool) (row offset : ℕ) (old new : List ℤ) → plan.is_exact ≡ true
+-- the same of successive pairs that lack no sample
+pub free_known : (plan : Plan) (free : List Bool) (row offset : ℕ) (rs : List ℤ) → plan.is_exact ≡ true
     → plan.grid.columns.now ≡ plan.grid.rows.now → AreFree plan.grid.m (series_in plan) free → 1 ≤ offset
-    → row + offset + length old ≤ length free
-    → ((k : ℕ) → k < length old → item old k ≡ residue (whole_in plan (row + k) (row + k + offset)))
-    → length new ≡ length old
-    → ((k : ℕ) → k < length new → item new k
-    ≡ (if get_or free (row + k) false && get_or free (row + k + offset) false then item old k else ALWAYS))
-    → (k : ℕ) → k < length old
-    → IsTold (item new k)
-    × IsKnown plan (row + k) (row + offset + k) (slot_by (item new k) (row + offset + k))
-    (slot_by (item new k) (row + k))
-left_out_known plan free row offset old new exact own frees apart within are same left k lt =
+    → row + offset + length rs ≤ length free → HaveFree free offset row (row + length rs)
+    → ((k : ℕ) → k < length rs → item rs k ≡ residue (whole_in plan (row + k) (row + k + offset)))
+    → (k : ℕ) → k < length rs
+    → IsTold (item rs k)
+    × IsKnown plan (row + k) (row + offset + k) (slot_by (item rs k) (row + offset + k)) (slot_by (item rs k) (row + k))
+free_known plan free row offset rs exact own frees apart within have are k lt =
     let there : row + k + offset ≡ row + offset + k = omega arith in
-    residue_known plan free (row + k) (row + offset + k) (item new k) exact own frees (omega (arith, apart))
+    let both = have (row + k) (omega arith) (omega (arith, lt)) in
+    residue_known plan free (row + k) (row + offset + k) (item rs k) exact own frees (omega (arith, apart))
     (omega (arith, lt, within, frees.places))
-    (subst (λ q. item new k
+    (subst (λ q. item rs k
     ≡ (if get_or free (row + k) false && get_or free q false then residue (whole_in plan (row + k) q) else ALWAYS))
     there
-    (left k (omega (arith, lt, same))
-    ∙ ap (λ z. if get_or free (row + k) false && get_or free (row + k + offset) false then z else ALWAYS) (are k lt)))
+    (by_both (get_or free (row + k) false) (get_or free (row + k + offset) false) (item rs k)
+    (residue (whole_in plan (row + k) (row + k + offset))) both.0 both.1 (are k lt)))
+  where
+    by_both : (s t : Bool) (x y : ℤ) → s ≡ true → t ≡ true → x ≡ y → x ≡ (if s && t then y else ALWAYS)
+    by_both true true x y e f same = same
+    by_both true false x y e f same = absurd (cc)
+    by_both false t x y e f same = absurd (cc)
+
+-- a stretch of pairs that lack samples gives nothing
+pub stretch_without : (plan : Plan) (free : List Bool) (row turn offset : ℕ) (found : Bounded) → IsFor plan found
+    → AreFree plan.grid.m (series_in plan) free → 1 ≤ offset → turn + offset ≤ length free
+    → ((k : ℕ) → row ≤ k → k < turn → get_or free k false ≡ get_or free row false)
+    → ((k : ℕ) → row ≤ k → k < turn → get_or free (k + offset) false ≡ get_or free (row + offset) false)
+    → (get_or free row false && get_or free (row + offset) false) ≡ false
+    → found.profile.all ≡ merged_column found.profile.left found.profile.right
+    → AreTaken plan (is_pair_from offset row turn) found found
+stretch_without plan free row turn offset found is frees apart within rows columns lack lesser = record {
+  scanned = quiet_pairs (is_pair_from offset row turn) plan.grid.m (series_in plan) found.profile is.places lesser
+      (λ i j e. let at = is_from offset row turn i j e in omega (arith, at.column, apart))
+      (λ i j d e there.
+      let at = is_from offset row turn i j e in
+      let none = no_distance plan.grid.m (series_in plan) free i j frees
+      (omega (arith, at.before, at.column, within, frees.places, apart))
+      (omega (arith, at.before, at.column, within, frees.places))
+      (subst (λ q. (get_or free i false && get_or free q false) ≡ false) at.column
+      (alike (get_or free i false) (get_or free row false) (get_or free (i + offset) false)
+      (get_or free (row + offset) false) (rows i at.behind at.before) (columns i at.behind at.before) lack)) in
+      absurd (clash d (sym there ∙ none)));
+  same_m = refl;
+  same_shift = refl;
+}
+  where
+    alike : (s s' t t' : Bool) → s ≡ s' → t ≡ t' → (s' && t') ≡ false → (s && t) ≡ false
+    alike s s' t t' e f h = cc
+
+    clash : (d : ℕ) → Some d ≡ None → ⊥
+    clash d e = absurd (cc)

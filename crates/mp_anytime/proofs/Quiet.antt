@@ -212,12 +212,12 @@ quiet_pairs pairs m a p places lesser order quiet =
         (covers_more (get_or p.right i None) (get_or p.left i None) j d h)
 
 -- where they lie
-record IsFrom (offset first end i j : ℕ) : Type 0 where
-  column : i + offset ≡ j
-  behind : first ≤ i
-  before : i < end
+pub record IsFrom (offset first end i j : ℕ) : Type 0 where
+  pub column : i + offset ≡ j
+  pub behind : first ≤ i
+  pub before : i < end
 
-is_from : (offset first end i j : ℕ) → is_pair_from offset first end i j ≡ true → IsFrom offset first end i j
+pub is_from : (offset first end i j : ℕ) → is_pair_from offset first end i j ≡ true → IsFrom offset first end i j
 is_from offset first end i j e = record {
   column = grind (arith, nat_tests);
   behind = grind (arith, nat_tests);

@@ -1,13 +1,14 @@
 -- Samples that are read one after another, and the sums of pairs that are extended.
 use Rattle.std.proofs.Common.{◌≡◌, ℕ, ◌+◌, ◌-◌, ◌^◌, ◌<◌, ◌≤◌, inl, inr, List, [], length}
 use Rattle.std.proofs.Common.{get_or, set, take, drop, refl, sym, ap, ◌∙◌, arith, subst}
-use Rattle.std.specs.Prelude.{min, pos, ℤ, Bool, ◌||◌, ◌&&◌, ◌==◌, false}
+use Rattle.std.specs.Prelude.{min, pos, ℤ, Bool, ◌||◌, ◌&&◌, ◌==◌, true, false}
 use Rattle.std.specs.Int.{abs_diff}
 use Rattle.std.proofs.lemmas.Bool.Decides.{nat_tests}
 use Rattle.std.proofs.lemmas.Bool.{cases_eq}
 use Rattle.std.proofs.lemmas.List.{length-take, length-drop, length-map, get_or-take, get_or-drop, get_or-set_same}
-use Rattle.std.proofs.lemmas.List.{get_or-set_other}
-use Rattle.std.proofs.lemmas.List.Folds.{list_any_more}
+use Rattle.std.proofs.lemmas.List.{get_or_default, get_or-set_other}
+use Rattle.std.proofs.lemmas.List.Folds.{list_any-append, list_any_more}
+use Rattle.std.proofs.Math.Seq.{take-add}
 use Rattle.mp_nums.specs.declared.samples.Sample.{Sample}
 use Rattle.mp_defs.specs.Series.{Series, series_of}
 use Rattle.mp_defs.specs.Profile.{windows_of}
@@ -73,6 +74,13 @@ pub lent_some : (items : List Sample) (i : ℕ) (xs : List ℤ) → i < length i
 lent_some items i xs lt e =
     let long = length-map items number_in in
     omega (arith, ap length e, length-take 1 (drop i (numbers_in items)), length-drop i (numbers_in items), long, lt)
+
+-- the one number that was lent
+pub lent_one : (items : List Sample) (i : ℕ) (xs : List ℤ) (x : ℤ) → i < length items
+    → xs ≡ take 1 (drop i (numbers_in items)) → x ≡ get_or xs 0 x → x ≡ numbers_of (series_of items) i
+lent_one items i xs x lt e is =
+    is ∙ get_or_default xs 0 x (pos 0) (lent_some items i xs lt e) ∙ ap (λ (l : List ℤ). get_or l 0 (pos 0)) e
+    ∙ lent_number items i
 
 -- the same of successive ones
 pub lent_numbers : (items : List Sample) (i n k : ℕ) (xs : List ℤ) → xs ≡ take n (drop i (numbers_in items)) → k < n
@@ -142,6 +150,27 @@ last_pair_more covered k i last m a old mid new lt e within count places s t =
         ap (λ n. is_last_pair (take k covered) last r c || ((r == n) && (c == last))) e
         ∙ by_test r last c (get_or covered k 0) (is_covered (take k covered) (abs_diff r c)) less within
         ∙ ap (λ t. (c == last) && t) (sym (list_any_more (λ other. other == abs_diff r c) covered k 0 lt))
+
+-- the same with those of a part more
+pub last_pairs_more : (covered : List ℕ) (first count last m : ℕ) (a : Series) (old mid new : Profiled)
+    → HasPlaces (windows_of m a) old → IsScanned (is_last_pair (take first covered) last) m a old mid
+    → IsScanned (is_last_pair (take count (drop first covered)) last) m a mid new
+    → IsScanned (is_last_pair (take (first + count) covered) last) m a old new
+last_pairs_more covered first count last m a old mid new places s t =
+    each_to_other.same m a a
+    (λ r c. is_last_pair (take first covered) last r c || is_last_pair (take count (drop first covered)) last r c)
+    (is_last_pair (take (first + count) covered) last) old new (places, refl)
+    (each_to_other.both m a a (is_last_pair (take first covered) last)
+    (is_last_pair (take count (drop first covered)) last) old mid new s t)
+    (λ r c _ _. joined (c == last) (is_covered (take first covered) (abs_diff r c))
+    (is_covered (take count (drop first covered)) (abs_diff r c))
+    (is_covered (take (first + count) covered) (abs_diff r c))
+    (ap (λ ds. is_covered ds (abs_diff r c)) (take-add first count covered)
+    ∙ list_any-append (λ other. other == abs_diff r c) (take first covered) (take count (drop first covered))))
+  where
+    joined : (t u v w : Bool) → w ≡ (u || v) → ((t && u) || (t && v)) ≡ (t && w)
+    joined true u v w e = sym e
+    joined false u v w e = refl
 
 -- ---- one place of a list that is written
 

@@ -19,6 +19,7 @@ use Rattle.mp_defs.specs.SeriesLaws.{series_are_of_samples}
 use Rattle.mp_defs.specs.Window.{excl}
 use Rattle.mp_defs.specs.Distance.{distance}
 use Rattle.mp_defs.specs.Profile.{windows_of}
+use Rattle.mp_series.specs.Samples.{numbers_in}
 use Rattle.mp_sums.specs.Sums.{numbers_of, square_sum}
 use Rattle.mp_sums.specs.SumLaws.{distances_are_sums}
 use Rattle.mp_partial.specs.Profiled.{Profiled}
@@ -30,14 +31,15 @@ use Rattle.mp_tiles.specs.OfferingLaws.{each_to_other}
 use Rattle.mp_tiles.specs.Scanning.{HasPlaces, IsScanned}
 use Rattle.mp_anytime.specs.Kept.{AreSums, IsDiagonal, IsSumAt, is_last_pair}
 use Rattle.mp_anytime.specs.Limits.{AreLimits, limit_of}
-use Rattle.mp_anytime.specs.Offers.{ChangesAt, IsMovedSum, IsReady, IsRow, is_last_from}
-use Rattle.mp_anytime.specs.Sums.{HavePlaces, sum_in}
+use Rattle.mp_anytime.specs.Offers.{ChangesAt, IsCoveredWithin, IsMovedSum, IsReady, IsRow, is_last_from}
+use Rattle.mp_anytime.specs.Sums.{HavePlaces, LieClose, sum_in}
 use Rattle.mp_anytime.specs.Waiting.{AreWaiting}
 use Rattle.mp_anytime.specs.declared.sums.Sums.{Sums}
 use Rattle.mp_results.specs.Reversal.{numbers}
 use Rattle.mp_anytime.proofs.Distinct.{each_covered}
 use Rattle.mp_anytime.proofs.LazyLemmas.{outside_zone}
 use Rattle.mp_anytime.proofs.Quiet.{quiet_pairs}
+use Rattle.mp_anytime.proofs.RowSums.{no_upper, small_sum}
 use Rattle.mp_anytime.proofs.Scans.{still_places}
 use Rattle.mp_anytime.proofs.Windows.{both_ways, not_covered}
 
@@ -192,6 +194,34 @@ is_at covered last first end i j e = record {
     less : (t s : Bool) (first x end : ℕ) → (s && (t && (nat_le first x && nat_lt x end))) ≡ true → x < end
     less t s first x end e = grind (arith, nat_tests)
 
+-- the pair of a covered diagonal gives neither of its windows anything
+quiet_pair : (m : ℕ) (items : List Sample) (covered : List ℕ) (waiting : List Bool) (sums : List ℕ) (last best : ℕ)
+    (p : Profiled) (limits : List ℕ) → IsRow m items covered waiting sums last → IsReady last p limits
+    → best ≡ limit_of (get_or p.left last None) → (x i j d : ℕ) → last - x ≡ i → j ≡ last → x < last
+    → is_covered covered x ≡ true → get_or limits (last - x) 0 ≤ get_or sums x 0 → best ≤ get_or sums x 0
+    → distance m (series_of items) i (series_of items) j ≡ Some d
+    → Covers (get_or p.right i None) j d × Covers (get_or p.left j None) i d
+quiet_pair m items covered waiting sums last best p limits row ready best_is x i j d i_is j_is lt is above above_best
+    there =
+    let here : distance m (series_of items) i (series_of items) last ≡ Some d =
+    subst (λ q. distance m (series_of items) i (series_of items) q ≡ Some d) j_is there in
+    let sum : get_or sums x 0 ≡ square_sum m (numbers_of (series_of items)) (last - x)
+    (numbers_of (series_of items)) last = (row.lasts x lt is).sum_is in
+    let same : d ≡ get_or sums x 0 =
+    distances_are_sums m (series_of items) i (series_of items) last d here
+    ∙ sym (sum
+    ∙ ap (λ q. square_sum m (numbers_of (series_of items)) q (numbers_of (series_of items)) last) i_is) in
+    let small = row.small x lt is in
+    let limit : get_or limits (last - x) 0 ≡ limit_of (get_or p.right (last - x) None) =
+    ready.limits.each (last - x) (omega (arith, ready.places.sides.right)) in
+    let of_row : limit_of (get_or p.right (last - x) None) ≤ d = omega (arith, limit, same, above) in
+    let of_last : limit_of (get_or p.left last None) ≤ d = omega (arith, best_is, same, above_best) in (
+      subst (λ q. Covers (get_or p.right q None) j d) i_is
+          (beyond_limit (get_or p.right (last - x) None) j d of_row (omega (arith, same, small))),
+      subst (λ q. Covers (get_or p.left q None) i d) (sym j_is)
+          (beyond_limit (get_or p.left last None) i d of_last (omega (arith, same, small))),
+    )
+
 pub quiet_row : (m : ℕ) (items : List Sample) (covered : List ℕ) (waiting : List Bool) (sums : List ℕ)
     (last first end best : ℕ) (p : Profiled) (limits : List ℕ) → IsRow m items covered waiting sums last
     → IsReady last p limits → p.all ≡ merged_column p.left p.right → 1 ≤ first → end ≤ last
@@ -206,31 +236,77 @@ quiet_row m items covered waiting sums last first end best p limits row ready le
     (λ i j e. let at = is_at covered last first end i j e in omega (arith, at.column, at.behind, some))
     (λ i j d e there.
     let at = is_at covered last first end i j e in
-    let x = last - i in
-    let i_is : last - x ≡ i = omega (arith, at.behind, some) in
-    let here : distance m (series_of items) i (series_of items) last ≡ Some d =
-    subst (λ q. distance m (series_of items) i (series_of items) q ≡ Some d) at.column there in
-    let sum : get_or sums x 0 ≡ square_sum m (numbers_of (series_of items)) (last - x)
-    (numbers_of (series_of items)) last =
-    (row.lasts x (omega (arith, at.before, within)) at.is_in).sum_is in
-    let same : d ≡ get_or sums x 0 =
-    distances_are_sums m (series_of items) i (series_of items) last d here
-    ∙ sym (sum
-    ∙ ap (λ q. square_sum m (numbers_of (series_of items)) q (numbers_of (series_of items)) last) i_is) in
-    let small = row.small x (omega (arith, at.before, within)) at.is_in in
-    let limit : get_or limits (last - x) 0 ≡ limit_of (get_or p.right (last - x) None) =
-    ready.limits.each (last - x) (omega (arith, ready.places.sides.right)) in
-    let of_row : limit_of (get_or p.right (last - x) None) ≤ d =
-    omega (arith, limit, same, above x at.behind at.before) in
-    let of_last : limit_of (get_or p.left last None) ≤ d =
-    omega (arith, best_is, same, above_best x at.behind at.before) in (
-      subst (λ q. Covers (get_or p.right q None) j d) i_is
-          (beyond_limit (get_or p.right (last - x) None) j d of_row (omega (arith, same, small))),
-      subst (λ q. Covers (get_or p.left q None) i d) (sym at.column)
-          (beyond_limit (get_or p.left last None) i d of_last (omega (arith, same, small))),
-    ))
+    quiet_pair m items covered waiting sums last best p limits row ready best_is (last - i) i j d
+    (omega (arith, at.behind, some)) at.column (omega (arith, at.before, within)) at.is_in
+    (above (last - i) at.behind at.before) (above_best (last - i) at.behind at.before) there)
+
+-- from the last window back to one before it
+apart_back : (last i j : ℕ) → i < last + 1 → (j == last) ≡ true → last - i ≡ abs_diff i j
+apart_back last i j lt is = grind (arith, nat_tests)
+
+-- the same of some covered diagonals
+pub quiet_listed : (m : ℕ) (items : List Sample) (covered listed : List ℕ) (waiting : List Bool) (sums : List ℕ)
+    (last best : ℕ) (p : Profiled) (limits : List ℕ) → IsRow m items covered waiting sums last
+    → IsReady last p limits → p.all ≡ merged_column p.left p.right
+    → All (IsCoveredWithin m last covered) listed → best ≡ limit_of (get_or p.left last None)
+    → All (λ d. (get_or limits (last - d) 0 ≤ get_or sums d 0) × (best ≤ get_or sums d 0)) listed
+    → IsScanned (is_last_pair listed last) m (series_of items) p p
+quiet_listed m items covered listed waiting sums last best p limits row ready lesser all best_is above =
+    let places = row_places m items last p row.shortest row.within ready.places in
+    each_to_other.same m (series_of items) (series_of items) (λ i j. (j == last) && is_covered listed (last - i))
+    (is_last_pair listed last) p p (places, refl)
+    (quiet_pairs (λ i j. (j == last) && is_covered listed (last - i)) m (series_of items) p places lesser
+    (λ i j e. omega (arith, column j (is_covered listed (last - i)) e, (of_pair i j e).0.zone))
+    (λ i j d e there.
+    let at = of_pair i j e in
+    quiet_pair m items covered waiting sums last best p limits row ready best_is (last - i) i j d
+    (omega (arith, at.0.zone)) (column j (is_covered listed (last - i)) e) at.0.within at.0.is at.1.0 at.1.1 there))
+    (λ i j lt _. agree i j (omega (arith, lt, row_count m items last row.shortest row.within)) (j == last) refl)
+  where
+    column : (j : ℕ) (t : Bool) → ((j == last) && t) ≡ true → j ≡ last
+    column j t e = grind (arith, nat_tests)
+
+    among : (s t : Bool) → (s && t) ≡ true → t ≡ true
+    among true t e = e
+    among false t e = absurd (cc)
+
+    of_pair : (i j : ℕ) → ((j == last) && is_covered listed (last - i)) ≡ true
+        → IsCoveredWithin m last covered (last - i)
+        × ((get_or limits (last - (last - i)) 0 ≤ get_or sums (last - i) 0) × (best ≤ get_or sums (last - i) 0))
+    of_pair i j e =
+        each_covered (λ d. IsCoveredWithin m last covered d
+        × ((get_or limits (last - d) 0 ≤ get_or sums d 0) × (best ≤ get_or sums d 0))) listed
+        (λ k lt. (all k 0 lt, above k 0 lt)) (last - i)
+        (among (j == last) (is_covered listed (last - i)) e)
+
+    agree : (i j : ℕ) → i < last + 1 → (t : Bool) → (j == last) ≡ t
+        → ((j == last) && is_covered listed (last - i)) ≡ is_last_pair listed last i j
+    agree i j lt false is =
+        ap (λ t. t && is_covered listed (last - i)) is ∙ sym (ap (λ t. t && is_covered listed (abs_diff i j)) is)
+    agree i j lt true is = ap (λ x. (j == last) && is_covered listed x) (apart_back last i j lt is)
 
 -- ---- one pair
+
+-- the pair of the last window and one before it is that of its diagonal
+one_pair : (covered : List ℕ) (last d r c : ℕ) → d < last → is_covered covered d ≡ true → r < last + 1
+    → only (last - d) last r c ≡ is_last_from covered last d (d + 1) r c
+one_pair covered last d r c lt is less = elim (cases_eq r (last - d)) [
+  | inl same ↦
+      let back : last - r ≡ d = omega (arith, same, lt) in
+      same_case (last - r) same back
+      ∙ ap (λ t. (c == last) && (t && (nat_le d (last - r) && nat_lt (last - r) (d + 1))))
+      (sym (ap (is_covered covered) back ∙ is))
+  | inr other ↦
+      other_case (is_covered covered (last - r)) (last - r) other (λ e. other (omega (arith, e, less)))
+]
+  where
+    same_case : (x : ℕ) → r ≡ last - d → x ≡ d
+        → ((r == last - d) && (c == last)) ≡ ((c == last) && (true && (nat_le d x && nat_lt x (d + 1))))
+    same_case x e f = grind (arith, nat_tests)
+
+    other_case : (t : Bool) (x : ℕ) → (r ≡ last - d → ⊥) → (x ≡ d → ⊥)
+        → ((r == last - d) && (c == last)) ≡ ((c == last) && (t && (nat_le d x && nat_lt x (d + 1))))
+    other_case t x ne ne' = grind (arith, nat_tests)
 
 pub one_last : (m : ℕ) (items : List Sample) (covered : List ℕ) (last d : ℕ) (old new : Profiled) → 1 ≤ m
     → last + m ≡ length items → d < last → is_covered covered d ≡ true → HasPlaces (last + 1) old
@@ -240,26 +316,18 @@ one_last m items covered last d old new some within lt is places s =
     let count = row_count m items last some within in
     each_to_other.same m (series_of items) (series_of items) (only (last - d) last)
     (is_last_from covered last d (d + 1)) old new (row_places m items last old some within places, refl) s
-    (λ r c less _. agree r c (omega (arith, less, count)))
-  where
-    same_case : (r c x : ℕ) → r ≡ last - d → x ≡ d
-        → ((r == last - d) && (c == last)) ≡ ((c == last) && (true && (nat_le d x && nat_lt x (d + 1))))
-    same_case r c x e f = grind (arith, nat_tests)
+    (λ r c less _. one_pair covered last d r c lt is (omega (arith, less, count)))
 
-    other_case : (t : Bool) (r c x : ℕ) → (r ≡ last - d → ⊥) → (x ≡ d → ⊥)
-        → ((r == last - d) && (c == last)) ≡ ((c == last) && (t && (nat_le d x && nat_lt x (d + 1))))
-    other_case t r c x ne ne' = grind (arith, nat_tests)
-
-    agree : (r c : ℕ) → r < last + 1 → only (last - d) last r c ≡ is_last_from covered last d (d + 1) r c
-    agree r c less = elim (cases_eq r (last - d)) [
-      | inl same ↦
-          let back : last - r ≡ d = omega (arith, same, lt) in
-          same_case r c (last - r) same back
-          ∙ ap (λ t. (c == last) && (t && (nat_le d (last - r) && nat_lt (last - r) (d + 1))))
-          (sym (ap (is_covered covered) back ∙ is))
-      | inr other ↦
-          other_case (is_covered covered (last - r)) r c (last - r) other (λ e. other (omega (arith, e, less)))
-    ]
+-- and the other way round
+pub last_alone : (m : ℕ) (items : List Sample) (covered : List ℕ) (last d : ℕ) (old new : Profiled) → 1 ≤ m
+    → last + m ≡ length items → d < last → is_covered covered d ≡ true → HasPlaces (last + 1) old
+    → IsScanned (is_last_from covered last d (d + 1)) m (series_of items) old new
+    → IsScanned (only (last - d) last) m (series_of items) old new
+last_alone m items covered last d old new some within lt is places s =
+    let count = row_count m items last some within in
+    each_to_other.same m (series_of items) (series_of items) (is_last_from covered last d (d + 1))
+    (only (last - d) last) old new (row_places m items last old some within places, refl) s
+    (λ r c less _. sym (one_pair covered last d r c lt is (omega (arith, less, count))))
 
 pub no_last : (m : ℕ) (items : List Sample) (covered : List ℕ) (last d : ℕ) (p : Profiled) → 1 ≤ m
     → last + m ≡ length items → is_covered covered d ≡ false → HasPlaces (last + 1) p
@@ -346,9 +414,6 @@ all_from m items covered last first old new some within e all places s =
           ∙ less x last (omega (arith, le, other))
     ]
 
-    apart : (i j : ℕ) → i < last + 1 → (j == last) ≡ true → last - i ≡ abs_diff i j
-    apart i j lt is = grind (arith, nat_tests)
-
     agree : (i j : ℕ) → i < last + 1 → (t : Bool) → (j == last) ≡ t
         → is_last_from covered last first last i j ≡ is_last_pair covered last i j
     agree i j lt false is =
@@ -356,7 +421,7 @@ all_from m items covered last first old new some within e all places s =
         ∙ sym (ap (λ t. t && is_covered covered (abs_diff i j)) is)
     agree i j lt true is =
         ap (λ t. (j == last) && t) (bounds (last - i) (is_covered covered (last - i)) (omega arith) refl)
-        ∙ ap (λ x. (j == last) && is_covered covered x) (apart i j lt is)
+        ∙ ap (λ x. (j == last) && is_covered covered x) (apart_back last i j lt is)
 
 -- a diagonal that doesn't wait is covered
 pub not_waiting : (m w d : ℕ) (covered : List ℕ) (t : Bool) → excl m < d → d < w
@@ -382,28 +447,35 @@ waits_still m w d covered t lt lt' e is =
 
 -- ---- sums
 
-pub row_is : (m : ℕ) (items : List Sample) (covered : List ℕ) (waiting : List Bool) (last : ℕ) (old new : Sums)
-    → 1 ≤ m
-    → last + m ≡ length items → last < numbers → All (IsDiagonal m last) covered → HavePlaces (last + 1) new
-    → AreWaiting m (last + 1) covered waiting → AreSums m (series_of items) covered (last - 1) old
-    → ((d : ℕ) → d < last → IsSumAt m (series_of items) (last - 1 - d) (last - 1) (sum_in old d)
-    → IsMovedSum m items last d (get_or new.upper.items d 0) (get_or new.lower.items d 0))
-    → IsRow m items covered waiting new.lower.items last
-row_is m items covered waiting last old new some within few all places waits sums step = record {
+-- each covered diagonal has its sum
+pub row_of_sums : (m : ℕ) (items : List Sample) (covered : List ℕ) (waiting : List Bool) (last : ℕ) (sums : Sums)
+    → 1 ≤ m → last + m ≡ length items → last < numbers → HavePlaces (last + 1) sums
+    → AreWaiting m (last + 1) covered waiting → AreSums m (series_of items) covered last sums
+    → LieClose m (numbers_in items) → IsRow m items covered waiting sums.lower.items last
+row_of_sums m items covered waiting last sums some within few places waits each close = record {
   shortest = some;
   within = within;
   few = few;
   places = places.lowers;
   waits = waits;
-  lasts = λ d lt is.
-      subst (λ s. IsSumAt m (series_of items) (last - d) last s) (sym (moved d is).narrow) (moved d is).sum;
-  small = λ d lt is. omega (arith, (moved d is).narrow, (moved d is).small);
+  lasts = λ d lt is. subst (IsSumAt m (series_of items) (last - d) last) (whole d lt is) (sum d is);
+  small = λ d lt is.
+      omega (
+        arith,
+        whole d lt is,
+        small_sum m items (last - d) last (sum_in sums d) close (omega (arith, within, lt)) (omega (arith, within))
+            (sum d is),
+      );
 }
   where
-    moved : (d : ℕ) → is_covered covered d ≡ true
-        → IsMovedSum m items last d (get_or new.upper.items d 0) (get_or new.lower.items d 0)
-    moved = each_covered (λ d. IsMovedSum m items last d (get_or new.upper.items d 0) (get_or new.lower.items d 0))
-        covered (λ k lt. step (get_or covered k 0) (all k 0 lt).1 (sums.each k lt))
+    sum : (d : ℕ) → is_covered covered d ≡ true → IsSumAt m (series_of items) (last - d) last (sum_in sums d)
+    sum d is = each_covered (λ q. IsSumAt m (series_of items) (last - q) last (sum_in sums q)) covered each.each d is
+
+    whole : (d : ℕ) → d < last → is_covered covered d ≡ true → sum_in sums d ≡ get_or sums.lower.items d 0
+    whole d lt is =
+        let none = no_upper m items (last - d) last (get_or sums.upper.items d 0) (get_or sums.lower.items d 0) close
+        (omega (arith, within, lt)) (omega (arith, within)) (sum d is) in
+        omega (arith, none)
 
 pub sums_are : (m : ℕ) (items : List Sample) (covered : List ℕ) (last : ℕ) (old new : Sums)
     → All (IsDiagonal m last) covered → AreSums m (series_of items) covered (last - 1) old

@@ -1,7 +1,7 @@
 -- Sums of the last pairs, moved one place on in 64 bits.
 use Rattle.std.proofs.Common.{◌≡◌, ℕ, ◌+◌, ◌-◌, ◌*◌, ◌^◌, ◌<◌, ◌≤◌, List, length}
 use Rattle.std.proofs.Common.{get_or, take, drop, ap, ◌∙◌}
-use Rattle.std.proofs.Common.{arith, subst}
+use Rattle.std.proofs.Common.{arith, subst, sym}
 use Rattle.std.specs.Prelude.{ℤ, pos}
 use Rattle.std.proofs.lemmas.List.{length-map, length-take, length-drop, get_or-take, get_or-drop}
 use Rattle.std.proofs.lemmas.Nat.{mul-le}
@@ -19,6 +19,31 @@ use Rattle.mp_anytime.specs.Kept.{IsSumAt}
 use Rattle.mp_anytime.specs.Offers.{IsMovedSum}
 use Rattle.mp_anytime.specs.Sums.{AreClose, IsMoved, LieClose, square_behind}
 use Rattle.mp_anytime.proofs.Distances.{number_same}
+
+-- the square of two numbers at the same place of lists within a range
+pub near_square : (xs ys : List ℤ) (k : ℕ) (x y : ℤ) (range : Range) → AreWithin range xs → AreWithin range ys
+    → k < length xs → length ys ≡ length xs → x ≡ item xs k → y ≡ item ys k
+    → squared_difference x y ≤ squared_difference range.greatest range.least
+near_square xs ys k x y range within others lt same e f =
+    squares_in_range range x y (subst (IsInRange range) (sym e) (within k lt))
+    (subst (IsInRange range) (sym f) (others k (omega (arith, lt, same))))
+
+-- where the sum of some of them has 63 bits, one has 62
+pub square_fits : (count most square : ℕ) → 2 ≤ count → count * most < 2 ^ 63 → square ≤ most → square < 2 ^ 62
+square_fits count most square some fits le =
+    let twice : 2 * most ≤ count * most = mul-le 2 most count most some (omega arith) in
+    omega (arith, twice, fits, le)
+
+-- a part of numbers within a range lies within it
+pub within_part : (range : Range) (xs : List ℤ) (first count : ℕ) (part : List ℤ) → AreWithin range xs
+    → first + count ≤ length xs → part ≡ take count (drop first xs) → AreWithin range part
+within_part range xs first count part within some e k lt =
+    let short : k < count =
+    omega (arith, lt, ap length e, length-take count (drop first xs), length-drop first xs, some) in
+    let same : item part k ≡ item xs (first + k) =
+    ap (λ (l : List ℤ). item l k) e ∙ get_or-take count (drop first xs) k (pos 0) short
+    ∙ get_or-drop first xs k (pos 0) in
+    subst (IsInRange range) (sym same) (within (first + k) (omega (arith, short, some)))
 
 -- so many numbers of a series from a place on
 record IsPart (items : List Sample) (first count : ℕ) (part : List ℤ) : Type 0 where
@@ -61,12 +86,17 @@ close_square : (m : ℕ) (items : List Sample) (i j : ℕ) → 2 ≤ m → LieCl
     → squared_difference (numbers_of (series_of items) i) (numbers_of (series_of items) j) < 2 ^ 62
 close_square m items i j some close lt lt' =
     let range = close.range in
-    let bound = squared_difference range.greatest range.least in
-    let twice : 2 * bound ≤ m * bound = mul-le 2 bound m bound some (omega arith) in
-    let fits : m * bound < 2 ^ 63 = close.fits in
-    let square = squares_in_range range (numbers_of (series_of items) i) (numbers_of (series_of items) j)
-    (in_range items range i close.within lt) (in_range items range j close.within lt') in
-    omega (arith, twice, fits, square)
+    square_fits m (squared_difference range.greatest range.least) _ some close.fits
+    (squares_in_range range (numbers_of (series_of items) i) (numbers_of (series_of items) j)
+    (in_range items range i close.within lt) (in_range items range j close.within lt'))
+
+pub close_numbers : (m : ℕ) (items : List Sample) (i j : ℕ) (x y : ℤ) → 2 ≤ m → LieClose m (numbers_in items)
+    → i < length items → j < length items → x ≡ numbers_of (series_of items) i → y ≡ numbers_of (series_of items) j
+    → squared_difference x y < 2 ^ 62
+close_numbers m items i j x y some close lt lt' e f =
+    subst (λ z. squared_difference z y < 2 ^ 62) (sym e)
+    (subst (λ z. squared_difference (numbers_of (series_of items) i) z < 2 ^ 62) (sym f)
+    (close_square m items i j some close lt lt'))
 
 -- the square of the last number of a part and of one before it
 part_square : (items : List Sample) (first count d : ℕ) (part : List ℤ) → IsPart items first count part
@@ -90,7 +120,7 @@ close_part m items first count part some close within e d lt =
     (omega (arith, within, less)) (omega (arith, within, less)) in
     omega (arith, small, part_square items first count d part is less)
 
-small_sum : (m : ℕ) (items : List Sample) (i j sum : ℕ) → LieClose m (numbers_in items) → i + m ≤ length items
+pub small_sum : (m : ℕ) (items : List Sample) (i j sum : ℕ) → LieClose m (numbers_in items) → i + m ≤ length items
     → j + m ≤ length items
     → IsSumAt m (series_of items) i j sum → sum < 2 ^ 63
 small_sum m items i j sum close within within' h =
@@ -99,6 +129,13 @@ small_sum m items i j sum close within within' h =
     (λ k lt. in_range items close.range (i + k) close.within (omega (arith, lt, within)))
     (λ k lt. in_range items close.range (j + k) close.within (omega (arith, lt, within'))) in
     omega (arith, small, h.sum_is)
+
+-- 64 bits hold the sum
+pub no_upper : (m : ℕ) (items : List Sample) (i j upper lower : ℕ) → LieClose m (numbers_in items)
+    → i + m ≤ length items → j + m ≤ length items → IsSumAt m (series_of items) i j (upper * 2 ^ 64 + lower)
+    → upper ≡ 0
+no_upper m items i j upper lower close within within' h =
+    omega (arith, small_sum m items i j (upper * 2 ^ 64 + lower) close within within' h)
 
 square_there : (a : Series) (i i' j j' : ℕ) → i ≡ i' → j ≡ j'
     → squared_difference (numbers_of a i) (numbers_of a j) ≡ squared_difference (numbers_of a i') (numbers_of a j')
@@ -151,3 +188,39 @@ sum_moved m items last d enters leaves upper lower moved some lt within e f clos
       small = small_sum m items (last - d) last (upper * 2 ^ 64 + moved) close (omega (arith, within, lt))
           (omega (arith, within)) here;
     }
+
+-- the sum of the pair before, moved by the numbers that enter both windows and leave them
+pub sum_stepped : (m : ℕ) (items : List Sample) (last d upper lower moved : ℕ) (enters leaves ahead behind : ℤ)
+    → 2 ≤ m → d < last → last + m ≡ length items → LieClose m (numbers_in items)
+    → enters ≡ numbers_of (series_of items) (last - d - 1 + m)
+    → leaves ≡ numbers_of (series_of items) (last - d - 1)
+    → ahead ≡ numbers_of (series_of items) (last - 1 + m) → behind ≡ numbers_of (series_of items) (last - 1)
+    → IsMoved (squared_difference enters ahead) (squared_difference leaves behind) lower moved
+    → IsSumAt m (series_of items) (last - 1 - d) (last - 1) (upper * 2 ^ 64 + lower)
+    → IsSumAt m (series_of items) (last - d) last moved
+sum_stepped m items last d upper lower moved enters leaves ahead behind some lt within close e f e' f' step h =
+    let a = series_of items in
+    let x = numbers_of a in
+    let i = last - 1 - d in
+    let j = last - 1 in
+    let enter = squared_difference enters ahead in
+    let leave = squared_difference leaves behind in
+    let none : upper ≡ 0 =
+    no_upper m items i j upper lower close (omega (arith, within, lt)) (omega (arith, within, lt)) h in
+    let below = small_sum m items i j (upper * 2 ^ 64 + lower) close (omega (arith, within, lt))
+    (omega (arith, within, lt)) h in
+    let sum : IsSumAt m a i j lower = subst (IsSumAt m a i j) (omega (arith, none)) h in
+    let entering : enter ≡ squared_difference (x (i + m)) (x (j + m)) =
+    ap (λ z. squared_difference z ahead) (e ∙ ap x (omega arith)) ∙ ap (squared_difference (x (i + m))) e' in
+    let leaving : leave ≡ squared_difference (x i) (x j) =
+    ap (λ z. squared_difference z behind) (f ∙ ap x (omega arith)) ∙ ap (squared_difference (x i)) f' in
+    let small : enter < 2 ^ 62 =
+    close_numbers m items (last - d - 1 + m) (last - 1 + m) enters ahead some close (omega (arith, within, lt))
+    (omega (arith, within, lt)) e e' in
+    let covers : leave ≤ lower + enter = leaves_within m x i x j lower enter leave sum entering leaving in
+    let made : moved ≡ lower + enter - leave = step.exact (omega (arith, below, none, small)) covers in
+    let next : IsSumAt m a (i + 1) (j + 1) (lower + enter - leave) =
+    is_sum_moved_on m x i x j lower enter leave sum entering (omega (arith, small)) leaving in
+    subst (λ s. IsSumAt m a (last - d) last s) (sym made)
+    (is_sum_at m x (i + 1) (last - d) x (j + 1) last (lower + enter - leave) (omega (arith, lt)) (omega (arith, lt))
+    next)

@@ -1,5 +1,6 @@
 -- The samples of a series in 16 bits.
-use Rattle.std.specs.Prelude.{◌≡◌, ℕ, ◌+◌, ◌<◌, ◌≤◌, List, Bool, length, ℤ, pos, ◌-ℤ◌, true, FitsSigned}
+use Rattle.std.specs.Prelude.{◌≡◌, ℕ, ◌+◌, ◌<◌, ◌≤◌, List, Bool, length, ℤ, pos, ◌-ℤ◌, true, false, slice_index_or}
+use Rattle.std.specs.Prelude.{FitsSigned}
 use Rattle.std.specs.Int.{w16, w32, int_wrap}
 use Rattle.mp_sums.specs.Residues.{item}
 use Rattle.mp_scans.specs.declared.plans.Plan.{Plan}
@@ -26,3 +27,19 @@ pub record IsNarrow (plan : Plan) (numbers : List ℤ) (free : List Bool) : Type
   pub marks : AreFree plan.grid.m (series_in plan) free
   pub narrow : AreNarrow (length plan.grid.rows.now) (rounded_in plan.rounding.shift (series_in plan)) numbers
   pub all_numbers : length plan.grid.rows.now + 32 ≤ length numbers
+
+-- a stretch of marks that are the same ends there
+pub record IsTurn (marks : List Bool) (place turn : ℕ) : Type 0 where
+  pub later : place < turn
+  pub within : turn ≤ length marks
+  pub same : (k : ℕ) → place ≤ k → k < turn → slice_index_or marks k false ≡ slice_index_or marks place false
+
+-- the same for each mark
+pub record AreTurns (marks : List Bool) (turns : List ℕ) : Type 0 where
+  pub places : length turns ≡ length marks
+  pub each : (k : ℕ) → k < length marks → IsTurn marks k (slice_index_or turns k 0)
+
+-- the rows from first on and before end and the columns so far behind them are free
+abbrev pub HaveFree : List Bool → ℕ → ℕ → ℕ → Type 0
+HaveFree free offset first end = (k : ℕ) → first ≤ k → k < end
+    → (slice_index_or free k false ≡ true) × (slice_index_or free (k + offset) false ≡ true)

@@ -4,6 +4,7 @@ use Rattle.std.specs.Prelude.{◌==◌, ◌&&◌, nat_le, nat_lt, List, length}
 use Rattle.std.specs.Prelude.{slice_index, slice_index_or, None}
 use Rattle.mp_nums.specs.declared.samples.Sample.{Sample}
 use Rattle.mp_defs.specs.Series.{series_of}
+use Rattle.mp_defs.specs.Window.{excl}
 use Rattle.mp_partial.specs.Values.{Column}
 use Rattle.mp_partial.specs.Profiled.{Profiled}
 use Rattle.mp_results.specs.Covering.{is_covered}
@@ -17,6 +18,12 @@ use Rattle.mp_anytime.specs.Waiting.{AreWaiting}
 abbrev pub is_last_from : List ℕ → ℕ → ℕ → ℕ → ℕ → ℕ → Bool
 is_last_from covered last first end i j =
     (j == last) && (is_covered covered (last - i) && (nat_le first (last - i) && nat_lt (last - i) end))
+
+-- a diagonal is covered, and lies behind the exclusion zone and before the last window
+pub record IsCoveredWithin (m last : ℕ) (covered : List ℕ) (diagonal : ℕ) : Type 0 where
+  pub is : is_covered covered diagonal ≡ true
+  pub zone : excl m < diagonal
+  pub within : diagonal < last
 
 -- a column changed at one place at most
 pub record ChangesAt (place : ℕ) (old new : Column) : Type 0 where

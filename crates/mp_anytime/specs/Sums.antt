@@ -46,3 +46,10 @@ pub record LieClose (m : ℕ) (xs : List ℤ) : Type 0 where
   pub range : Range
   pub within : AreWithin range xs
   pub fits : SumsFit m 63 range
+
+-- 63 bits hold the sum of the squared differences of these numbers and as many others in the same range
+pub record AreNear (xs ys : List ℤ) : Type 0 where
+  pub range : Range
+  pub within : AreWithin range xs
+  pub others_within : AreWithin range ys
+  pub fits : SumsFit (length xs) 63 range

@@ -26,8 +26,8 @@ ghost use Rattle.mp_anytime.specs.Sums.{HavePlaces, LieClose, room_of as sums_ro
 use crate::any_found::AnyFound;
 use crate::extending::{extend_each, sum_of};
 use crate::limits::{GREATEST, find_limits};
-use crate::moving::move_sums;
-use crate::offers::{Row, offer_row};
+use crate::moving::move_on;
+use crate::offers::{Row, offer_listed, offer_row};
 use crate::sums::{Sums, filled};
 use crate::waiting::Waiting;
 use mp_nums::{Items, Memory, Sample, Whole};
@@ -108,8 +108,9 @@ impl Coverage {
         }
     }
 
-    /// Offers the last window to the windows before it, by the sums of their pairs.
-    fn offer_last(&mut self, samples: &Samples, m: u32, last: u64)
+    /// Offers the last window to the windows before it, by the sums of their pairs: of all diagonals, or of the covered
+    /// ones alone.
+    fn offer_last(&mut self, samples: &Samples, m: u32, last: u64, are_all: bool)
         requires shortest { 1 ≤ m }
         requires row { IsRow m samples.now.items self.old.covered.items self.old.waiting
             self.old.sums.lower.items last }
@@ -133,12 +134,24 @@ impl Coverage {
             sums: self.sums.lower.as_slice(),
             last: last as usize,
         };
-        let first = excl(m) as usize + 1;
-        offer_row(&row, first, &mut self.profile, self.limits.as_mut_slice());
+        if are_all {
+            let first = excl(m) as usize + 1;
+            offer_row(&row, first, &mut self.profile, self.limits.as_mut_slice());
+        } else {
+            offer_listed(&row, &mut self.profile, self.limits.as_mut_slice());
+        }
     }
 
-    /// Takes the pairs of all windows with the last one, of which most lie on covered diagonals.
-    fn extend_all(&mut self, samples: &mut Samples, m: u32, last: u64)
+    /// Whether the pairs of the last window are so few for each covered diagonal that they are best taken all together.
+    fn are_most_covered(&self, last: u64) -> bool
+        ensures { result ≡ true → last ≤ 2 * length self.now.covered.items }
+    {
+        last / 2 < self.covered.as_slice().len() as u64
+    }
+
+    /// Takes the pairs of the covered diagonals with the last window, where the samples lie close: by all of its pairs
+    /// where that reads no more.
+    fn extend_close(&mut self, samples: &mut Samples, m: u32, last: u64)
         requires shortest { MIN_WINDOW ≤ m }
         requires longest { m ≤ MAX_WINDOW }
         requires some { 1 ≤ length self.old.covered.items }
@@ -147,11 +160,13 @@ impl Coverage {
         requires close { LieClose m (numbers_in samples.old.items) }
         ensures extended { IsExtended m samples.old.items last self.old self.new }
         ensures room { room_of self.new ≡ room_of self.old }
-        ensures read { OnlyReads (2 * last) samples.old samples.new }
+        ensures read { OnlyReads (4 * length self.old.covered.items) samples.old samples.new }
     {
         self.know_limits();
-        move_sums(samples, m, last, &mut self.sums);
-        self.offer_last(samples, m, last);
+        let are_most = self.are_most_covered(last);
+        let covered = self.covered.as_slice();
+        move_on(samples, m, last, covered, are_most, &mut self.sums);
+        self.offer_last(samples, m, last, are_most);
         self.are_limits_known = true;
     }
 
@@ -176,20 +191,15 @@ impl Coverage {
         );
     }
 
-    /// Whether the pairs of the last window are so few for each covered diagonal that they are best taken all together,
-    /// and 64 bits hold their sums.
-    fn are_most_covered(&self, m: u32, last: u64) -> bool
+    /// Whether there are covered diagonals, and 64 bits hold the sums of their pairs.
+    fn are_close(&self, m: u32) -> bool
         ensures some { result ≡ true → 1 ≤ length self.now.covered.items }
-        ensures most { result ≡ true → last ≤ 2 * length self.now.covered.items }
         ensures fits { result ≡ true → SumsFit m 63 self.now.range }
     {
-        let count = self.covered.as_slice().len() as u64;
-        let are_most = last / 2 < count;
-        let is_narrow = self.range.sums_fit(m, SUM_BITS);
-        are_most & is_narrow
+        !self.covered.as_slice().is_empty() & self.range.sums_fit(m, SUM_BITS)
     }
 
-    /// Takes the pairs of the covered diagonals with the last window: by all of its pairs where that reads no more.
+    /// Takes the pairs of the covered diagonals with the last window.
     fn extend(&mut self, samples: &mut Samples, m: u32, last: u64)
         requires shortest { MIN_WINDOW ≤ m }
         requires longest { m ≤ MAX_WINDOW }
@@ -199,8 +209,8 @@ impl Coverage {
         ensures room { room_of self.new ≡ room_of self.old }
         ensures read { OnlyReads (4 * length self.old.covered.items) samples.old samples.new }
     {
-        if self.are_most_covered(m, last) {
-            self.extend_all(samples, m, last);
+        if self.are_close(m) {
+            self.extend_close(samples, m, last);
         } else {
             self.extend_covered(samples, m, last);
         }
@@ -307,8 +317,8 @@ impl Coverage {
         self.covered.reserve(k)
     }
 
-    /// Covers a diagonal, of which the profile has the pairs.
-    fn cover_one(&mut self, samples: &mut Samples, m: u32, diagonal: u64)
+    /// Covers a diagonal, of which the profile has the pairs. The samples may lie close.
+    fn cover_one(&mut self, samples: &mut Samples, m: u32, diagonal: u64, are_close: bool)
         requires shortest { MIN_WINDOW ≤ m }
         requires longest { m ≤ MAX_WINDOW }
         requires few { length samples.old.items ≤ max_samples }
@@ -316,6 +326,7 @@ impl Coverage {
         requires covered_room { 0 < self.old.covered.spare }
         requires fresh { is_covered self.old.covered.items diagonal ≡ false }
         requires range { AreWithin self.old.range (numbers_in samples.old.items) }
+        requires close { are_close ≡ true → SumsFit m 63 self.old.range }
         requires listed { IsListed m samples.old.items self.old }
         ensures listed { IsListed m samples.old.items self.new }
         ensures covered { self.new.covered.items ≡ self.old.covered.items ++ diagonal ∷ [] }
@@ -328,7 +339,7 @@ impl Coverage {
         ensures read { OnlyReads (2 * m) samples.old samples.new }
     {
         let last = windows(samples.len(), m) - 1;
-        let sum = sum_of(samples, m, last - diagonal, last);
+        let sum = sum_of(samples, m, last - diagonal, last, are_close);
         self.covered.push(diagonal).unwrap();
         self.sums.set(diagonal as usize, sum);
         self.waiting.cover(diagonal);
@@ -359,8 +370,9 @@ impl Coverage {
         found.put_into(&mut self.profile);
         self.are_limits_known = false;
         self.range = whole_range(samples);
+        let are_close = self.range.sums_fit(m, SUM_BITS);
         for diagonal in chosen {
-            self.cover_one(samples, m, *diagonal);
+            self.cover_one(samples, m, *diagonal, are_close);
         }
     }
 }

@@ -1,22 +1,23 @@
 //! The last pair of each covered diagonal, and the pair that one window more brings.
 
-ghost use Rattle.std.specs.Prelude.{ℕ, pos, slice_index_or, ◌≡◌, ◌+◌, ◌-◌, ◌*◌, ◌<◌, ◌≤◌, length, All};
+ghost use Rattle.std.specs.Prelude.{ℕ, pos, slice_index_or, ◌≡◌, ◌+◌, ◌-◌, ◌*◌, ◌<◌, ◌≤◌, length, All, true};
 ghost use Rattle.mp_defs.specs.Limits.{max_samples};
 ghost use Rattle.mp_defs.specs.Series.{Series, series_of};
 ghost use Rattle.mp_series.specs.declared.limits.TheConstants.{MAX_WINDOW};
+ghost use Rattle.mp_series.specs.Samples.{numbers_in};
 ghost use Rattle.mp_sums.specs.Sums.{greatest_square, numbers_of};
 ghost use Rattle.mp_scans.specs.Offering.{only};
 ghost use Rattle.mp_tiles.specs.Scanning.{HasPlaces, IsScanned};
 ghost use Rattle.mp_anytime.specs.Kept.{AreDistinct, AreSums, IsDiagonal, IsSumAt, OnlyReads, is_last_pair};
 ghost use Rattle.mp_anytime.specs.Kept.{square_at};
-ghost use Rattle.mp_anytime.specs.Sums.{HavePlaces, room_of};
+ghost use Rattle.mp_anytime.specs.Sums.{AreNear, HavePlaces, LieClose, room_of};
 
 use crate::pairs::offer_pair;
 use crate::sums::Sums;
 use mp_nums::{Sq, Whole};
 use mp_partial::Profile;
 use mp_series::Samples;
-use mp_sums::square;
+use mp_sums::{close_square, square};
 
 /// The squared difference of samples `i` and `j`, where a missing one counts as 0.
 #[inline]
@@ -47,9 +48,29 @@ fn sum_between(first: &[Whole], second: &[Whole]) -> u128
     sum
 }
 
-/// The sum of windows `i` and `j`.
-pub(crate) fn sum_of(samples: &mut Samples, m: u32, i: u64, j: u64) -> u128
+/// The same where 63 bits hold the sum.
+fn near_sum(first: &[Whole], second: &[Whole]) -> u64
+    requires some { 2 ≤ length first.now }
+    requires same { length second.now ≡ length first.now }
+    requires few { length first.now ≤ MAX_WINDOW }
+    requires near { AreNear first.now second.now }
+    ensures { (a : Series) (i j : ℕ)
+        → ((k : ℕ) → k < length first.now → slice_index_or first.now k (pos 0) ≡ numbers_of a (i + k))
+        → ((k : ℕ) → k < length first.now → slice_index_or second.now k (pos 0) ≡ numbers_of a (j + k))
+        → IsSumAt (length first.now) a i j result }
+{
+    let mut sum = 0;
+    for k in 0..first.len() {
+        sum += close_square(first[k], second[k]);
+    }
+    sum
+}
+
+/// The sum of windows `i` and `j`, of samples that may lie close.
+pub(crate) fn sum_of(samples: &mut Samples, m: u32, i: u64, j: u64, are_close: bool) -> u128
+    requires shortest { 2 ≤ m }
     requires width { m ≤ MAX_WINDOW }
+    requires close { are_close ≡ true → LieClose m (numbers_in samples.old.items) }
     requires few { length samples.old.items ≤ max_samples }
     requires first { i + m ≤ length samples.old.items }
     requires second { j + m ≤ length samples.old.items }
@@ -57,7 +78,11 @@ pub(crate) fn sum_of(samples: &mut Samples, m: u32, i: u64, j: u64) -> u128
     ensures read { OnlyReads (2 * m) samples.old samples.new }
 {
     let (first, second) = samples.parts(i, j, u64::from(m));
-    sum_between(first, second)
+    if are_close {
+        u128::from(near_sum(first, second))
+    } else {
+        sum_between(first, second)
+    }
 }
 
 /// The sum of windows `i` and `j`, from that of the windows before them.

@@ -1,21 +1,21 @@
 //! A series in 16 bits, whose residues tell the distances of its windows.
 
-ghost use Rattle.std.specs.Prelude.{◌≡◌, ℕ, ◌+◌, ◌*◌, ◌<◌, ◌≤◌, length, min, IfOk, true, false, ◌&&◌};
-ghost use Rattle.std.specs.Prelude.{if◌then◌else◌, slice_index_or, ℤ, pos, ◌-ℤ◌, FitsSigned};
+ghost use Rattle.std.specs.Prelude.{◌≡◌, ℕ, ◌+◌, ◌*◌, ◌<◌, ◌≤◌, ◌^◌, length, min, IfOk, None, true, false, ◌&&◌};
+ghost use Rattle.std.specs.Prelude.{slice_index_or, ℤ, pos, ◌-ℤ◌, FitsSigned};
+ghost use Rattle.std.specs.Option.{ForSome};
 ghost use Rattle.std.specs.Int.{int_wrap, w16};
 ghost use Rattle.mp_defs.specs.Distance.{squared_difference};
 ghost use Rattle.mp_defs.specs.Series.{series_of};
 ghost use Rattle.mp_sums.specs.Sums.{numbers_of, square_sum};
 ghost use Rattle.mp_sums.specs.Residues.{item, residue as residue_of};
-ghost use Rattle.mp_sums.specs.declared.residues.TheConstants.{ALWAYS};
 ghost use Rattle.mp_anytime.specs.Scanning.{AreFree};
 ghost use Rattle.mp_anytime.specs.Rounded.{core_in, rounded_in, series_in, whole_in};
-ghost use Rattle.mp_anytime.specs.Narrow.{AreNarrow, IsNarrow, LieNear, wrapped};
+ghost use Rattle.mp_anytime.specs.Narrow.{AreNarrow, AreTurns, IsNarrow, IsTurn, LieNear, wrapped};
 
 use crate::rounded::{BEHIND, BLOCK, add_up};
 use mp_nums::{Memory, Sample};
 use mp_scans::Plan;
-use mp_sums::{ALWAYS, Range, ZERO, number_of};
+use mp_sums::{Range, ZERO, number_of};
 use std::alloc::Global;
 use std::simd::prelude::*;
 
@@ -31,9 +31,11 @@ pub(crate) struct Narrow<'a> {
     numbers: &'a [i16],
     /// Whether no sample of a window is missing.
     pub(crate) free: &'a [bool],
-    /// Whether no sample is missing at all.
-    is_whole: bool,
-    ghost whole: { is_whole ≡ true → (k : ℕ) → k < length free.now → slice_index_or free.now k false ≡ true },
+    /// For each window where the stretch ends of which all windows are free or none is. There are none of them where no
+    /// sample is missing.
+    turns: Option<&'a [u32]>,
+    ghost turning: { ForSome turns (λ turns. AreTurns free.now turns.now) },
+    ghost whole: { turns ≡ None → (k : ℕ) → k < length free.now → slice_index_or free.now k false ≡ true },
     ghost lists: { IsNarrow plan numbers.now free.now },
 }
 
@@ -101,24 +103,6 @@ fn fill_steps(numbers: &[i16], row: usize, column: usize, m: usize, steps: &mut 
     }
 }
 
-/// Puts the greatest residue in place of that of each pair whose row or column isn't free.
-#[inline]
-fn keep_free(rows: &[bool], columns: &[bool], residues: &mut [i32])
-    requires rows { length rows.now ≡ length residues.old }
-    requires columns { length columns.now ≡ length residues.old }
-    ensures residues { (k : ℕ) → k < length residues.new → item residues.new k
-        ≡ (if slice_index_or rows.now k false && slice_index_or columns.now k false then item residues.old k
-        else ALWAYS) }
-    ensures places { length residues.new ≡ length residues.old }
-{
-    for k in 0..residues.len() {
-        if rows[k] & columns[k] {
-            continue;
-        }
-        residues[k] = ALWAYS;
-    }
-}
-
 /// Whether all marks are set.
 fn are_all(marks: &[bool]) -> bool
     ensures { result ≡ true → (k : ℕ) → k < length marks.now → slice_index_or marks.now k false ≡ true }
@@ -128,6 +112,50 @@ fn are_all(marks: &[bool]) -> bool
         all = marks[k] & all;
     }
     all
+}
+
+/// Where the stretch of the same marks ends that one is in, from where that of the next one ends.
+#[inline]
+fn turn_at(marks: &[bool], place: usize, behind: u32) -> u32
+    requires place { place < length marks.now }
+    requires few { length marks.now < 2 ^ 32 }
+    requires behind { place + 1 < length marks.now → IsTurn marks.now (place + 1) behind }
+    ensures { IsTurn marks.now place result }
+{
+    if place + 1 < marks.len() && marks[place] == marks[place + 1] {
+        behind
+    } else {
+        place as u32 + 1
+    }
+}
+
+/// Finds for each mark where the stretch ends of marks that are the same.
+fn fill_turns(marks: &[bool], turns: &mut [u32])
+    requires places { length turns.old ≡ length marks.now }
+    requires few { length marks.now < 2 ^ 32 }
+    ensures { AreTurns marks.now turns.new }
+{
+    let mut turn = 0;
+    for k in 0..marks.len() {
+        let place = marks.len() - 1 - k;
+        turn = turn_at(marks, place, turn);
+        turns[place] = turn;
+    }
+}
+
+/// For each mark where the stretch ends of marks that are the same, unless all are set.
+fn turns_of(alloc: Global, marks: &[bool]) -> Result<Option<Vec<u32>>, Memory>
+    requires few { length marks.now < 2 ^ 32 }
+    ensures turning { IfOk result (λ turns. ForSome turns (λ turns. AreTurns marks.now turns.items)) }
+    ensures whole { IfOk result (λ turns. turns ≡ None
+        → (k : ℕ) → k < length marks.now → slice_index_or marks.now k false ≡ true) }
+{
+    if are_all(marks) {
+        return Ok(None);
+    }
+    let mut turns = vec![in alloc; 0; marks.len()]?;
+    fill_turns(marks, turns.as_mut_slice());
+    Ok(Some(turns))
 }
 
 /// Whether the samples lie so near each other that 16 bits hold each difference.
@@ -143,13 +171,13 @@ pub(crate) fn lie_near(samples: &[Sample]) -> bool
 }
 
 impl<'a> Narrow<'a> {
-    /// The residue of the core of the diagonal's first block.
-    pub(crate) fn first_core(&self, offset: usize) -> i32
-        requires { offset < length self.now.free.now }
-        ensures { result ≡ residue_of (core_in self.now.plan 0 offset) }
+    /// The residue of the core of the block of a row and of the column so far behind it.
+    pub(crate) fn core(&self, row: usize, offset: usize) -> i32
+        requires { row + offset < length self.now.free.now }
+        ensures { result ≡ residue_of (core_in self.now.plan row (row + offset)) }
     {
-        let count = self.plan.grid.m.saturating_sub(BEHIND);
-        sum_of_squares(self.numbers, BEHIND, offset + BEHIND, count).wrapping_add(ZERO)
+        let (column, count) = (row + offset, self.plan.grid.m.saturating_sub(BEHIND));
+        sum_of_squares(self.numbers, row + BEHIND, column + BEHIND, count).wrapping_add(ZERO)
     }
 
     /// The residue of the core of the next block, where there is one, from that of the block of a row and of the column
@@ -177,24 +205,6 @@ impl<'a> Narrow<'a> {
         sum_of_squares(self.numbers, row, row + offset, self.plan.grid.m).wrapping_add(ZERO)
     }
 
-    /// The residue of the next row and its column.
-    #[inline]
-    pub(crate) fn next_whole(&self, row: usize, offset: usize, residue: i32) -> i32
-        requires within { row + 1 + offset < length self.now.free.now }
-        requires residue { residue ≡ residue_of (whole_in self.now.plan row (row + offset)) }
-        ensures { result ≡ residue_of (whole_in self.now.plan (row + 1) (row + 1 + offset)) }
-    {
-        let mut steps = [0];
-        fill_steps(
-            self.numbers,
-            row,
-            row + offset,
-            self.plan.grid.m,
-            &mut steps,
-        );
-        residue.wrapping_add(steps[0])
-    }
-
     /// The sum of the squared differences of the samples of a row and of the column so far behind it that stand before
     /// their core.
     #[inline]
@@ -212,13 +222,24 @@ impl<'a> Narrow<'a> {
         block_squares(self.numbers, row, column).wrapping_sub(last)
     }
 
-    /// The residues of a block's rows, each with the column so far behind it, from that of its core.
+    /// The residue of a row and of the column so far behind it, from that of the core of their block.
     #[inline]
-    pub(crate) fn fill_residues(&self, row: usize, offset: usize, core: i32, residues: &mut [i32])
-        requires places { length residues.old ≡ BLOCK }
-        requires within { row + offset + BLOCK ≤ length self.now.free.now }
+    pub(crate) fn whole_of(&self, row: usize, offset: usize, core: i32) -> i32
+        requires within { row + offset < length self.now.free.now }
         requires core { core ≡ residue_of (core_in self.now.plan row (row + offset)) }
-        ensures residues { (k : ℕ) → k < BLOCK
+        ensures { result ≡ residue_of (whole_in self.now.plan row (row + offset)) }
+    {
+        self.first_of(row, offset).wrapping_add(core)
+    }
+
+    /// The residues of successive rows, as far as there are any, each with the column so far behind it, from that of
+    /// the first.
+    #[inline]
+    pub(crate) fn fill_residues(&self, row: usize, offset: usize, whole: i32, residues: &mut [i32])
+        requires places { length residues.old ≡ BLOCK }
+        requires within { row + offset < length self.now.free.now }
+        requires whole { whole ≡ residue_of (whole_in self.now.plan row (row + offset)) }
+        ensures residues { (k : ℕ) → k < BLOCK → row + k + offset < length self.now.free.now
             → item residues.new k ≡ residue_of (whole_in self.now.plan (row + k) (row + k + offset)) }
         ensures places { length residues.new ≡ BLOCK }
     {
@@ -230,29 +251,35 @@ impl<'a> Narrow<'a> {
             self.plan.grid.m,
             &mut steps,
         );
-        let first = self.first_of(row, offset).wrapping_add(core);
-        add_up(first, &steps, residues);
+        add_up(whole, &steps, residues);
     }
 
-    /// Puts the greatest residue in place of that of each pair of successive rows, each with the column so far behind
-    /// it, where a sample is missing.
+    /// Whether no sample of a row and of the column so far behind it is missing.
     #[inline]
-    pub(crate) fn leave_out(&self, row: usize, offset: usize, residues: &mut [i32])
-        requires within { row + offset + length residues.old ≤ length self.now.free.now }
-        ensures residues { (k : ℕ) → k < length residues.new → item residues.new k ≡
-            (if slice_index_or self.now.free.now (row + k) false
-            && slice_index_or self.now.free.now (row + k + offset) false then item residues.old k else ALWAYS) }
-        ensures places { length residues.new ≡ length residues.old }
+    pub(crate) fn are_free(&self, row: usize, offset: usize) -> bool
+        requires { row + offset < length self.now.free.now }
+        ensures { result ≡ (slice_index_or self.now.free.now row false
+            && slice_index_or self.now.free.now (row + offset) false) }
     {
-        if self.is_whole {
-            return;
+        self.free[row] & self.free[row + offset]
+    }
+
+    /// Where the stretch of pairs ends of which all have free windows or none has, from a row and the column so far
+    /// behind it on.
+    #[inline]
+    pub(crate) fn turn(&self, row: usize, offset: usize) -> usize
+        requires { row + offset < length self.now.free.now }
+        ensures later { row < result }
+        ensures within { result + offset ≤ length self.now.free.now }
+        ensures rows { (k : ℕ) → row ≤ k → k < result
+            → slice_index_or self.now.free.now k false ≡ slice_index_or self.now.free.now row false }
+        ensures columns { (k : ℕ) → row ≤ k → k < result → slice_index_or self.now.free.now (k + offset) false
+            ≡ slice_index_or self.now.free.now (row + offset) false }
+    {
+        match self.turns {
+            Some(turns) => (turns[row] as usize).min(turns[row + offset] as usize - offset),
+            None => self.free.len() - offset,
         }
-        let (column, count) = (row + offset, residues.len());
-        keep_free(
-            &self.free[row..row + count],
-            &self.free[column..column + count],
-            residues,
-        );
     }
 }
 
@@ -262,6 +289,9 @@ pub(crate) struct NarrowList<'a> {
     plan: Plan<'a>,
     numbers: Vec<i16>,
     free: Vec<bool>,
+    turns: Option<Vec<u32>>,
+    ghost turning: { ForSome turns (λ turns. AreTurns free.items turns.items) },
+    ghost whole: { turns ≡ None → (k : ℕ) → k < length free.items → slice_index_or free.items k false ≡ true },
     ghost lists: { IsNarrow plan numbers.items free.items },
 }
 
@@ -302,10 +332,12 @@ impl<'a> NarrowList<'a> {
         ensures plan { IfOk result (λ list. list.plan ≡ plan.now) }
     {
         let numbers = narrow_all(alloc, plan.grid.rows)?;
+        let turns = turns_of(alloc, free.as_slice())?;
         Ok(NarrowList {
             plan: *plan,
             numbers,
             free,
+            turns,
         })
     }
 
@@ -317,7 +349,7 @@ impl<'a> NarrowList<'a> {
             plan: self.plan,
             numbers: self.numbers.as_slice(),
             free: self.free.as_slice(),
-            is_whole: are_all(self.free.as_slice()),
+            turns: self.turns.as_ref().map(|turns| turns.as_slice()),
         }
     }
 }

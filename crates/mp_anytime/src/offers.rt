@@ -1,12 +1,13 @@
 //! The offers of the last window to the windows before it, by sums of 64 bits.
 
 ghost use Rattle.std.specs.Prelude.{◌≡◌, ℕ, ◌+◌, ◌-◌, ◌^◌, ◌<◌, ◌≤◌, length, slice_index};
-ghost use Rattle.std.specs.Prelude.{false, true};
+ghost use Rattle.std.specs.Prelude.{All, false, true};
 ghost use Rattle.mp_defs.specs.Series.{series_of};
 ghost use Rattle.mp_defs.specs.Window.{excl as zone_of};
 ghost use Rattle.mp_results.specs.Covering.{is_covered};
 ghost use Rattle.mp_tiles.specs.Scanning.{IsScanned};
-ghost use Rattle.mp_anytime.specs.Offers.{IsReady, IsRow, is_last_from};
+ghost use Rattle.mp_anytime.specs.Kept.{IsDiagonal, is_last_pair};
+ghost use Rattle.mp_anytime.specs.Offers.{IsCoveredWithin, IsReady, IsRow, is_last_from};
 
 use crate::limits::{GREATEST, limit_of};
 use crate::pairs::offer_pair;
@@ -172,4 +173,85 @@ pub(crate) fn offer_row(row: &Row, first: usize, profile: &mut Profile, limits: 
         offer_group(row, start, start + GROUP, profile, limits);
     }
     offer_group(row, first + groups * GROUP, row.last, profile, limits);
+}
+
+/// The same as `is_below` of some diagonals.
+#[inline]
+fn is_one_below(sums: &[u64], last: usize, listed: &[u64], limits: &[u64], best: u64) -> bool
+    requires sums { length sums.now ≡ last + 1 }
+    requires limits { length limits.now ≡ last + 1 }
+    requires within { All (λ d. d < last) listed.now }
+    requires small_limits { (i : ℕ) → i < length limits.now → slice_index limits.now i ≤ 2 ^ 63 }
+    requires small_best { best ≤ 2 ^ 63 }
+    ensures { result ≡ false → All (λ d. (slice_index limits.now (last - d) ≤ slice_index sums.now d)
+        × (best ≤ slice_index sums.now d)) listed.now }
+{
+    let mut below = 0;
+    for k in 0..listed.len() {
+        let diagonal = listed[k] as usize;
+        let sum = sums[diagonal];
+        let nearer = either(
+            sum.wrapping_sub(limits[last - diagonal]),
+            sum.wrapping_sub(best),
+        );
+        below = either(below, nearer);
+    }
+    GREATEST <= below
+}
+
+/// Whether a sum of some covered diagonals may be nearer than what is known.
+#[inline]
+fn may_one_give(row: &Row, listed: &[u64], profile: &Profile, limits: &[u64]) -> bool
+    requires covered { All (IsCoveredWithin row.now.m row.now.last row.now.covered.now) listed.now }
+    requires ready { IsReady row.now.last profile.now limits.now }
+    ensures { result ≡ false → IsScanned (is_last_pair listed.now row.now.last) row.now.m
+        (series_of row.now.samples.now.items) profile.now profile.now }
+{
+    let _entries = profile.all();
+    let best = limit_of(profile.left()[row.last]);
+    is_one_below(row.sums, row.last, listed, limits, best)
+}
+
+/// Offers the windows of the pairs of some covered diagonals to each other, one pair after another.
+#[inline(never)]
+fn offer_some(row: &Row, listed: &[u64], profile: &mut Profile, limits: &mut [u64])
+    requires covered { All (IsCoveredWithin row.now.m row.now.last row.now.covered.now) listed.now }
+    requires ready { IsReady row.now.last profile.old limits.old }
+    ensures ready { IsReady row.now.last profile.new limits.new }
+    ensures scanned { IsScanned (is_last_pair listed.now row.now.last) row.now.m
+        (series_of row.now.samples.now.items) profile.old profile.new }
+{
+    for k in 0..listed.len() {
+        offer_near(row, listed[k] as usize, profile, limits);
+    }
+}
+
+/// The same, unless all of their sums are too great.
+#[inline]
+fn offer_part(row: &Row, listed: &[u64], profile: &mut Profile, limits: &mut [u64])
+    requires covered { All (IsCoveredWithin row.now.m row.now.last row.now.covered.now) listed.now }
+    requires ready { IsReady row.now.last profile.old limits.old }
+    ensures ready { IsReady row.now.last profile.new limits.new }
+    ensures scanned { IsScanned (is_last_pair listed.now row.now.last) row.now.m
+        (series_of row.now.samples.now.items) profile.old profile.new }
+{
+    if may_one_give(row, listed, profile, limits) {
+        offer_some(row, listed, profile, limits);
+    }
+}
+
+/// The same of all covered diagonals, in groups.
+pub(crate) fn offer_listed(row: &Row, profile: &mut Profile, limits: &mut [u64])
+    requires diagonals { All (IsDiagonal row.now.m row.now.last) row.now.covered.now }
+    requires ready { IsReady row.now.last profile.old limits.old }
+    ensures ready { IsReady row.now.last profile.new limits.new }
+    ensures scanned { IsScanned (is_last_pair row.now.covered.now row.now.last) row.now.m
+        (series_of row.now.samples.now.items) profile.old profile.new }
+{
+    let mut first = 0;
+    while first < row.covered.len() {
+        let end = (first + GROUP).min(row.covered.len());
+        offer_part(row, &row.covered[first..end], profile, limits);
+        first = end;
+    }
 }

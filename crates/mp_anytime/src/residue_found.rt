@@ -1,6 +1,6 @@
 //! What was found along some diagonals of a series whose residues tell the distances.
 
-ghost use Rattle.std.specs.Prelude.{◌≡◌, ℕ, ◌+◌, ◌-◌, ◌*◌, ◌<◌, ◌≤◌, length, false};
+ghost use Rattle.std.specs.Prelude.{◌≡◌, ℕ, ◌+◌, ◌<◌, ◌≤◌, length, false};
 ghost use Rattle.std.specs.Prelude.{slice_index_or, None};
 ghost use Rattle.mp_sums.specs.Residues.{item, residue as residue_of};
 ghost use Rattle.mp_partial.specs.Values.{HasColumns, empty_columns, merged_column, merged_columns};
@@ -10,6 +10,7 @@ ghost use Rattle.mp_anytime.specs.Scanning.{AreEarlier, AreLater, is_pair_from, 
 ghost use Rattle.mp_anytime.specs.Rounded.{core_in, series_in, whole_in};
 ghost use Rattle.mp_anytime.specs.Bounds.{AreTaken, IsQuiet, columns_of, has_residue, kept_sides};
 ghost use Rattle.mp_anytime.specs.Told.{bounded_by};
+ghost use Rattle.mp_anytime.specs.Narrow.{HaveFree};
 
 use crate::narrow::Narrow;
 use crate::pairs::{offer_left, offer_right};
@@ -21,32 +22,31 @@ use mp_sums::passes;
 use std::alloc::Global;
 use std::marker::Model;
 
-/// A block of a diagonal, by how many come before it, and the residue of its core, where the diagonal has it.
+/// A block of a diagonal: its first row, and the residue of its core, where so many rows are left.
 #[derive(Clone, Copy)]
 struct Core {
-    block: usize,
+    row: usize,
     residue: i32,
 }
 
 impl Core {
-    /// The next block, and the residue of its core, where there are more blocks.
+    /// The next block of a stretch that ends there.
     #[inline]
-    fn next(self, narrow: &Narrow, offset: usize, blocks: usize) -> Core
-        requires within { BLOCK * blocks + offset ≤ length narrow.now.free.now }
-        requires there { self.block < blocks }
-        requires residue { self.residue
-            ≡ residue_of (core_in narrow.now.plan (BLOCK * self.block) (BLOCK * self.block + offset)) }
-        ensures next { result.block ≡ self.block + 1 }
-        ensures residue { result.block < blocks → result.residue
-            ≡ residue_of (core_in narrow.now.plan (BLOCK * result.block) (BLOCK * result.block + offset)) }
+    fn next(self, narrow: &Narrow, offset: usize, end: usize) -> Core
+        requires within { end + offset ≤ length narrow.now.free.now }
+        requires there { self.row + BLOCK ≤ end }
+        requires residue { self.residue ≡ residue_of (core_in narrow.now.plan self.row (self.row + offset)) }
+        ensures next { result.row ≡ self.row + BLOCK }
+        ensures residue { result.row + BLOCK ≤ end
+            → result.residue ≡ residue_of (core_in narrow.now.plan result.row (result.row + offset)) }
     {
-        let block = self.block + 1;
-        let residue = if block < blocks {
-            narrow.next_core(BLOCK * self.block, offset, self.residue)
+        let row = self.row + BLOCK;
+        let residue = if row + BLOCK <= end {
+            narrow.next_core(self.row, offset, self.residue)
         } else {
             self.residue
         };
-        Core { block, residue }
+        Core { row, residue }
     }
 }
 
@@ -103,20 +103,27 @@ fn offer_later(into: &mut Profile, side: &ResidueSide)
 }
 
 impl ResidueFound {
-    /// Takes successive pairs of a diagonal, which have these residues. Where a sample is missing, the greatest residue
-    /// is put in place of a pair's.
+    /// How many windows there are.
+    fn windows(&self) -> usize
+        ensures left { result ≡ length self.now.left }
+        ensures lesser { self.now.all ≡ merged_column self.now.left self.now.right }
+    {
+        self.left.len()
+    }
+
+    /// Takes successive pairs of a diagonal, which have these residues and lack no sample.
     #[inline]
-    fn take_residues(&mut self, narrow: &Narrow, row: usize, offset: usize, residues: &mut [i32])
+    fn take_residues(&mut self, narrow: &Narrow, row: usize, offset: usize, residues: &[i32])
         requires apart { 1 ≤ offset }
-        requires within { row + offset + length residues.old ≤ length narrow.now.free.now }
-        requires residues { (k : ℕ) → k < length residues.old
-            → item residues.old k ≡ residue_of (whole_in narrow.now.plan (row + k) (row + k + offset)) }
+        requires within { row + offset + length residues.now ≤ length narrow.now.free.now }
+        requires free { HaveFree narrow.now.free.now offset row (row + length residues.now) }
+        requires residues { (k : ℕ) → k < length residues.now
+            → item residues.now k ≡ residue_of (whole_in narrow.now.plan (row + k) (row + k + offset)) }
         requires places { HasPlaces (length narrow.now.free.now) self.old }
-        ensures { AreTaken narrow.now.plan (is_pair_from offset row (row + length residues.old))
+        ensures { AreTaken narrow.now.plan (is_pair_from offset row (row + length residues.now))
             (bounded_by narrow.now.plan self.old) (bounded_by narrow.now.plan self.new) }
     {
         let _windows = self.left.len();
-        narrow.leave_out(row, offset, residues);
         self.right.take_lanes(row, residues, (row + offset) as u32);
         self.left.take_lanes(row + offset, residues, row as u32);
     }
@@ -146,19 +153,22 @@ impl ResidueFound {
         self.right.may_take(row, residues) | self.left.may_take(column, residues)
     }
 
-    /// Takes the pairs of a block, whose core has this residue.
-    fn take_each(&mut self, narrow: &Narrow, row: usize, offset: usize, residue: i32)
+    /// Takes the pairs of a block, which lack no sample.
+    fn take_block(&mut self, narrow: &Narrow, offset: usize, core: Core)
         requires apart { 1 ≤ offset }
-        requires within { row + offset + BLOCK ≤ length narrow.now.free.now }
-        requires residue { residue ≡ residue_of (core_in narrow.now.plan row (row + offset)) }
+        requires within { core.row + offset + BLOCK ≤ length narrow.now.free.now }
+        requires free { HaveFree narrow.now.free.now offset core.row (core.row + BLOCK) }
+        requires residue { core.residue ≡ residue_of (core_in narrow.now.plan core.row (core.row + offset)) }
         requires places { HasPlaces (length narrow.now.free.now) self.old }
-        ensures { AreTaken narrow.now.plan (is_pair_from offset row (row + BLOCK))
+        ensures { AreTaken narrow.now.plan (is_pair_from offset core.row (core.row + BLOCK))
             (bounded_by narrow.now.plan self.old) (bounded_by narrow.now.plan self.new) }
     {
+        let Core { row, residue } = core;
         let mut residues = [0; BLOCK];
-        narrow.fill_residues(row, offset, residue, &mut residues);
+        let whole = narrow.whole_of(row, offset, residue);
+        narrow.fill_residues(row, offset, whole, &mut residues);
         if self.may_give_some(row, row + offset, &residues) {
-            self.take_residues(narrow, row, offset, &mut residues);
+            self.take_residues(narrow, row, offset, &residues);
             self.refresh(row, row + offset);
         }
     }
@@ -181,86 +191,91 @@ impl ResidueFound {
         )
     }
 
-    /// The first of a diagonal's blocks from one on whose pairs may give something, or the end of them all. Few
-    /// numbers are needed for that, so that this is a short loop.
+    /// The first block of a stretch from one on whose pairs may give something, or where the stretch has no block more.
+    /// Few numbers are needed for that, so that this is a short loop.
     #[inline]
-    fn next_near(&self, narrow: &Narrow, offset: usize, blocks: usize, from: Core) -> Core
+    fn next_near(&self, narrow: &Narrow, offset: usize, end: usize, from: Core) -> Core
         requires apart { 1 ≤ offset }
-        requires within { BLOCK * blocks + offset ≤ length narrow.now.free.now }
-        requires order { from.block ≤ blocks }
-        requires residue { from.block < blocks → from.residue
-            ≡ residue_of (core_in narrow.now.plan (BLOCK * from.block) (BLOCK * from.block + offset)) }
+        requires within { end + offset ≤ length narrow.now.free.now }
+        requires order { from.row ≤ end }
+        requires residue { from.row + BLOCK ≤ end
+            → from.residue ≡ residue_of (core_in narrow.now.plan from.row (from.row + offset)) }
         requires places { HasPlaces (length narrow.now.free.now) self.now }
-        ensures behind { from.block ≤ result.block }
-        ensures within { result.block ≤ blocks }
-        ensures residue { result.block < blocks → result.residue
-            ≡ residue_of (core_in narrow.now.plan (BLOCK * result.block) (BLOCK * result.block + offset)) }
-        ensures passed { AreTaken narrow.now.plan (is_pair_from offset (BLOCK * from.block) (BLOCK * result.block))
+        ensures behind { from.row ≤ result.row }
+        ensures within { result.row ≤ end }
+        ensures residue { result.row + BLOCK ≤ end
+            → result.residue ≡ residue_of (core_in narrow.now.plan result.row (result.row + offset)) }
+        ensures passed { AreTaken narrow.now.plan (is_pair_from offset from.row result.row)
             (bounded_by narrow.now.plan self.now) (bounded_by narrow.now.plan self.now) }
     {
         let mut near = from;
-        while near.block < blocks {
-            let row = BLOCK * near.block;
-            if self.may_give(row, row + offset, near.residue) {
+        while near.row + BLOCK <= end {
+            if self.may_give(near.row, near.row + offset, near.residue) {
                 break;
             }
-            near = near.next(narrow, offset, blocks);
+            near = near.next(narrow, offset, end);
         }
         near
     }
 
-    /// Takes the pairs of as many blocks as a diagonal has.
-    fn take_blocks(&mut self, narrow: &Narrow, offset: usize, blocks: usize)
+    /// Takes the pairs of as many blocks as a stretch has, which lacks no sample. The result is the row behind them.
+    fn take_blocks(&mut self, narrow: &Narrow, row: usize, offset: usize, end: usize) -> usize
         requires apart { 1 ≤ offset }
-        requires behind { offset < length narrow.now.free.now }
-        requires within { BLOCK * blocks + offset ≤ length narrow.now.free.now }
+        requires some { row < end }
+        requires within { end + offset ≤ length narrow.now.free.now }
+        requires free { HaveFree narrow.now.free.now offset row end }
         requires places { HasPlaces (length narrow.now.free.now) self.old }
-        ensures { AreTaken narrow.now.plan (is_pair_from offset 0 (BLOCK * blocks))
+        ensures behind { row ≤ result }
+        ensures within { result ≤ end }
+        ensures rest { end < result + BLOCK }
+        ensures taken { AreTaken narrow.now.plan (is_pair_from offset row result)
             (bounded_by narrow.now.plan self.old) (bounded_by narrow.now.plan self.new) }
     {
         let first = Core {
-            block: 0,
-            residue: narrow.first_core(offset),
+            row,
+            residue: narrow.core(row, offset),
         };
-        let mut near = self.next_near(narrow, offset, blocks, first);
-        while near.block < blocks {
-            self.take_each(narrow, BLOCK * near.block, offset, near.residue);
-            near = self.next_near(narrow, offset, blocks, near.next(narrow, offset, blocks));
+        let mut near = self.next_near(narrow, offset, end, first);
+        while near.row + BLOCK <= end {
+            self.take_block(narrow, offset, near);
+            near = self.next_near(narrow, offset, end, near.next(narrow, offset, end));
         }
+        near.row
     }
 
-    /// Takes so many successive pairs of a diagonal, one by one.
-    fn take_pairs(&mut self, narrow: &Narrow, row: usize, offset: usize, count: usize)
+    /// Takes the pairs of a stretch that its blocks leave, all together.
+    fn take_rest(&mut self, narrow: &Narrow, row: usize, offset: usize, end: usize)
         requires apart { 1 ≤ offset }
-        requires some { 1 ≤ count }
-        requires within { row + offset + count ≤ length narrow.now.free.now }
+        requires order { row ≤ end }
+        requires few { end < row + BLOCK }
+        requires within { end + offset ≤ length narrow.now.free.now }
+        requires free { HaveFree narrow.now.free.now offset row end }
         requires places { HasPlaces (length narrow.now.free.now) self.old }
-        ensures { AreTaken narrow.now.plan (is_pair_from offset row (row + count))
+        ensures { AreTaken narrow.now.plan (is_pair_from offset row end)
             (bounded_by narrow.now.plan self.old) (bounded_by narrow.now.plan self.new) }
     {
-        let mut residue = narrow.whole(row, offset);
-        self.take_residues(narrow, row, offset, &mut [residue]);
-        for k in 1..count {
-            residue = narrow.next_whole(row + k - 1, offset, residue);
-            self.take_residues(narrow, row + k, offset, &mut [residue]);
-        }
-    }
-
-    /// Takes the pairs of a diagonal from a row on.
-    fn take_rest(&mut self, narrow: &Narrow, row: usize, offset: usize)
-        requires apart { 1 ≤ offset }
-        requires within { row + offset ≤ length narrow.now.free.now }
-        requires places { HasPlaces (length narrow.now.free.now) self.old }
-        ensures { AreTaken narrow.now.plan (is_pair_from offset row (length narrow.now.free.now - offset))
-            (bounded_by narrow.now.plan self.old) (bounded_by narrow.now.plan self.new) }
-    {
-        let end = narrow.free.len() - offset;
         if row < end {
-            self.take_pairs(narrow, row, offset, end - row);
+            let mut residues = [0; BLOCK];
+            narrow.fill_residues(row, offset, narrow.whole(row, offset), &mut residues);
+            self.take_residues(narrow, row, offset, &residues[..end - row]);
         }
     }
 
-    /// Takes the pairs of windows that start so far apart.
+    /// Takes the pairs of a stretch that lacks no sample.
+    fn take_stretch(&mut self, narrow: &Narrow, row: usize, offset: usize, end: usize)
+        requires apart { 1 ≤ offset }
+        requires some { row < end }
+        requires within { end + offset ≤ length narrow.now.free.now }
+        requires free { HaveFree narrow.now.free.now offset row end }
+        requires places { HasPlaces (length narrow.now.free.now) self.old }
+        ensures { AreTaken narrow.now.plan (is_pair_from offset row end)
+            (bounded_by narrow.now.plan self.old) (bounded_by narrow.now.plan self.new) }
+    {
+        let rest = self.take_blocks(narrow, row, offset, end);
+        self.take_rest(narrow, rest, offset, end);
+    }
+
+    /// Takes the pairs of windows that start so far apart, stretch by stretch: pairs that lack a sample give nothing.
     pub(crate) fn take_along(&mut self, narrow: &Narrow, offset: usize)
         requires apart { 1 ≤ offset }
         requires within { offset < length narrow.now.free.now }
@@ -268,9 +283,16 @@ impl ResidueFound {
         ensures { IsScanned (starts_behind offset) narrow.now.plan.grid.m (series_in narrow.now.plan) self.old
             self.new }
     {
-        let blocks = (narrow.free.len() - offset) / BLOCK;
-        self.take_blocks(narrow, offset, blocks);
-        self.take_rest(narrow, BLOCK * blocks, offset);
+        let end = narrow.free.len() - offset;
+        let mut row = 0;
+        while row < end {
+            let _windows = self.windows();
+            let turn = narrow.turn(row, offset);
+            if narrow.are_free(row, offset) {
+                self.take_stretch(narrow, row, offset, turn);
+            }
+            row = turn;
+        }
     }
 
     /// Merges both sides of a profile of the same windows into what was found, as far as their distances have residues.

@@ -92,9 +92,9 @@ fn fill_steps(rows: &Changes, columns: &Changes, steps: &mut [i32])
 /// Finds the residue from which each step goes on, where the first one goes on from this.
 pub(crate) fn add_up(first: i32, steps: &[i32], residues: &mut [i32])
     requires places { length residues.old ≡ length steps.now }
-    ensures residues { (r : ℕ → ℤ) → first ≡ r 0
-        → ((k : ℕ) → k + 1 < length steps.now → int_wrap w32 (r k +ℤ item steps.now k) ≡ r (k + 1))
-        → (k : ℕ) → k < length residues.new → item residues.new k ≡ r k }
+    ensures residues { (count : ℕ) (r : ℕ → ℤ) → first ≡ r 0
+        → ((k : ℕ) → k < length steps.now → k + 1 < count → int_wrap w32 (r k +ℤ item steps.now k) ≡ r (k + 1))
+        → (k : ℕ) → k < length residues.new → k < count → item residues.new k ≡ r k }
     ensures places { length residues.new ≡ length residues.old }
 {
     let mut residue = first;

@@ -1,6 +1,6 @@
 //! The sum of the last pair of each diagonal.
 
-ghost use Rattle.std.specs.Prelude.{◌≡◌, ℕ, ◌+◌, ◌<◌, ◌≤◌, length, IfOk, IsOk, OnOk};
+ghost use Rattle.std.specs.Prelude.{◌≡◌, ℕ, ◌+◌, ◌<◌, ◌≤◌, length, slice_index, IfOk, IsOk, OnOk};
 ghost use Rattle.mp_anytime.specs.Sums.{HavePlaces, IsPut, room_of, sum_in};
 
 use mp_nums::{Items, Memory};
@@ -91,5 +91,16 @@ impl Sums {
     {
         self.lower.as_mut_slice()[diagonal] = (sum % LOWER) as u64;
         self.upper.as_mut_slice()[diagonal] = (sum / LOWER) as u64;
+    }
+
+    /// Puts the sum of a diagonal of which 64 bits held the sum before.
+    #[inline]
+    pub(crate) fn set_lower(&mut self, diagonal: usize, sum: u64)
+        requires lower { diagonal < length self.old.lower.items }
+        requires none { slice_index self.old.upper.items diagonal ≡ 0 }
+        ensures put { IsPut diagonal sum self.old self.new }
+        ensures room { room_of self.new ≡ room_of self.old }
+    {
+        self.lower.as_mut_slice()[diagonal] = sum;
     }
 }

@@ -215,7 +215,8 @@ pub fn run_all<R: Threads + Sync, K: Kernel, G: Gate>(
 }
 
 /// What the pieces of two kernels have together, run as by `run_all`: first those of the one, and then those of the
-/// other, for which each worker begins with what the first ones have together.
+/// other, for which each worker begins with what the first ones have together. Where the one has no piece, nothing of
+/// it is run.
 pub fn run_one_after_another<
     R: Threads + Sync,
     P: Part,
@@ -235,6 +236,9 @@ pub fn run_one_after_another<
     ensures size { IfOk result (λ out. P.size_of out ≡ A.size_of first.now) }
 {
     let (ahead, pieces) = (first.pieces(), second.pieces());
+    if ahead == 0 {
+        return run_all(rt, alloc, second, pieces, workers, gate);
+    }
     let mut parts = units(alloc, with_work(workers, pieces), first.size())?;
     let found = run_from(rt, alloc, first, ahead, &mut parts, gate)?;
     hand_on(&found, &mut parts);

@@ -1,9 +1,9 @@
-use Rattle.std.proofs.Common.{◌+◌, ◌^◌, ◌<◌, ◌∙◌, ap, arith, length, length-set, rules, w32, to_z}
+use Rattle.std.proofs.Common.{◌≡◌, ◌+◌, ◌^◌, ◌<◌, ◌∙◌, ap, arith, length, length-set, rules, w32, to_z}
 use Rattle.std.proofs.Common.{FitsSigned, ℤ, ◌+ℤ◌}
 use Rattle.std.specs.Int.{int_wrap}
 use Rattle.std.proofs.lemmas.Int.{to_z-of_z, wrapping_add_onto}
 use Rattle.mp_sums.specs.Residues.{item}
-use Rattle.mp_anytime.proofs.Moves.{set_next}
+use Rattle.mp_anytime.proofs.Moves.{each_next}
 use Rattle.mp_anytime.proofs.rounded.add_up.Goals as goal
 
 pub loop-k-preserved : goal.loop-k-preserved
@@ -19,19 +19,19 @@ loop-k-preserved c =
     let lt : k < length residues = omega (arith, there, before.places, c.requires) in
     record {
       places = length-set residues k (to_z w32 bits) ∙ before.places;
-      done = λ r first each.
-          let so_far = before.done r first each in (
+      done = λ count r first each.
+          let so_far = before.done count r first each in (
             λ next.
                 wrapping_add_onto w32 bits (item steps k) small fits
-                ∙ ap (λ z. int_wrap w32 (z +ℤ item steps k)) (so_far.0 there)
-                ∙ each k next,
-            set_next residues k (to_z w32 bits) r lt so_far.1 (so_far.0 there),
+                ∙ ap (λ z. int_wrap w32 (z +ℤ item steps k)) (so_far.0 (omega (arith, next)))
+                ∙ each k there next,
+            each_next (λ q z. q < count → z ≡ r q) residues k (to_z w32 bits) lt so_far.1 so_far.0,
           );
     }
 
 pub returns-clause-residues : goal.returns-clause-residues
-returns-clause-residues c = λ r first each k lt.
-    (c.loop-k.invariant.done r (to_z-of_z w32 c.args.first c.ranges.first ∙ first) each).1 k
+returns-clause-residues c = λ count r first each k lt less.
+    (c.loop-k.invariant.done count r (to_z-of_z w32 c.args.first c.ranges.first ∙ first) each).1 k
     (omega (
       arith,
       lt,
@@ -39,4 +39,4 @@ returns-clause-residues c = λ r first each k lt.
       c.requires,
       c.loop-k-test.false,
       c.loop-k.auto.k-end,
-    ))
+    )) less

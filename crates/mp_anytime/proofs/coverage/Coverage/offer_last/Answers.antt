@@ -1,6 +1,7 @@
 use Rattle.std.proofs.Common.{ℕ, ◌+◌, List, ap, arith, subst, sym}
 use Rattle.mp_defs.specs.Series.{series_of}
 use Rattle.mp_tiles.specs.Scanning.{IsScanned}
+use Rattle.mp_anytime.specs.Kept.{is_last_pair}
 use Rattle.mp_anytime.specs.Offers.{IsRow, is_last_from}
 use Rattle.mp_anytime.proofs.RowPairs.{all_from}
 use Rattle.mp_anytime.proofs.coverage.Coverage.offer_last.Goals as goal
@@ -18,8 +19,8 @@ invariant_of-row c =
           c.requires.row);
     }
 
-pub returns-clause-scanned : goal.returns-clause-scanned
-returns-clause-scanned c =
+pub returns-then-are_all-clause-scanned : goal.returns-then-are_all-clause-scanned
+returns-then-are_all-clause-scanned c =
     let m = c.args.m in
     let items = c.args.samples.now.items in
     let old = c.args.self.now in
@@ -29,3 +30,8 @@ returns-clause-scanned c =
     c.requires.row.within (ap (λ n. n + 1) c.excl.ensures) c.requires.diagonals c.requires.ready.places
     (subst (λ (ds : List ℕ). IsScanned (is_last_from ds last first last) m (series_of items) old.profile
     c.offer_row.new.profile) c.as_slice.ensures c.offer_row.ensures.scanned)
+
+pub returns-else-are_all-clause-scanned : goal.returns-else-are_all-clause-scanned
+returns-else-are_all-clause-scanned c =
+    subst (λ (ds : List ℕ). IsScanned (is_last_pair ds c.args.last) c.args.m (series_of c.args.samples.now.items)
+    c.args.self.now.profile c.offer_listed.new.profile) c.as_slice.ensures c.offer_listed.ensures.scanned

@@ -1,17 +1,18 @@
-use Rattle.std.proofs.Common.{◌≡◌, ◌+◌, ◌∙◌, ℕ, ℤ, arith, length, min, refl, rules, w32, FitsSigned}
+use Rattle.std.proofs.Common.{◌≡◌, ◌+◌, ◌-◌, ◌∙◌, ℕ, ℤ, arith, length, refl, rules, w32}
+use Rattle.std.proofs.lemmas.Int.{to_z-of_z}
 use Rattle.mp_defs.specs.Distance.{squared_difference}
 use Rattle.mp_sums.specs.Residues.{item, residue}
 use Rattle.mp_sums.specs.Sums.{square_sum}
 use Rattle.mp_sums.specs.SumLaws.{moved_on}
 use Rattle.mp_defs.specs.Window.{windows}
 use Rattle.mp_defs.specs.SeriesLaws.{series_are_of_samples}
-use Rattle.mp_anytime.specs.Rounded.{core_in, rounded_in, series_in, whole_in}
-use Rattle.mp_anytime.proofs.Moves.{residue_at, sum_with_core}
-use Rattle.mp_anytime.proofs.NarrowLemmas.{residue_moved, residue_with, same_step}
+use Rattle.mp_anytime.specs.Rounded.{rounded_in, series_in, whole_in}
+use Rattle.mp_anytime.proofs.Moves.{residue_at}
+use Rattle.mp_anytime.proofs.NarrowLemmas.{residue_moved, same_step}
 use Rattle.mp_anytime.proofs.narrow.Narrow.fill_residues.Goals as goal
 
 pub returns-clause-residues : goal.returns-clause-residues
-returns-clause-residues c = λ k lt.
+returns-clause-residues c = λ k lt there.
     let own = c.args.self.now in
     let plan = own.plan in
     let m = plan.grid.m in
@@ -23,23 +24,19 @@ returns-clause-residues c = λ k lt.
     let offset = c.args.offset in
     let column = row + offset in
     let r : ℕ → ℤ = λ q. residue (whole_in plan (row + q) (row + q + offset)) in
-    let places : length c.fill_steps.new.steps ≡ 32 = c.fill_steps.ensures.places in
-    let fits : FitsSigned w32 c.first_of.result = search rules in
-    c.add_up.ensures.residues r
-    (residue_with c.first_of.result c.args.core (square_sum (min m 31) x row x column) (core_in plan row column)
-    (whole_in plan row column) fits c.ranges.core c.first_of.ensures c.requires.core
-    (sum_with_core m plan.rounding.shift (series_in plan) row column (min m 31) refl)
+    c.add_up.ensures.residues (length own.free.now - column) r
+    (to_z-of_z w32 c.args.whole c.ranges.whole ∙ c.requires.whole
     ∙ residue_at m m x row (row + 0) column (row + 0 + offset) refl (omega arith) (omega arith))
-    (λ q here.
+    (λ q here next.
     residue_moved (r q) (item c.fill_steps.new.steps q) (whole_in plan (row + q) (row + q + offset))
     (squared_difference (x (row + q + m)) (x (row + q + offset + m)))
     (squared_difference (x (row + q)) (x (row + q + offset)))
     (square_sum m x (row + q + 1) x (row + q + offset + 1)) refl
-    (c.fill_steps.ensures.steps n x q own.lists.narrow (omega (arith, here))
-    (omega (arith, here, places, count, c.requires.within)) (omega (arith, here, places, count, c.requires.within))
+    (c.fill_steps.ensures.steps n x q own.lists.narrow here
+    (omega (arith, next, count)) (omega (arith, next, count))
     ∙ same_step x (row + m + q) (row + q + m) (column + m + q) (row + q + offset + m) (row + q) (row + q) (column + q)
     (row + q + offset) (omega arith) (omega arith) refl (omega arith))
     (moved_on m x (row + q) x (row + q + offset))
     ∙ residue_at m m x (row + q + 1) (row + (q + 1)) (row + q + offset + 1) (row + (q + 1) + offset) refl (omega arith)
     (omega arith))
-    k (omega (arith, lt, c.add_up.ensures.places, c.requires.places))
+    k (omega (arith, lt, c.add_up.ensures.places, c.requires.places)) (omega (arith, there))

@@ -1,4 +1,4 @@
-use Rattle.std.proofs.Common.{◌≡◌, ◌+◌, ◌*◌, ◌∙◌, arith, get_or, rules, subst, sym, w32, to_z, of_z, FitsSigned}
+use Rattle.std.proofs.Common.{◌≡◌, ◌+◌, ◌∙◌, arith, get_or, rules, subst, sym, w32, to_z, of_z, FitsSigned}
 use Rattle.std.specs.Prelude.{None}
 use Rattle.std.proofs.lemmas.Int.{to_z-of_z}
 use Rattle.mp_anytime.specs.Scanning.{is_pair_from}
@@ -13,7 +13,7 @@ loop-near-init c = record {
   behind = omega arith;
   within = c.requires.order;
   residue = c.requires.residue;
-  passed = none_taken c.args.narrow.now.plan c.args.offset (32 * c.args.from.block)
+  passed = none_taken c.args.narrow.now.plan c.args.offset c.args.from.row
       (bounded_by c.args.narrow.now.plan c.args.self.now)
       (for_these c.args.narrow.now c.args.self.now c.requires.places);
 }
@@ -26,11 +26,11 @@ loop-near-preserved c =
     let offset = c.args.offset in
     let before = c.loop-near.invariant in
     let near = c.loop-near.near in
-    let row = 32 * near.block in
+    let row = near.row in
     let self = bounded_by plan found in
     let is = for_these narrow found c.requires.places in
     let after = c.next-near.ensures in
-    let next : row + 32 ≡ 32 * c.next-near.result.block = omega (arith, after.next) in
+    let next : row + 32 ≡ c.next-near.result.row = omega (arith, after.next) in
     let r = to_z w32 (of_z w32 near.residue) in
     let fits : FitsSigned w32 near.residue = search rules in
     let unrounded = sym (plan.exact narrow.lists.exact).unrounded in
@@ -38,7 +38,7 @@ loop-near-preserved c =
       behind = omega (arith, before.behind, after.next);
       within = omega (arith, c.loop-near-test.true, after.next);
       residue = after.residue;
-      passed = taken_on plan offset (32 * c.args.from.block) row (32 * c.next-near.result.block) self self self is
+      passed = taken_on plan offset c.args.from.row row c.next-near.result.row self self self is
           (omega (arith, before.behind)) (omega (arith, after.next)) before.passed
           (subst (λ q. AreTaken plan (is_pair_from offset row q) self self) next
           (quiet_block plan row offset r self is c.requires.apart

@@ -1,4 +1,4 @@
-use Rattle.std.proofs.Common.{◌≡◌, ◌+◌, ◌-◌, ◌*◌, ◌<◌, ◌≤◌}
+use Rattle.std.proofs.Common.{◌≡◌, ◌+◌, ◌-◌, ◌≤◌}
 use Rattle.mp_sums.specs.Residues.{residue}
 use Rattle.mp_anytime.specs.Scanning.{is_pair_from}
 use Rattle.mp_anytime.specs.Rounded.{core_in}
@@ -8,12 +8,13 @@ use Rattle.mp_anytime.proofs.residue_found.ResidueFound.take_blocks.Given as goa
 
 abbrev pub invariant-loop-near : goal.invariant-loop-near
 invariant-loop-near l = record {
-  within : l.near.block ≤ l.blocks;
-  residue : l.near.block < l.blocks
-      → l.near.residue ≡ residue (core_in l.narrow.plan (32 * l.near.block) (32 * l.near.block + l.offset));
-  taken : AreTaken l.narrow.plan (is_pair_from l.offset 0 (32 * l.near.block))
+  behind : l.row ≤ l.near.row;
+  within : l.near.row ≤ l.end;
+  residue : l.near.row + 32 ≤ l.end → l.near.residue ≡ residue
+      (core_in l.narrow.plan l.near.row (l.near.row + l.offset));
+  taken : AreTaken l.narrow.plan (is_pair_from l.offset l.row l.near.row)
       (bounded_by l.narrow.plan l.initial.self) (bounded_by l.narrow.plan l.self);
 }
 
 abbrev pub decreases-loop-near : goal.decreases-loop-near
-decreases-loop-near l = l.blocks - l.near.block
+decreases-loop-near l = l.end - l.near.row

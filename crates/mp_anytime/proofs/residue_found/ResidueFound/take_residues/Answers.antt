@@ -6,34 +6,30 @@ use Rattle.mp_anytime.specs.Bounds.{AreTaken, both_sides}
 use Rattle.mp_anytime.specs.Rounded.{series_in}
 use Rattle.mp_anytime.specs.Scanning.{is_pair_from}
 use Rattle.mp_anytime.specs.Told.{bounded_by, lanes_by, lanes_taken}
-use Rattle.mp_anytime.proofs.Blocks.{AreSides, block_known, lanes_long, left_out_known}
+use Rattle.mp_anytime.proofs.Blocks.{AreSides, block_known, lanes_long, free_known}
 use Rattle.mp_anytime.proofs.residue_found.ResidueFound.take_residues.Goals as goal
 
 pub take_lanes-requires-clause-told : goal.take_lanes-requires-clause-told
 take_lanes-requires-clause-told c =
     let narrow = c.args.narrow.now in
     record {
-      each = λ k lt. (left_out_known narrow.plan narrow.free.now c.args.row c.args.offset c.args.residues.now
-          c.leave_out.new.residues
-          narrow.lists.exact narrow.lists.own narrow.lists.marks c.requires.apart c.requires.within c.requires.residues
-          c.leave_out.ensures.places c.leave_out.ensures.residues k
-          (omega (arith, lt, c.leave_out.ensures.places))).0;
+      each = λ k lt. (free_known narrow.plan narrow.free.now c.args.row c.args.offset c.args.residues.now
+          narrow.lists.exact narrow.lists.own narrow.lists.marks c.requires.apart c.requires.within c.requires.free
+          c.requires.residues k lt).0;
     }
 
 pub take_lanes-requires-2-clause-told : goal.take_lanes-requires-2-clause-told
 take_lanes-requires-2-clause-told c =
     let narrow = c.args.narrow.now in
     record {
-      each = λ k lt. (left_out_known narrow.plan narrow.free.now c.args.row c.args.offset c.args.residues.now
-          c.leave_out.new.residues
-          narrow.lists.exact narrow.lists.own narrow.lists.marks c.requires.apart c.requires.within c.requires.residues
-          c.leave_out.ensures.places c.leave_out.ensures.residues k
-          (omega (arith, lt, c.leave_out.ensures.places))).0;
+      each = λ k lt. (free_known narrow.plan narrow.free.now c.args.row c.args.offset c.args.residues.now
+          narrow.lists.exact narrow.lists.own narrow.lists.marks c.requires.apart c.requires.within c.requires.free
+          c.requires.residues k lt).0;
     }
 
 pub invariant_of-self : goal.invariant_of-self
 invariant_of-self c =
-    let residues = c.leave_out.new.residues in
+    let residues = c.args.residues.now in
     ap length c.take_lanes.ensures.slots
     ∙ lanes_long c.self.inside.right c.args.row (lanes_by residues (c.args.row + c.args.offset)) (length residues)
     ∙ c.self.invariant
@@ -48,8 +44,8 @@ returns c =
     let offset = c.args.offset in
     let left = c.self.inside.left in
     let right = c.self.inside.right in
-    let residues = c.leave_out.new.residues in
-    let n = length c.args.residues.now in
+    let residues = c.args.residues.now in
+    let n = length residues in
     let later = lanes_by residues (row + offset) in
     let earlier = lanes_by residues row in
     let count : length narrow.free.now ≡ windows_of plan.grid.m (series_in plan) = narrow.lists.marks.places in
@@ -57,21 +53,15 @@ returns c =
       left_long = ap (λ (p : Profiled). length p.left) c.self.view_is ∙ c.requires.places.sides.left ∙ count;
       right_long = ap (λ (p : Profiled). length p.right) c.self.view_is ∙ c.requires.places.sides.right ∙ count;
     } in
-    let new_left : lanes_taken left (row + offset) earlier n ≡ c.take_lanes-2.new.self =
-    ap (lanes_taken left (row + offset) earlier) (sym c.leave_out.ensures.places) ∙ sym c.take_lanes-2.ensures.slots in
-    let new_right : lanes_taken right row later n ≡ c.take_lanes.new.self =
-    ap (lanes_taken right row later) (sym c.leave_out.ensures.places) ∙ sym c.take_lanes.ensures.slots in
     subst (λ (p : Profiled). AreTaken plan (is_pair_from offset row (row + n)) (bounded_by plan p)
     (bounded_by plan (both_sides c.take_lanes-2.new.self c.take_lanes.new.self 0))) c.self.view_is
     (subst (λ (l : Column). AreTaken plan (is_pair_from offset row (row + n))
     (bounded_by plan (both_sides left right 0))
-    (bounded_by plan (both_sides l c.take_lanes.new.self 0))) new_left
+    (bounded_by plan (both_sides l c.take_lanes.new.self 0))) (sym c.take_lanes-2.ensures.slots)
     (subst (λ (r : Column). AreTaken plan (is_pair_from offset row (row + n))
     (bounded_by plan (both_sides left right 0))
-    (bounded_by plan (both_sides (lanes_taken left (row + offset) earlier n) r 0))) new_right
+    (bounded_by plan (both_sides (lanes_taken left (row + offset) earlier n) r 0))) (sym c.take_lanes.ensures.slots)
     (block_known plan offset row n left right later earlier c.requires.apart
     (omega (arith, c.requires.within, count)) sides
-    (λ k lt. (left_out_known narrow.plan narrow.free.now c.args.row c.args.offset c.args.residues.now
-    c.leave_out.new.residues
-    narrow.lists.exact narrow.lists.own narrow.lists.marks c.requires.apart c.requires.within c.requires.residues
-    c.leave_out.ensures.places c.leave_out.ensures.residues k lt).1))))
+    (λ k lt. (free_known plan narrow.free.now row offset residues narrow.lists.exact narrow.lists.own narrow.lists.marks
+    c.requires.apart c.requires.within c.requires.free c.requires.residues k lt).1))))

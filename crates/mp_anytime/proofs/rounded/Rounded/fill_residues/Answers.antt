@@ -18,14 +18,14 @@ returns-clause-residues c = λ k lt.
     let fits : FitsSigned w32 c.whole_of.result = search rules in
     let rows = c.of_block-rows in
     let columns = c.of_block-columns in
-    c.add_up.ensures.residues r
+    c.add_up.ensures.residues 32 r
     (to_z-of_z w32 c.whole_of.result fits ∙ c.whole_of.ensures
     ∙ residue_at m m x row (row + 0) (row + offset) (row + 0 + offset) refl (omega arith) (omega arith))
-    (λ q here.
+    (λ q here _.
     step_on m row offset q x own.windows.differences.now own.windows.sums.now _ _ _ _ _ own.lists.windows
     (omega (arith, here, places, c.requires.within, own.lists.all_windows))
     (omega (arith, here, places, c.requires.within, own.lists.all_windows))
     (rows.ensures.differences q (omega (arith, here, places))) (rows.ensures.sums q (omega (arith, here, places)))
     (columns.ensures.differences q (omega (arith, here, places)))
-    (columns.ensures.sums q (omega (arith, here, places))) (c.fill_steps.ensures.steps q (omega (arith, here))))
-    k (omega (arith, lt, c.add_up.ensures.places, c.requires.places))
+    (columns.ensures.sums q (omega (arith, here, places))) (c.fill_steps.ensures.steps q here))
+    k (omega (arith, lt, c.add_up.ensures.places, c.requires.places)) lt

@@ -1,36 +1,27 @@
-use Rattle.std.proofs.Common.{◌+◌, ◌-◌, ◌∙◌, Bool, ap, arith, subst, sym, ℕ}
+use Rattle.std.proofs.Common.{◌≡◌, ◌+◌, ◌-◌, ◌∙◌, Bool, ap, arith, subst, sym, ℕ}
 use Rattle.std.specs.Prelude.{List}
 use Rattle.mp_nums.specs.declared.samples.Sample.{Sample}
 use Rattle.mp_nums.specs.Listed.{Listed}
 use Rattle.mp_defs.specs.Series.{series_of}
 use Rattle.mp_partial.specs.Profiled.{Profiled}
-use Rattle.mp_tiles.specs.Scanning.{HasPlaces as HasEntries, IsScanned}
+use Rattle.mp_tiles.specs.Scanning.{IsScanned}
 use Rattle.mp_anytime.specs.Kept.{AreSums, is_last_pair}
 use Rattle.mp_anytime.specs.Offers.{IsRow}
 use Rattle.mp_anytime.specs.Sums.{HavePlaces, room_of}
 use Rattle.mp_anytime.specs.declared.sums.Sums.{Sums}
-use Rattle.mp_anytime.proofs.RowPairs.{row_is, scanned_places, sums_are}
-use Rattle.mp_anytime.proofs.coverage.Coverage.extend_all.Goals as goal
-use Rattle.mp_anytime.proofs.coverage.Coverage.extend_all.Goals.{After-move_sums, After-offer_last}
+use Rattle.mp_anytime.proofs.RowPairs.{row_of_sums, scanned_places}
+use Rattle.mp_anytime.proofs.coverage.Coverage.extend_close.Goals as goal
+use Rattle.mp_anytime.proofs.coverage.Coverage.extend_close.Goals.{After-move_on, After-offer_last}
 
-pub know_limits-requires-clause-places : goal.know_limits-requires-clause-places
-know_limits-requires-clause-places c =
-    c.requires.waiting.limits_are ∙ sym c.requires.waiting.windows_are.sides.right
+-- the covered diagonals are those of before
+listed_still : (c : After-move_on) → c.as_slice-covered.result.now ≡ c.args.self.now.covered.items
+listed_still c = c.as_slice-covered.ensures ∙ ap (λ (l : Listed ℕ). l.items) c.know_limits.ensures.covered
 
-pub move_sums-requires-clause-some : goal.move_sums-requires-clause-some
-move_sums-requires-clause-some c =
-    let first = c.requires.waiting.diagonals 0 0 (omega (arith, c.requires.some)) in
-    omega (arith, first.0, first.1)
-
-pub move_sums-requires-clause-places : goal.move_sums-requires-clause-places
-move_sums-requires-clause-places c =
-    subst (HavePlaces (c.args.last + 1)) (sym c.know_limits.ensures.sums) c.requires.waiting.places
-
-known_sums : (c : After-move_sums) → AreSums c.args.m (series_of c.args.samples.now.items)
-    c.args.self.now.covered.items (c.args.last - 1) c.know_limits.new.self.sums
-known_sums c =
-    subst (AreSums c.args.m (series_of c.args.samples.now.items) c.args.self.now.covered.items (c.args.last - 1))
-    (sym c.know_limits.ensures.sums) c.requires.waiting.lasts
+moved : (c : After-move_on) → AreSums c.args.m (series_of c.args.samples.now.items) c.args.self.now.covered.items
+    c.args.last c.move_on.new.sums
+moved c =
+    subst (λ (ds : List ℕ). AreSums c.args.m (series_of c.args.samples.now.items) ds c.args.last
+    c.move_on.new.sums) (listed_still c) c.move_on.ensures.sums
 
 pub offer_last-requires-clause-row : goal.offer_last-requires-clause-row
 offer_last-requires-clause-row c =
@@ -40,27 +31,15 @@ offer_last-requires-clause-row c =
     let old = c.args.self.now in
     let now = c.know_limits.new.self in
     let h = c.requires.waiting in
-    let lower = c.move_sums.new.sums.lower.items in
+    let lower = c.move_on.new.sums.lower.items in
     let row : IsRow m items old.covered.items old.waiting lower last =
-    row_is m items old.covered.items old.waiting last now.sums c.move_sums.new.sums
-    (omega (arith, c.requires.shortest)) h.within (omega (arith, h.within, c.requires.few, c.requires.shortest))
-    h.diagonals c.move_sums.ensures.places h.waits
-    (known_sums (goal.at.offer_last-requires-clause-row c).After-move_sums) c.move_sums.ensures.sums in
+    row_of_sums m items old.covered.items old.waiting last c.move_on.new.sums (omega (arith, c.requires.shortest))
+    h.within (omega (arith, h.within, c.requires.few, c.requires.shortest)) c.move_on.ensures.places h.waits
+    (moved (goal.at.offer_last-requires-clause-row c).After-move_on) c.requires.close in
     subst (λ (xs : List Sample). IsRow m xs now.covered.items now.waiting lower last)
-    (sym c.move_sums.ensures.read.items)
+    (sym c.move_on.ensures.read.items)
     (subst (λ (w : List Bool). IsRow m items now.covered.items w lower last) (sym c.know_limits.ensures.waiting)
     (subst (λ (l : Listed ℕ). IsRow m items l.items old.waiting lower last) (sym c.know_limits.ensures.covered) row))
-
-pub offer_last-requires-clause-order : goal.offer_last-requires-clause-order
-offer_last-requires-clause-order c =
-    let first = c.requires.waiting.diagonals 0 0 (omega (arith, c.requires.some)) in
-    omega (arith, first.0, first.1)
-
-pub offer_last-requires-clause-ready : goal.offer_last-requires-clause-ready
-offer_last-requires-clause-ready c = record {
-  places = subst (HasEntries (c.args.last + 1)) (sym c.know_limits.ensures.profile) c.requires.waiting.windows_are;
-  limits = c.know_limits.ensures.limits;
-}
 
 scanned_all : (c : After-offer_last) → IsScanned (is_last_pair c.args.self.now.covered.items c.args.last) c.args.m
     (series_of c.args.samples.now.items) c.args.self.now.profile c.offer_last.new.self.profile
@@ -75,7 +54,7 @@ scanned_all c =
     (subst (λ (p : Profiled). IsScanned (is_last_pair now.covered.items last) m (series_of items) p new)
     c.know_limits.ensures.profile
     (subst (λ (xs : List Sample). IsScanned (is_last_pair now.covered.items last) m (series_of xs) now.profile new)
-    c.move_sums.ensures.read.items c.offer_last.ensures.scanned))
+    c.move_on.ensures.read.items c.offer_last.ensures.scanned))
 
 pub returns-clause-extended : goal.returns-clause-extended
 returns-clause-extended c =
@@ -92,9 +71,8 @@ returns-clause-extended c =
       waiting = c.offer_last.ensures.waiting ∙ c.know_limits.ensures.waiting;
       range = c.offer_last.ensures.range ∙ c.know_limits.ensures.range;
       lasts = subst (AreSums m (series_of items) old.covered.items last) (sym c.offer_last.ensures.sums)
-          (sums_are m items old.covered.items last c.know_limits.new.self.sums c.move_sums.new.sums h.diagonals
-          (known_sums (goal.at.returns-clause-extended c).After-move_sums) c.move_sums.ensures.sums);
-      places = subst (HavePlaces (last + 1)) (sym c.offer_last.ensures.sums) c.move_sums.ensures.places;
+          (moved (goal.at.returns-clause-extended c).After-move_on);
+      places = subst (HavePlaces (last + 1)) (sym c.offer_last.ensures.sums) c.move_on.ensures.places;
       limits_are = c.offer_last.ensures.limits.places ∙ entries.sides.right;
       scanned = scanned;
       limits = λ _. c.offer_last.ensures.limits;
@@ -109,6 +87,6 @@ returns-clause-room c =
       c.offer_last.ensures.spare,
       c.know_limits.ensures.spare,
       ap (λ (s : Sums). room_of s) c.offer_last.ensures.sums,
-      c.move_sums.ensures.room,
+      c.move_on.ensures.room,
       ap (λ (s : Sums). room_of s) c.know_limits.ensures.sums,
     )

@@ -5,7 +5,7 @@ use Rattle.mp_defs.specs.SeriesLaws.{series_are_of_samples}
 use Rattle.mp_anytime.specs.Rounded.{core_in, rounded_in, series_in}
 use Rattle.mp_anytime.specs.Narrow.{wrapped}
 use Rattle.mp_anytime.proofs.NarrowLemmas.{as_residue}
-use Rattle.mp_anytime.proofs.narrow.Narrow.first_core.Goals as goal
+use Rattle.mp_anytime.proofs.narrow.Narrow.core.Goals as goal
 
 pub returns : goal.returns
 returns c =
@@ -16,10 +16,11 @@ returns c =
     let n = length plan.grid.rows.now in
     let count : length own.free.now ≡ windows n m =
     own.lists.marks.places ∙ series_are_of_samples.windows_are m plan.grid.rows.now in
-    let offset = c.args.offset in
+    let row = c.args.row in
+    let column = row + c.args.offset in
     let fits : FitsSigned w32 c.sum_of_squares.result = search rules in
     let core : c.saturating_sub-count.result ≡ m - 31 = omega (arith, c.saturating_sub-count.ensures) in
-    as_residue c.sum_of_squares.result (core_in plan 0 offset) fits
+    as_residue c.sum_of_squares.result (core_in plan row column) fits
     (c.sum_of_squares.ensures n x own.lists.narrow
     (λ k lt. (omega (arith, lt, core, count, c.requires), omega (arith, lt, core, count, c.requires)))
-    ∙ ap (λ q. wrapped (square_sum q x 31 x (offset + 31))) core)
+    ∙ ap (λ q. wrapped (square_sum q x (row + 31) x (column + 31))) core)
